@@ -1,0 +1,79 @@
+//! Calls: what a client submits at once.
+ghost use Rattle.std.specs.Prelude.{◌≡◌, length, false, true, IfOk, IsErrOf, ◌↔◌, ◌≤◌};
+
+use crate::memory::{NoMemory, TryCopy};
+use crate::statement::Statements;
+use crate::text::{Name, Text};
+use crate::value::Value;
+use std::alloc::Global;
+use thiserror::Error;
+
+/// Data statements and then a commit or not, or one command that stands alone. A work call has at
+/// least one statement or the commit, and at most eight with the commit counted: `Call::work` makes
+/// no other, and each function that takes a call requires it.
+#[derive(PartialEq, Eq, Drop)]
+pub enum Call {
+    /// A call without statements is a lone commit.
+    Work {
+        statements: Statements,
+        commit: bool,
+    },
+    /// Changes a setting of the session.
+    Set {
+        name: Name,
+        value: Value,
+    },
+    /// Stores a line for whoever watches the service.
+    Alter {
+        line: Text,
+    },
+    /// Asks that this request is not replayed from here on.
+    Disable,
+    Rollback,
+}
+
+/// Why there is no such work call.
+#[derive(Clone, Copy, Debug, PartialEq, Eq, Error)]
+pub enum CallFault {
+    #[error("neither a statement nor a commit")]
+    Empty,
+    #[error("more than eight statements, the commit counted")]
+    TooMany,
+}
+
+impl Call {
+    /// A work call. It takes no memory.
+    pub fn work(statements: Statements, commit: bool) -> Result<Call, CallFault>
+        ensures made { IfOk result (λ call. call ≡ Call.Work statements commit) }
+        ensures empty { IsErrOf result CallFault.Empty ↔ (length statements ≡ 0) × (commit ≡ false) }
+        ensures many { IsErrOf result CallFault.TooMany ↔ (8 ≤ length statements) × (commit ≡ true) }
+    {
+        if statements.is_empty() && !commit {
+            return Err(CallFault::Empty);
+        }
+        if statements.len() >= 8 && commit {
+            return Err(CallFault::TooMany);
+        }
+        Ok(Call::Work { statements, commit })
+    }
+}
+
+impl TryCopy for Call {
+    fn copy(&self, alloc: Global) -> Result<Call, NoMemory> {
+        match self {
+            Call::Work { statements, commit } => Ok(Call::Work {
+                statements: statements.copy(alloc)?,
+                commit: *commit,
+            }),
+            Call::Set { name, value } => Ok(Call::Set {
+                name: name.copy(alloc)?,
+                value: value.copy(alloc)?,
+            }),
+            Call::Alter { line } => Ok(Call::Alter {
+                line: line.copy(alloc)?,
+            }),
+            Call::Disable => Ok(Call::Disable),
+            Call::Rollback => Ok(Call::Rollback),
+        }
+    }
+}

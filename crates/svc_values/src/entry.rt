@@ -1,0 +1,96 @@
+//! What the journal keeps of a transaction that committed.
+
+use crate::answer::Answers;
+use crate::call::Call;
+use crate::draw::Draws;
+use crate::list::Listed;
+use crate::memory::{NoMemory, TryCopy};
+use crate::settings::Settings;
+use crate::text::Name;
+use crate::value::{Row, Value};
+use std::alloc::Global;
+
+/// A logical transaction identifier: the opening of the store, the session of that opening, and the
+/// number of the session's commits before this transaction. Each function that takes one requires
+/// that its three parts are at most 2^63.
+#[derive(Clone, Copy, Debug, PartialEq, Eq)]
+pub struct Ltxid {
+    pub incarnation: u64,
+    pub session: u64,
+    pub number: u64,
+}
+
+/// A call with its answers and the values that it drew.
+#[derive(PartialEq, Eq, Drop)]
+pub struct Piece {
+    pub call: Call,
+    pub answers: Answers,
+    pub draws: Draws,
+}
+
+/// The calls of one transaction, in order.
+pub type Pieces = Listed<Piece>;
+
+/// A row put in the place of the one with this key, if any, or with `None` taken away.
+#[derive(PartialEq, Eq, Drop)]
+pub struct Write {
+    pub table: Name,
+    pub key: Value,
+    pub row: Option<Row>,
+}
+
+/// Writes in the order in which they were made.
+pub type Writes = Listed<Write>;
+
+/// A committed transaction. `completed` tells that the committing call had no statements, and
+/// `settings` are those of the session before the first piece.
+#[derive(PartialEq, Eq, Drop)]
+pub struct Entry {
+    pub ltxid: Ltxid,
+    pub completed: bool,
+    pub settings: Settings,
+    pub pieces: Pieces,
+    pub writes: Writes,
+}
+
+impl TryCopy for Ltxid {
+    fn copy(&self, _alloc: Global) -> Result<Ltxid, NoMemory> {
+        Ok(*self)
+    }
+}
+
+impl TryCopy for Piece {
+    fn copy(&self, alloc: Global) -> Result<Piece, NoMemory> {
+        Ok(Piece {
+            call: self.call.copy(alloc)?,
+            answers: self.answers.copy(alloc)?,
+            draws: self.draws.copy(alloc)?,
+        })
+    }
+}
+
+impl TryCopy for Write {
+    fn copy(&self, alloc: Global) -> Result<Write, NoMemory> {
+        let row = match &self.row {
+            None => None,
+            Some(row) => Some(row.copy(alloc)?),
+        };
+        Ok(Write {
+            table: self.table.copy(alloc)?,
+            key: self.key.copy(alloc)?,
+            row,
+        })
+    }
+}
+
+impl TryCopy for Entry {
+    fn copy(&self, alloc: Global) -> Result<Entry, NoMemory> {
+        Ok(Entry {
+            ltxid: self.ltxid,
+            completed: self.completed,
+            settings: self.settings.copy(alloc)?,
+            pieces: self.pieces.copy(alloc)?,
+            writes: self.writes.copy(alloc)?,
+        })
+    }
+}

@@ -1,0 +1,29 @@
+//! The values of the service: names, texts, rows, statements, calls, answers, entries and frames.
+#![tactic(auto)]
+
+mod answer;
+mod call;
+mod compared;
+mod draw;
+mod entry;
+mod frame;
+mod list;
+mod memory;
+mod schema;
+mod settings;
+mod statement;
+mod text;
+mod value;
+
+pub use answer::{Answer, Answers, Rows, StatementFault};
+pub use call::{Call, CallFault};
+pub use draw::{Draw, DrawKind, Draws};
+pub use entry::{Entry, Ltxid, Piece, Pieces, Write, Writes};
+pub use frame::{Ahead, Down, Up};
+pub use list::{Limited, ListFault, Listed};
+pub use memory::{NoMemory, TryCopy};
+pub use schema::{Column, Columns, Names, Schema, SchemaFault, Schemas, Shape};
+pub use settings::Settings;
+pub use statement::{Change, Operand, Operands, Statement, Statements, Test};
+pub use text::{Name, NameFault, Octets, Text, TextFault};
+pub use value::{Kind, Row, Value};

@@ -1,0 +1,146 @@
+//! Statements and their operands.
+
+use crate::draw::DrawKind;
+use crate::list::Limited;
+use crate::memory::{NoMemory, TryCopy};
+use crate::text::Name;
+use crate::value::Value;
+use std::alloc::Global;
+
+/// A literal, a setting of the session, or a draw.
+#[derive(PartialEq, Eq, Drop)]
+pub enum Operand {
+    Lit(Value),
+    Var(Name),
+    Draw(DrawKind),
+}
+
+/// At most eight operands: one for each column of a row.
+pub type Operands = Limited<Operand, 8>;
+
+/// What an update does to a column: a new value, or a number added to an integer.
+#[derive(PartialEq, Eq, Drop)]
+pub enum Change {
+    To(Operand),
+    Plus(Operand),
+}
+
+/// How a select compares a column with its operand: equal, less, or not less.
+#[derive(Clone, Copy, Debug, PartialEq, Eq)]
+pub enum Test {
+    Eq,
+    Lt,
+    Ge,
+}
+
+/// A data statement.
+#[derive(PartialEq, Eq, Drop)]
+pub enum Statement {
+    Insert {
+        table: Name,
+        values: Operands,
+    },
+    Update {
+        table: Name,
+        key: Operand,
+        column: Name,
+        change: Change,
+    },
+    Delete {
+        table: Name,
+        key: Operand,
+    },
+    Get {
+        table: Name,
+        key: Operand,
+    },
+    Select {
+        table: Name,
+        column: Name,
+        test: Test,
+        operand: Operand,
+    },
+    Count {
+        table: Name,
+    },
+    Sum {
+        table: Name,
+        column: Name,
+    },
+    Show {
+        operand: Operand,
+    },
+}
+
+/// The statements of one call: at most eight.
+pub type Statements = Limited<Statement, 8>;
+
+impl TryCopy for Operand {
+    fn copy(&self, alloc: Global) -> Result<Operand, NoMemory> {
+        match self {
+            Operand::Lit(value) => Ok(Operand::Lit(value.copy(alloc)?)),
+            Operand::Var(name) => Ok(Operand::Var(name.copy(alloc)?)),
+            Operand::Draw(kind) => Ok(Operand::Draw(kind.copy(alloc)?)),
+        }
+    }
+}
+
+impl TryCopy for Change {
+    fn copy(&self, alloc: Global) -> Result<Change, NoMemory> {
+        match self {
+            Change::To(operand) => Ok(Change::To(operand.copy(alloc)?)),
+            Change::Plus(operand) => Ok(Change::Plus(operand.copy(alloc)?)),
+        }
+    }
+}
+
+impl TryCopy for Statement {
+    fn copy(&self, alloc: Global) -> Result<Statement, NoMemory> {
+        match self {
+            Statement::Insert { table, values } => Ok(Statement::Insert {
+                table: table.copy(alloc)?,
+                values: values.copy(alloc)?,
+            }),
+            Statement::Update {
+                table,
+                key,
+                column,
+                change,
+            } => Ok(Statement::Update {
+                table: table.copy(alloc)?,
+                key: key.copy(alloc)?,
+                column: column.copy(alloc)?,
+                change: change.copy(alloc)?,
+            }),
+            Statement::Delete { table, key } => Ok(Statement::Delete {
+                table: table.copy(alloc)?,
+                key: key.copy(alloc)?,
+            }),
+            Statement::Get { table, key } => Ok(Statement::Get {
+                table: table.copy(alloc)?,
+                key: key.copy(alloc)?,
+            }),
+            Statement::Select {
+                table,
+                column,
+                test,
+                operand,
+            } => Ok(Statement::Select {
+                table: table.copy(alloc)?,
+                column: column.copy(alloc)?,
+                test: *test,
+                operand: operand.copy(alloc)?,
+            }),
+            Statement::Count { table } => Ok(Statement::Count {
+                table: table.copy(alloc)?,
+            }),
+            Statement::Sum { table, column } => Ok(Statement::Sum {
+                table: table.copy(alloc)?,
+                column: column.copy(alloc)?,
+            }),
+            Statement::Show { operand } => Ok(Statement::Show {
+                operand: operand.copy(alloc)?,
+            }),
+        }
+    }
+}
