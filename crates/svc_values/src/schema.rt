@@ -5,7 +5,7 @@ ghost use Rattle.svc_values.specs.Kinds.{row_fits, are_distinct, names_of};
 use crate::list::Limited;
 use crate::memory::{NoMemory, TryCopy};
 use crate::text::Name;
-use crate::value::{Kind, Row};
+use crate::value::{Kind, Row, Value};
 use std::alloc::Global;
 use thiserror::Error;
 
@@ -46,6 +46,55 @@ pub enum SchemaFault {
     Empty,
     #[error("two columns of one name")]
     SameName,
+}
+
+/// Whether no column has the name of an earlier one. Quadratic in the columns, which are at most eight.
+fn have_distinct_names(columns: &[Column]) -> bool
+    ensures { result ≡ are_distinct (names_of columns.now) }
+{
+    match columns {
+        [] => true,
+        [first, rest @ ..] => {
+            !rest.iter().any(|column| column.name == first.name) && have_distinct_names(rest)
+        }
+    }
+}
+
+/// Whether there is one value for each column, of its kind.
+fn values_fit(columns: &[Column], values: &[Value]) -> bool
+    ensures { result ≡ row_fits columns.now values.now }
+{
+    match columns {
+        [] => values.is_empty(),
+        [column, columns @ ..] => match values {
+            [] => false,
+            [value, values @ ..] => { column.kind == value.kind() && values_fit(columns, values) }
+        },
+    }
+}
+
+impl Schema {
+    /// A table's declaration. It takes no memory.
+    pub fn new(name: Name, columns: Columns) -> Result<Schema, SchemaFault>
+        ensures made { IfOk result (λ schema. schema ≡ record { name = name; columns = columns }) }
+        ensures empty { IsErrOf result SchemaFault.Empty ↔ (columns ≡ []) }
+        ensures same_name { IsErrOf result SchemaFault.SameName ↔ (are_distinct (names_of columns) ≡ false) }
+    {
+        if columns.is_empty() {
+            return Err(SchemaFault::Empty);
+        }
+        if !have_distinct_names(columns.as_slice()) {
+            return Err(SchemaFault::SameName);
+        }
+        Ok(Schema { name, columns })
+    }
+
+    /// Whether the row has one value for each column, of the column's kind.
+    pub fn fits(&self, row: &Row) -> bool
+        ensures { result ≡ row_fits self.now.columns row.now }
+    {
+        values_fit(self.columns.as_slice(), row.as_slice())
+    }
 }
 
 impl TryCopy for Column {
