@@ -2,4 +2,4 @@ use Rattle.std.proofs.Common.{length}
 use Rattle.svc_values.proofs.schema.+values_fit.Given as goal
 
 abbrev pub decreases-values_fit : goal.decreases-values_fit
-decreases-values_fit l = length l.columns
+decreases-values_fit l = length l.columns.now
