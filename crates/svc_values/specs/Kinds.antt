@@ -1,5 +1,5 @@
 -- Kinds of values, rows that fit columns, and names that stand once.
-use Rattle.std.specs.Prelude.{ℕ, Bool, true, false, ◌&&◌, not, List, [], ◌∷◌, map}
+use Rattle.std.specs.Prelude.{ℕ, Bool, true, false, ◌&&◌, not, List, [], ◌∷◌}
 use Rattle.std.specs.Str.{bytes_eq}
 use Rattle.std.specs.List.{list_any}
 use Rattle.svc_values.specs.declared.value.Kind.{Kind}
@@ -25,10 +25,10 @@ row_fits [] [] = true
 row_fits (column ∷ columns) (value ∷ values) = same_kind column.kind (kind_of value) && row_fits columns values
 row_fits _ _ = false
 
--- no name stands twice
-abbrev pub are_distinct : List (List ℕ) → Bool
-are_distinct [] = true
-are_distinct (name ∷ names) = not (list_any (bytes_eq name) names) && are_distinct names
+abbrev pub has_column : List Column → List ℕ → Bool
+has_column columns name = list_any (λ column. bytes_eq column.name name) columns
 
-abbrev pub names_of : List Column → List (List ℕ)
-names_of columns = map (λ column. column.name) columns
+-- no name stands twice
+abbrev pub have_distinct_names : List Column → Bool
+have_distinct_names [] = true
+have_distinct_names (column ∷ columns) = not (has_column columns column.name) && have_distinct_names columns

@@ -1,6 +1,6 @@
 //! Tables as they are declared.
 ghost use Rattle.std.specs.Prelude.{◌≡◌, [], IfOk, IsErrOf, ◌↔◌, true, false};
-ghost use Rattle.svc_values.specs.Kinds.{row_fits, are_distinct, names_of};
+ghost use Rattle.svc_values.specs.Kinds.{row_fits, has_column as has_column_lem, have_distinct_names};
 
 use crate::list::Limited;
 use crate::memory::{NoMemory, TryCopy};
@@ -48,15 +48,20 @@ pub enum SchemaFault {
     SameName,
 }
 
-/// Whether no column has the name of an earlier one. Quadratic in the columns, which are at most eight.
-fn have_distinct_names(columns: &[Column]) -> bool
-    ensures { result ≡ are_distinct (names_of columns.now) }
+/// Whether a column has this name.
+fn has_column(columns: &[Column], name: &Name) -> bool
+    ensures { result ≡ has_column_lem columns.now name.now }
+{
+    columns.iter().any(|column| column.name == *name)
+}
+
+/// Whether no two columns have one name. Quadratic in the columns, which are at most eight.
+fn are_distinct(columns: &[Column]) -> bool
+    ensures { result ≡ have_distinct_names columns.now }
 {
     match columns {
         [] => true,
-        [first, rest @ ..] => {
-            !rest.iter().any(|column| column.name == first.name) && have_distinct_names(rest)
-        }
+        [first, rest @ ..] => !has_column(rest, &first.name) && are_distinct(rest),
     }
 }
 
@@ -78,12 +83,12 @@ impl Schema {
     pub fn new(name: Name, columns: Columns) -> Result<Schema, SchemaFault>
         ensures made { IfOk result (λ schema. schema ≡ record { name = name; columns = columns }) }
         ensures empty { IsErrOf result SchemaFault.Empty ↔ (columns ≡ []) }
-        ensures same_name { IsErrOf result SchemaFault.SameName ↔ (are_distinct (names_of columns) ≡ false) }
+        ensures same_name { IsErrOf result SchemaFault.SameName ↔ (have_distinct_names columns ≡ false) }
     {
         if columns.is_empty() {
             return Err(SchemaFault::Empty);
         }
-        if !have_distinct_names(columns.as_slice()) {
+        if !are_distinct(columns.as_slice()) {
             return Err(SchemaFault::SameName);
         }
         Ok(Schema { name, columns })
