@@ -1,0 +1,10 @@
+use Rattle.std.proofs.Common.{arith}
+use Rattle.continuity_run.proofs.Moves.{Appends-more, front_within}
+use Rattle.continuity_run.proofs.whole.write_whole.Goals as goal
+
+pub pieces-preserved : goal.pieces-preserved
+pieces-preserved g c = record {
+  written = Appends-more _ _ _ c.args.text.now c.pieces.done c.in_ok-count.count c.pieces.invariant.written c.in_ok-count.ensures.bytes;
+  later = omega (arith, c.in_ok-count.ensures.cause.later, c.pieces.invariant.later);
+  within = front_within c.args.text.now c.pieces.done c.in_ok-count.count c.pieces.invariant.within c.in_ok-count.ensures.bound;
+}

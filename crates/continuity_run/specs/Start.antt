@@ -1,0 +1,28 @@
+-- What a run begins with: the tables and rows of its document.
+use Rattle.std.specs.Prelude.{ℕ, List, [], ◌∷◌, map}
+use Rattle.std.specs.List.{flat_map}
+use Rattle.svc_values.specs.declared.value.Value.{Value}
+use Rattle.svc_values.specs.declared.schema.Schema.{Schema}
+use Rattle.svc_values.specs.declared.schema.Shape.{Shape}
+use Rattle.stmt_meaning.specs.declared.tables.PlainRow.{PlainRow}
+use Rattle.stmt_meaning.specs.Tables.{in_order}
+use Rattle.stmt_meaning.specs.Effects.{key_of}
+use Rattle.continuity_run.specs.declared.document.DocTable.{DocTable}
+use Rattle.continuity_run.specs.declared.document.Document.{Document}
+
+abbrev pub schema_in : DocTable → Schema
+schema_in table = record { name = table.name; columns = table.columns }
+
+-- no document of this form has sequences
+abbrev pub shape_of : Document → Shape
+shape_of document = record { schemas = map schema_in document.tables; sequences = [] }
+
+abbrev pub plain_row : List ℕ → List Value → PlainRow
+plain_row table row = record { table = table; key = key_of row; row = row }
+
+abbrev pub rows_of_table : DocTable → List PlainRow
+rows_of_table table = map (plain_row table.name) table.rows
+
+-- the rows of all tables, in the order of table and key
+abbrev pub start_of : Document → List PlainRow
+start_of document = in_order (flat_map rows_of_table document.tables)

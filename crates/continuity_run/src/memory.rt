@@ -1,0 +1,125 @@
+//! A source and a sink in memory, whose calls can be made to fail.
+ghost use Rattle.std.specs.Prelude.{◌≡◌, ◌<◌, ◌≤◌, List, ℕ, Some, [], length, drop, vec_len};
+
+use crate::outside::{Failed, Sink, Source};
+use std::alloc::Global;
+
+/// Bytes in memory, given in order. Its count of faults begins at 0.
+#[derive(Drop)]
+pub struct MemSource {
+    bytes: Vec<u8>,
+    at: usize,
+    fail: Vec<u64>,
+    most: usize,
+    calls: u64,
+    faults: u64,
+    ghost within: { at ≤ vec_len bytes },
+    ghost some: { 0 < most },
+}
+
+impl MemSource {
+    ghost use Rattle.continuity_run.specs.Memory.{left_in, read_faults};
+
+    /// `fail` lists the calls, numbered from 1, that are to fail; `most` is the greatest number of
+    /// bytes for a call.
+    pub fn new(bytes: Vec<u8>, fail: Vec<u64>, most: usize) -> MemSource
+        requires { 0 < most }
+        ensures left { left_in result ≡ bytes.items }
+        ensures faults { read_faults result ≡ 0 }
+    {
+        MemSource {
+            bytes,
+            at: 0,
+            fail,
+            most,
+            calls: 0,
+            faults: 0,
+        }
+    }
+}
+
+impl Source for MemSource {
+    ghost use Rattle.continuity_run.specs.Memory.{left_in, read_faults};
+
+    ghost left = { λ s. Some (left_in s) };
+
+    ghost faults = { read_faults };
+
+    fn read(&mut self, into: &mut [u8]) -> Result<usize, Failed> {
+        self.calls = self.calls.saturating_add(1);
+        if self.fail.contains(&self.calls) {
+            self.faults = self.faults.saturating_add(1);
+            return Err(Failed);
+        }
+        let count = into.len().min(self.most).min(self.bytes.len() - self.at);
+        into[..count].copy_from_slice(&self.bytes[self.at..self.at + count]);
+        self.at += count;
+        Ok(count)
+    }
+}
+
+/// Bytes kept in memory. Its count of faults begins at 0.
+#[derive(Drop)]
+pub struct MemSink {
+    bytes: Vec<u8>,
+    fail: Vec<u64>,
+    nothing: Vec<u64>,
+    most: usize,
+    calls: u64,
+    faults: u64,
+    ghost some: { 0 < most },
+}
+
+impl MemSink {
+    ghost use Rattle.continuity_run.specs.Memory.{held_in, write_faults};
+
+    /// `fail` lists the calls, numbered from 1, that are to fail, and `nothing` those that are to take
+    /// nothing; `most` is the greatest number of bytes for a call.
+    pub fn new(alloc: Global, fail: Vec<u64>, nothing: Vec<u64>, most: usize) -> MemSink
+        requires { 0 < most }
+        ensures held { held_in result ≡ [] }
+        ensures faults { write_faults result ≡ 0 }
+    {
+        MemSink {
+            bytes: Vec::new(alloc),
+            fail,
+            nothing,
+            most,
+            calls: 0,
+            faults: 0,
+        }
+    }
+
+    /// The bytes held.
+    pub fn bytes(&self) -> &[u8]
+        ensures { result.now ≡ held_in self.now }
+    {
+        self.bytes.as_slice()
+    }
+}
+
+impl Sink for MemSink {
+    ghost use Rattle.continuity_run.specs.Memory.{held_in, write_faults};
+
+    ghost held = { λ s. Some (held_in s) };
+
+    ghost faults = { write_faults };
+
+    fn write(&mut self, piece: &[u8]) -> Result<usize, Failed> {
+        self.calls = self.calls.saturating_add(1);
+        if self.fail.contains(&self.calls) {
+            self.faults = self.faults.saturating_add(1);
+            return Err(Failed);
+        }
+        if self.nothing.contains(&self.calls) {
+            self.faults = self.faults.saturating_add(1);
+            return Ok(0);
+        }
+        let count = piece.len().min(self.most);
+        if self.bytes.extend_from_slice(&piece[..count]).is_err() {
+            self.faults = self.faults.saturating_add(1);
+            return Err(Failed);
+        }
+        Ok(count)
+    }
+}
