@@ -44,7 +44,7 @@ pub type Writes = Listed<Write>;
 
 /// A committed transaction. `completed` tells that the committing call had no statements, and
 /// `settings` are those of the session before the first piece.
-#[derive(Drop)]
+#[derive(PartialEq, Eq, Drop)]
 pub struct Entry {
     pub ltxid: Ltxid,
     pub completed: bool,
@@ -79,6 +79,18 @@ impl TryCopy for Write {
             table: self.table.copy(alloc)?,
             key: self.key.copy(alloc)?,
             row,
+        })
+    }
+}
+
+impl TryCopy for Entry {
+    fn copy(&self, alloc: Global) -> Result<Entry, NoMemory> {
+        Ok(Entry {
+            ltxid: self.ltxid,
+            completed: self.completed,
+            settings: self.settings.copy(alloc)?,
+            pieces: self.pieces.copy(alloc)?,
+            writes: self.writes.copy(alloc)?,
         })
     }
 }

@@ -1,0 +1,2 @@
+pub mod SettingsOrder
+pub mod ValueOrder
