@@ -1,4 +1,6 @@
 //! What the journal keeps of a transaction that committed.
+ghost use Rattle.std.specs.Prelude.{◌≡◌, ◌↔◌, IsTrue};
+ghost use Rattle.svc_values.specs.Identifiers.{IsLtxid, is_ltxid};
 
 use crate::answer::Answers;
 use crate::call::Call;
@@ -51,6 +53,17 @@ pub struct Entry {
     pub settings: Settings,
     pub pieces: Pieces,
     pub writes: Writes,
+}
+
+impl Ltxid {
+    /// Whether its three parts are at most 2^63.
+    pub fn is_ltxid(&self) -> bool
+        ensures test { result ≡ is_ltxid self.now }
+        ensures within { IsTrue result ↔ IsLtxid self.now }
+    {
+        let limit = 1 << 63;
+        self.incarnation <= limit && self.session <= limit && self.number <= limit
+    }
 }
 
 impl TryCopy for Ltxid {
