@@ -1,5 +1,5 @@
 -- When two values are the same one.
-use Rattle.std.specs.Prelude.{ℕ, Bool, false, List, nat_eq}
+use Rattle.std.specs.Prelude.{Bool, false, nat_eq}
 use Rattle.std.specs.Ordering.{int_eq}
 use Rattle.std.specs.Cmp.Lexicographic.{pointwise}
 use Rattle.svc_values.specs.declared.value.Value.{Value}

@@ -1,5 +1,6 @@
 //! Calls: what a client submits at once.
 ghost use Rattle.std.specs.Prelude.{◌≡◌, length, false, true, IfOk, IsErrOf, ◌↔◌, ◌≤◌};
+ghost use Rattle.svc_values.specs.Calls.{has_commit, is_lone_commit, is_made, IsMade};
 
 use crate::memory::{NoMemory, TryCopy};
 use crate::statement::Statements;
@@ -47,6 +48,7 @@ impl Call {
         ensures made { IfOk result (λ call. call ≡ Call.Work statements commit) }
         ensures empty { IsErrOf result CallFault.Empty ↔ (length statements ≡ 0) × (commit ≡ false) }
         ensures many { IsErrOf result CallFault.TooMany ↔ (8 ≤ length statements) × (commit ≡ true) }
+        ensures is_made { IfOk result IsMade }
     {
         if statements.is_empty() && !commit {
             return Err(CallFault::Empty);
@@ -55,6 +57,36 @@ impl Call {
             return Err(CallFault::TooMany);
         }
         Ok(Call::Work { statements, commit })
+    }
+
+    /// Whether it is a call that `Call::work` makes, or no work call.
+    pub fn is_made(&self) -> bool
+        ensures { result ≡ is_made self.now }
+    {
+        match self {
+            Call::Work { statements, commit } => {
+                let length = statements.len() + usize::from(*commit);
+                1 <= length && length <= 8
+            }
+            _ => true,
+        }
+    }
+
+    /// Whether it ends with a commit.
+    pub fn has_commit(&self) -> bool
+        ensures { result ≡ has_commit self.now }
+    {
+        matches!(self, Call::Work { commit: true, .. })
+    }
+
+    /// Whether it is a commit without a statement before it.
+    pub fn is_lone_commit(&self) -> bool
+        ensures { result ≡ is_lone_commit self.now }
+    {
+        match self {
+            Call::Work { statements, commit } => *commit && statements.is_empty(),
+            _ => false,
+        }
     }
 }
 

@@ -1,4 +1,6 @@
 //! What the journal keeps of a transaction that committed.
+ghost use Rattle.std.specs.Prelude.{◌≡◌, ◌↔◌, IsTrue};
+ghost use Rattle.svc_values.specs.Identifiers.{IsLtxid, is_ltxid};
 
 use crate::answer::Answers;
 use crate::call::Call;
@@ -44,13 +46,24 @@ pub type Writes = Listed<Write>;
 
 /// A committed transaction. `completed` tells that the committing call had no statements, and
 /// `settings` are those of the session before the first piece.
-#[derive(Drop)]
+#[derive(PartialEq, Eq, Drop)]
 pub struct Entry {
     pub ltxid: Ltxid,
     pub completed: bool,
     pub settings: Settings,
     pub pieces: Pieces,
     pub writes: Writes,
+}
+
+impl Ltxid {
+    /// Whether its three parts are at most 2^63.
+    pub fn is_ltxid(&self) -> bool
+        ensures test { result ≡ is_ltxid self.now }
+        ensures within { IsTrue result ↔ IsLtxid self.now }
+    {
+        let limit = 1 << 63;
+        self.incarnation <= limit && self.session <= limit && self.number <= limit
+    }
 }
 
 impl TryCopy for Ltxid {
@@ -79,6 +92,18 @@ impl TryCopy for Write {
             table: self.table.copy(alloc)?,
             key: self.key.copy(alloc)?,
             row,
+        })
+    }
+}
+
+impl TryCopy for Entry {
+    fn copy(&self, alloc: Global) -> Result<Entry, NoMemory> {
+        Ok(Entry {
+            ltxid: self.ltxid,
+            completed: self.completed,
+            settings: self.settings.copy(alloc)?,
+            pieces: self.pieces.copy(alloc)?,
+            writes: self.writes.copy(alloc)?,
         })
     }
 }

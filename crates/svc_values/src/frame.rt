@@ -9,7 +9,7 @@ use crate::settings::Settings;
 use std::alloc::Global;
 
 /// A frame to the server. `Call` carries the replay mark and the draws that are to be kept.
-#[derive(Drop)]
+#[derive(PartialEq, Eq, Drop)]
 pub enum Up {
     Connect,
     Begin {
@@ -59,6 +59,25 @@ pub enum Down {
     Refused {
         cause: u8,
     },
+}
+
+impl TryCopy for Up {
+    fn copy(&self, alloc: Global) -> Result<Up, NoMemory> {
+        match self {
+            Up::Connect => Ok(Up::Connect),
+            Up::Begin { settings } => Ok(Up::Begin {
+                settings: settings.copy(alloc)?,
+            }),
+            Up::Call { replay, kept, call } => Ok(Up::Call {
+                replay: *replay,
+                kept: kept.copy(alloc)?,
+                call: call.copy(alloc)?,
+            }),
+            Up::Outcome { ltxid } => Ok(Up::Outcome { ltxid: *ltxid }),
+            Up::End => Ok(Up::End),
+            Up::Close => Ok(Up::Close),
+        }
+    }
 }
 
 impl TryCopy for Down {

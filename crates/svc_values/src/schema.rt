@@ -1,6 +1,7 @@
 //! Tables as they are declared.
 ghost use Rattle.std.specs.Prelude.{◌≡◌, [], IfOk, IsErrOf, ◌↔◌, true, false};
 ghost use Rattle.svc_values.specs.Kinds.{row_fits, has_column as has_column_lem, have_distinct_names};
+ghost use Rattle.svc_values.specs.Schemas.{IsDeclared};
 
 use crate::list::Limited;
 use crate::memory::{NoMemory, TryCopy};
@@ -84,6 +85,7 @@ impl Schema {
         ensures made { IfOk result (λ schema. schema ≡ record { name = name; columns = columns }) }
         ensures empty { IsErrOf result SchemaFault.Empty ↔ (columns ≡ []) }
         ensures same_name { IsErrOf result SchemaFault.SameName ↔ (have_distinct_names columns ≡ false) }
+        ensures declared { IfOk result IsDeclared }
     {
         if columns.is_empty() {
             return Err(SchemaFault::Empty);
