@@ -4,10 +4,12 @@ use Rattle.std.specs.Prelude.{◌≡◌, ℕ, ◌+◌, List, [], ◌∷◌, ◌+
 use Rattle.svc_values.specs.declared.value.Value.{Value}
 use Rattle.svc_values.specs.declared.schema.Shape.{Shape}
 use Rattle.svc_values.specs.declared.call.Call.{Call}
+use Rattle.svc_values.specs.declared.call.Call.TheVariants.{Set}
 use Rattle.svc_values.specs.declared.entry.Piece.{Piece}
 use Rattle.svc_values.specs.declared.entry.Entry.{Entry}
 use Rattle.svc_values.specs.Calls.{is_lone_commit}
 use Rattle.svc_values.specs.Endings.{ends_committed}
+use Rattle.svc_values.specs.SettingsList.{put_setting}
 use Rattle.stmt_meaning.specs.declared.tables.PlainRow.{PlainRow}
 use Rattle.stmt_meaning.specs.declared.tables.Place.TheVariants as place
 use Rattle.stmt_meaning.specs.Tables.{rows_at}
@@ -35,21 +37,28 @@ ShownInTurn shape tables settings (call ∷ calls) (one ∷ more) =
 abbrev pub shown_piece : Call → ShownCall → Piece
 shown_piece call one = record { call = call; answers = one.answers; draws = one.draws }
 
+-- the settings after a call: a `set` changes one
+abbrev pub settings_after : List (List ℕ × Value) → Call → List (List ℕ × Value)
+settings_after settings (Set name x) = put_setting settings name x
+settings_after settings _ = settings
+
 -- The first of the entries is that of the transaction which this call ends, and the rest are those of the later ones.
-abbrev pub HasEntry : ℕ → List Piece → Call → ShownCall → List Entry → (List Entry → Type 0) → Type 0
-HasEntry commits taken call one [] Rest = ⊥
-HasEntry commits taken call one (entry ∷ entries) Rest =
-    (entry.ltxid ≡ identifier commits) × ((entry.pieces ≡ taken ++ shown_piece call one ∷ []) × ((entry.completed ≡ is_lone_commit call) × ((entry.settings ≡ []) × ((one.ltxid ≡ identifier (commits + 1)) × Rest entries))))
+-- `began` are the settings before the transaction's first call, and `taken` its calls before this one.
+abbrev pub HasEntry : ℕ → List (List ℕ × Value) → List Piece → Call → ShownCall → List Entry → (List Entry → Type 0) → Type 0
+HasEntry commits began taken call one [] Rest = ⊥
+HasEntry commits began taken call one (entry ∷ entries) Rest =
+    (entry.ltxid ≡ identifier commits) × ((entry.completed ≡ is_lone_commit call) × ((entry.settings ≡ began) × ((entry.pieces ≡ taken ++ shown_piece call one ∷ []) × ((one.ltxid ≡ identifier (commits + 1)) × Rest entries))))
 
 -- Each transaction that was shown committed has its entry, with its calls, the answers that were shown and the identifier
--- before that of its last call; and there is no other entry. `taken` are the calls of the transaction so far.
-abbrev pub OneEntryEach : ℕ → List Piece → List Call → List ShownCall → List Entry → Type 0
-OneEntryEach commits taken [] shown entries = entries ≡ []
-OneEntryEach commits taken (call ∷ calls) [] entries = ⊥
-OneEntryEach commits taken (call ∷ calls) (one ∷ more) entries =
+-- that the client held before its last call; and there is no other entry.
+abbrev pub OneEntryEach : ℕ → List (List ℕ × Value) → List (List ℕ × Value) → List Piece → List Call → List ShownCall → List Entry → Type 0
+OneEntryEach commits began settings taken [] shown entries = entries ≡ []
+OneEntryEach commits began settings taken (call ∷ calls) [] entries = ⊥
+OneEntryEach commits began settings taken (call ∷ calls) (one ∷ more) entries =
+    let after = settings_after settings call in
     MatchBool (ends_committed one.answers)
-    (HasEntry commits taken call one entries (λ later. OneEntryEach (commits + 1) [] calls more later))
-    ((one.ltxid ≡ identifier commits) × OneEntryEach commits (taken ++ shown_piece call one ∷ []) calls more entries)
+    (HasEntry commits began taken call one entries (λ later. OneEntryEach (commits + 1) after after [] calls more later))
+    ((one.ltxid ≡ identifier commits) × OneEntryEach commits began after (taken ++ shown_piece call one ∷ []) calls more entries)
 
 -- the calls of the only request of the only client, if there is one
 abbrev pub calls_of_requests : List Request → List Call
@@ -83,4 +92,4 @@ pub record Headline (document : Document) (report : Report) : Type 0 where
   pub clients : report.clients ≡ transcripts_of document.clients shown
   pub in_turn : ShownInTurn (shape_of document) (start_of document) [] (calls_of document.clients) shown
   -- each transaction that was shown committed has its entry, and there is no other entry
-  pub entries : OneEntryEach 0 [] (calls_of document.clients) shown report.entries
+  pub entries : OneEntryEach 0 [] [] [] (calls_of document.clients) shown report.entries
