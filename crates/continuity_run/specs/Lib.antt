@@ -1,6 +1,9 @@
+pub mod CallForm
 pub mod Causes
+pub mod DocumentForm
 pub mod Headline
 pub mod Memory
 pub mod Reads
 pub mod Run
 pub mod Start
+pub mod ValueForm

@@ -2,6 +2,7 @@
 #![tactic(auto)]
 
 mod document;
+mod item;
 mod memory;
 mod outside;
 mod report;

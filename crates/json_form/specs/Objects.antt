@@ -1,0 +1,38 @@
+-- Objects: which members stand there.
+use Rattle.std.specs.Prelude.{ℕ, List, Bool, if◌then◌else◌, Option, Some, None, Result, Ok, Err, ⊤}
+use Rattle.std.specs.List.{list_any}
+use Rattle.std.specs.Str.{bytes_eq}
+use Rattle.serde_json.specs.Data.{Data, Members, no_members, member}
+use Rattle.serde_json.specs.Find.{get}
+use Rattle.json_form.specs.declared.fault.DocCode.TheVariants.{Missing, Unknown}
+use Rattle.json_form.specs.Faults.{Fault, ◌>>=◌, here, under, within}
+use Rattle.json_form.specs.Pointers.{escaped}
+use Rattle.json_form.specs.Values.{members_of}
+
+abbrev pub is_among : List (List ℕ) → List ℕ → Bool
+is_among names name = list_any (λ n. bytes_eq n name) names
+
+-- Each member is one of those named. The first other one, in order of bytes, is the fault.
+abbrev pub known : List (List ℕ) → Members → Result ⊤ Fault
+known names no_members = Ok tt
+known names (member name d ms) = if is_among names name then known names ms else Err (under (escaped name) (here Unknown))
+
+-- an object with no member but those named
+abbrev pub object_with : List (List ℕ) → Data → Result ⊤ Fault
+object_with names d = members_of d >>= known names
+
+abbrev pub present : List ℕ → Option Data → Result Data Fault
+present name None = Err (under (escaped name) (here Missing))
+present name (Some d) = Ok d
+
+-- a member that has to be there
+abbrev pub required : List ℕ → Data → Result Data Fault
+required name d = present name (get name d)
+
+abbrev pub read_or : {A : Type 0} → List ℕ → A → (Data → Result A Fault) → Option Data → Result A Fault
+read_or name otherwise read None = Ok otherwise
+read_or name otherwise read (Some d) = within name (read d)
+
+-- a member that may be missing
+abbrev pub optional : {A : Type 0} → List ℕ → A → (Data → Result A Fault) → Data → Result A Fault
+optional name otherwise read d = read_or name otherwise read (get name d)

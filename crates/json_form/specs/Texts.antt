@@ -1,0 +1,47 @@
+-- Texts: fixed words, hexadecimal digits, and the bytes of a document.
+use Rattle.std.specs.Prelude.{ℕ, List, [], ◌∷◌, length, nat_lt, if◌then◌else◌, Option, Some, None, option_and_then, Result, Ok, Err}
+use Rattle.std.specs.Str.{bytes_eq, is_utf8}
+use Rattle.serde_json.specs.Data.{Data}
+use Rattle.serde_json.specs.Find.{at, as_str}
+use Rattle.serde_json.specs.Read.{read}
+use Rattle.hex.specs.Hex.{decode_of}
+use Rattle.hex.specs.declared.error.FromHexError.{FromHexError}
+use Rattle.json_form.specs.declared.fault.DocCode.TheVariants.{TooLong, NotJson, Unknown, BadImage}
+use Rattle.json_form.specs.Faults.{Fault, ◌>>=◌, here}
+use Rattle.json_form.specs.Values.{items_of, text_of}
+
+-- what a fixed word stands for: the first of the pairs with this word
+abbrev pub chosen : {A : Type 0} → List (List ℕ × A) → List ℕ → Result A Fault
+chosen [] word = Err (here Unknown)
+chosen (pair ∷ pairs) word = if bytes_eq pair.0 word then Ok pair.1 else chosen pairs word
+
+-- a text that is a fixed word
+abbrev pub word_of : {A : Type 0} → List (List ℕ × A) → Data → Result A Fault
+word_of pairs d = text_of d >>= chosen pairs
+
+abbrev pub named : Option (List ℕ) → Result (List ℕ) Fault
+named None = Err (here Unknown)
+named (Some word) = Ok word
+
+-- the text that an array begins with
+abbrev pub head_of : Data → Result (List ℕ) Fault
+head_of d = items_of d >>= λ _. named (option_and_then as_str (at 0 d))
+
+abbrev pub octets_or_fault : Result (List ℕ) FromHexError → Result (List ℕ) Fault
+octets_or_fault (Ok bytes) = Ok bytes
+octets_or_fault (Err e) = Err (here BadImage)
+
+-- a text of pairs of hexadecimal digits, in either case
+abbrev pub octets_of : Data → Result (List ℕ) Fault
+octets_of d = text_of d >>= λ text. octets_or_fault (decode_of text)
+
+abbrev pub utf8_of : List ℕ → Result (List ℕ) Fault
+utf8_of bytes = if is_utf8 bytes then Ok bytes else Err (here NotJson)
+
+abbrev pub json_or_fault : Option Data → Result Data Fault
+json_or_fault None = Err (here NotJson)
+json_or_fault (Some d) = Ok d
+
+-- the JSON value that at most so many bytes spell
+abbrev pub json_at : ℕ → List ℕ → Result Data Fault
+json_at limit bytes = if nat_lt limit (length bytes) then Err (here TooLong) else (utf8_of bytes >>= λ text. json_or_fault (read text))

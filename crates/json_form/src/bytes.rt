@@ -1,0 +1,45 @@
+//! From bytes to a JSON value.
+ghost use Rattle.std.specs.Prelude.{◌≡◌};
+ghost use Rattle.serde_json.specs.View.{view};
+ghost use Rattle.json_form.specs.Faults.{GivesBy};
+ghost use Rattle.json_form.specs.Texts.{utf8_of, json_or_fault, json_at};
+ghost use Rattle.serde_json.specs.Read.{read};
+
+use crate::fault::{DocCode, DocFault};
+use serde_json::Value;
+use std::alloc::Global;
+
+fn utf8_from(alloc: Global, bytes: &[u8]) -> Result<&str, DocFault>
+    ensures { GivesBy (λ s. s.now) result (utf8_of bytes.now) }
+{
+    match simdutf8::compat::from_utf8(bytes) {
+        Ok(text) => Ok(text),
+        Err(_) => Err(DocFault::here(alloc, DocCode::NotJson)),
+    }
+}
+
+fn value_from(alloc: Global, text: &str) -> Result<Value, DocFault>
+    ensures { GivesBy view result (json_or_fault (read text.now)) }
+{
+    match Value::from_str(alloc, text) {
+        Ok(value) => Ok(value),
+        Err(e) => if e.is_memory() {
+            Err(DocFault::NoMemory)
+        } else {
+            Err(DocFault::here(alloc, DocCode::NotJson))
+        },
+    }
+}
+
+/// The JSON value (RFC 8259) that at most `limit` bytes spell. Of equal members of an object the last
+/// one stands. Nesting past 127, a lone surrogate and a number whose nearest double is infinite are
+/// no JSON here. The cost is linear in the number of bytes.
+pub fn json_from(alloc: Global, bytes: &[u8], limit: usize) -> Result<Value, DocFault>
+    ensures { GivesBy view result (json_at limit bytes.now) }
+{
+    if bytes.len() > limit {
+        return Err(DocFault::here(alloc, DocCode::TooLong));
+    }
+    let text = utf8_from(alloc, bytes)?;
+    value_from(alloc, text)
+}

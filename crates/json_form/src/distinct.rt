@@ -1,0 +1,167 @@
+//! Arrays whose items have different keys.
+ghost use Rattle.std.specs.Prelude.{◌≡◌, map, ◌≤◌, Result, List, length, IfOk, IfErr, OnOk, OnErr, [], ◌||◌, false};
+ghost use Rattle.serde_json.specs.View.{view, items_view};
+ghost use Rattle.json_form.specs.Faults.{Fault, Gives, GivesBy, within, within_item as within_item_lem};
+ghost use Rattle.json_form.specs.Objects.{optional};
+ghost use Rattle.json_form.specs.Arrays.{distinct, array_of, is_key};
+
+use crate::array::{counted, list_within};
+use crate::fault::{DocCode, DocFault};
+use crate::step::within_item;
+use serde_json::Value;
+use std::alloc::{AllocError, Global};
+use std::collections::BTreeSet;
+use std::marker::Model;
+
+/// The keys of the items read so far, as an ordered set. Clauses see the list of its keys, in their order.
+#[derive(Drop)]
+pub struct Taken<K: Ord + Drop> {
+    keys: BTreeSet<K>,
+}
+
+impl<K: Ord + Drop> Model for Taken<K> {
+    ghost use Rattle.std.specs.Prelude.{List};
+
+    ghost Value = { List K };
+
+    ghost view = { λ s. s.keys.keys };
+}
+
+impl<K: Ord + Drop> Taken<K> {
+    ghost use Rattle.json_form.specs.Arrays.{fresh as fresh_lem};
+
+    fn new(alloc: Global) -> Taken<K>
+        ensures { result ≡ [] }
+    {
+        Taken {
+            keys: BTreeSet::new(alloc),
+        }
+    }
+
+    fn add(&mut self, key: K) -> Result<(), AllocError>
+        ensures { OnOk result ((k : K) → is_key K.eq self.new k ≡ (is_key K.eq self.old k || K.eq k key)) }
+    {
+        self.keys.insert(key)?;
+        Ok(())
+    }
+
+    /// No item before has this key. The cost is logarithmic in the number of items before.
+    pub fn fresh(&self, alloc: Global, key: &K) -> Result<(), DocFault>
+        ensures { GivesBy (λ _. tt) result (fresh_lem (is_key K.eq self.now) key.now) }
+    {
+        if self.keys.contains(key) {
+            return Err(DocFault::here(alloc, DocCode::Duplicate));
+        }
+        Ok(())
+    }
+}
+
+/// Reads the items of an array in which no key may stand twice. The reader says where an item's key
+/// is tested by a call of `Taken::fresh`.
+pub trait KeyedReader<T> {
+    ghost use Rattle.std.specs.Prelude.{Bool};
+    ghost use Rattle.serde_json.specs.Data.{Data};
+    ghost use Rattle.json_form.specs.declared.fault.DocFault.TheVariants.{NoMemory};
+
+    type Key: Ord + Drop;
+
+    ghost reads: { Self → (Self.Key → Bool) → Data → Result T Fault };
+
+    ghost key_of: { T → Self.Key };
+
+    /// The key of an item that was read.
+    fn key(&self, alloc: Global, item: &T) -> Result<Self::Key, DocFault>
+        ensures made { IfOk result (λ key. key ≡ key_of item.now) }
+        ensures refused { IfErr result (λ e. e ≡ NoMemory) };
+
+    /// What the value is read as after items with these keys, or the first fault.
+    fn read(&self, alloc: Global, taken: &Taken<Self::Key>, value: &Value) -> Result<T, DocFault>
+        ensures { Gives result
+            (reads self.now (is_key Self.Key.eq taken.now) (view value.now)) };
+}
+
+/// What the value is read as after the items found.
+fn next_distinct<T, R: KeyedReader<T>>(
+    alloc: Global,
+    value: &Value,
+    reader: &R,
+    found: &[T],
+    taken: &Taken<R::Key>,
+) -> Result<T, DocFault>
+    requires { (k : R.Key) → is_key R.Key.eq taken.now k ≡ is_key R.Key.eq (map R.KeyedReader.key_of found.now) k }
+    ensures { Gives result (within_item_lem (length found.now)
+        (R.KeyedReader.reads reader.now (is_key R.Key.eq (map R.KeyedReader.key_of found.now)) (view value.now))) }
+{
+    within_item(alloc, found.len(), reader.read(alloc, taken, value))
+}
+
+fn each_distinct<T: Drop, R: KeyedReader<T>>(
+    alloc: Global,
+    values: &[Value],
+    reader: &R,
+) -> Result<Vec<T>, DocFault>
+    ensures read { GivesBy (λ v. v.items) result
+        (distinct R.Key.eq R.KeyedReader.key_of (R.KeyedReader.reads reader.now) (items_view values.now)) }
+    ensures count { IfOk result (λ v. length v.items ≡ length values.now) }
+{
+    let mut found = Vec::new(alloc);
+    let mut taken = Taken::new(alloc);
+    for value in values {
+        let item = next_distinct(alloc, value, reader, found.as_slice(), &taken)?;
+        taken.add(reader.key(alloc, &item)?)?;
+        found.push(item)?;
+    }
+    Ok(found)
+}
+
+/// The items of an array of `low` to `high`, in order, with different keys. Beside the readings of the
+/// items the cost is n log n comparisons of keys and a key for each item.
+pub fn distinct_from<T: Drop, R: KeyedReader<T>>(
+    alloc: Global,
+    value: &Value,
+    low: usize,
+    high: usize,
+    reader: &R,
+) -> Result<Vec<T>, DocFault>
+    ensures read { GivesBy (λ v. v.items) result
+        (array_of low high (distinct R.Key.eq R.KeyedReader.key_of (R.KeyedReader.reads reader.now)) (view value.now)) }
+    ensures count { IfOk result (λ v. length v.items ≤ high) }
+{
+    let values = counted(alloc, value, low, high)?;
+    each_distinct(alloc, values, reader)
+}
+
+/// The items of an array in a member with this name, as `distinct_from` reads them.
+pub fn distinct_at<T: Drop, R: KeyedReader<T>>(
+    alloc: Global,
+    name: &str,
+    member: &Value,
+    low: usize,
+    high: usize,
+    reader: &R,
+) -> Result<Vec<T>, DocFault>
+    ensures read { GivesBy (λ v. v.items) result (within name.now (array_of low high
+        (distinct R.Key.eq R.KeyedReader.key_of (R.KeyedReader.reads reader.now)) (view member.now))) }
+    ensures count { IfOk result (λ v. length v.items ≤ high) }
+{
+    list_within(alloc, name, distinct_from(alloc, member, low, high, reader))
+}
+
+/// The items of an array in a member that may be missing: none where it is.
+pub fn distinct_or_none<T: Drop, R: KeyedReader<T>>(
+    alloc: Global,
+    value: &Value,
+    name: &str,
+    low: usize,
+    high: usize,
+    reader: &R,
+) -> Result<Vec<T>, DocFault>
+    ensures read { GivesBy (λ v. v.items) result (optional name.now [] (array_of low high
+        (distinct R.Key.eq R.KeyedReader.key_of (R.KeyedReader.reads reader.now))) (view value.now)) }
+    ensures count { IfOk result (λ v. length v.items ≤ high) }
+{
+    match value.get(name) {
+        Some(member) => distinct_at(alloc, name, member, low, high, reader),
+        None => Ok(Vec::new(alloc)),
+    }
+}

@@ -1,0 +1,82 @@
+//! Readers of values, and those of numbers and bools.
+ghost use Rattle.std.specs.Prelude.{◌≡◌, Result};
+ghost use Rattle.serde_json.specs.Data.{Data};
+ghost use Rattle.serde_json.specs.View.{view};
+ghost use Rattle.json_form.specs.Faults.{Fault, Gives};
+ghost use Rattle.json_form.specs.Values.{whole_of, integer_of, bool_of};
+
+use crate::fault::{DocCode, DocFault};
+use serde_json::{Number, Value};
+use std::alloc::Global;
+
+/// Reads a `T` from a JSON value. The reader is a unit struct, or holds a setting.
+pub trait Reader<T> {
+    ghost reads: { Self → Data → Result T Fault };
+
+    /// What the value is read as, or the first fault.
+    fn read(&self, alloc: Global, value: &Value) -> Result<T, DocFault>
+        ensures { Gives result (reads self.now (view value.now)) };
+}
+
+/// Reads a whole number from `low` to `high`.
+#[derive(Clone, Copy, Debug, PartialEq, Eq)]
+pub struct Whole {
+    pub low: u64,
+    pub high: u64,
+}
+
+impl Reader<u64> for Whole {
+    ghost reads = { λ s. whole_of s.low s.high };
+
+    #[tactic(auto, unfolding(crate::specs::Values::whole_of))]
+    fn read(&self, alloc: Global, value: &Value) -> Result<u64, DocFault> {
+        let Whole { low, high } = *self;
+        let Some(number) = value.as_number().and_then(Number::as_i128) else {
+            return Err(DocFault::here(alloc, DocCode::WrongKind));
+        };
+        if number < 0 {
+            return Err(DocFault::here(alloc, DocCode::Limit));
+        }
+        let Ok(number) = u64::try_from(number) else {
+            return Err(DocFault::here(alloc, DocCode::Limit));
+        };
+        if number < low || high < number {
+            return Err(DocFault::here(alloc, DocCode::Limit));
+        }
+        Ok(number)
+    }
+}
+
+/// Reads a whole number of 64 bits with a sign.
+#[derive(Clone, Copy, Debug, PartialEq, Eq)]
+pub struct Integer;
+
+impl Reader<i64> for Integer {
+    ghost reads = { λ s. integer_of };
+
+    #[tactic(auto, unfolding(crate::specs::Values::integer_of))]
+    fn read(&self, alloc: Global, value: &Value) -> Result<i64, DocFault> {
+        let Some(number) = value.as_number().and_then(Number::as_i128) else {
+            return Err(DocFault::here(alloc, DocCode::WrongKind));
+        };
+        match i64::try_from(number) {
+            Ok(small) => Ok(small),
+            Err(_) => Err(DocFault::here(alloc, DocCode::Limit)),
+        }
+    }
+}
+
+/// Reads a bool.
+#[derive(Clone, Copy, Debug, PartialEq, Eq)]
+pub struct Flag;
+
+impl Reader<bool> for Flag {
+    ghost reads = { λ s. bool_of };
+
+    fn read(&self, alloc: Global, value: &Value) -> Result<bool, DocFault> {
+        match value.as_bool() {
+            Some(flag) => Ok(flag),
+            None => Err(DocFault::here(alloc, DocCode::WrongKind)),
+        }
+    }
+}

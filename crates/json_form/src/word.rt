@@ -1,0 +1,53 @@
+//! Texts and fixed words.
+ghost use Rattle.std.specs.Prelude.{◌≡◌, map};
+ghost use Rattle.serde_json.specs.View.{view};
+ghost use Rattle.json_form.specs.Faults.{Gives, GivesBy};
+ghost use Rattle.json_form.specs.Values.{text_of};
+ghost use Rattle.json_form.specs.Texts.{chosen as chosen_lem, word_of, head_of};
+
+use crate::array::items_from;
+use crate::fault::{DocCode, DocFault};
+use serde_json::Value;
+use std::alloc::Global;
+
+/// A text.
+pub fn text_from(alloc: Global, value: &Value) -> Result<&str, DocFault>
+    ensures { GivesBy (λ s. s.now) result (text_of (view value.now)) }
+{
+    match value.as_str() {
+        Some(text) => Ok(text),
+        None => Err(DocFault::here(alloc, DocCode::WrongKind)),
+    }
+}
+
+/// What a fixed word stands for, in a table of words. The cost is the number of words.
+pub fn chosen<T: Copy>(alloc: Global, word: &str, table: &[(&str, T)]) -> Result<T, DocFault>
+    ensures { Gives result (chosen_lem (map (λ pair. (pair.0.now, pair.1)) table.now) word.now) }
+{
+    for (name, meaning) in table {
+        if *name == word {
+            return Ok(*meaning);
+        }
+    }
+    Err(DocFault::here(alloc, DocCode::Unknown))
+}
+
+/// What a text stands for that is one of the words of a table.
+pub fn word_from<T: Copy>(alloc: Global, value: &Value, table: &[(&str, T)]) -> Result<T, DocFault>
+    ensures { Gives result
+        (word_of (map (λ pair. (pair.0.now, pair.1)) table.now) (view value.now)) }
+{
+    let word = text_from(alloc, value)?;
+    chosen(alloc, word, table)
+}
+
+/// The text that an array begins with. An array that begins with none names nothing.
+pub fn head_from(alloc: Global, value: &Value) -> Result<&str, DocFault>
+    ensures { GivesBy (λ s. s.now) result (head_of (view value.now)) }
+{
+    items_from(alloc, value)?;
+    match value.get(0usize).and_then(Value::as_str) {
+        Some(word) => Ok(word),
+        None => Err(DocFault::here(alloc, DocCode::Unknown)),
+    }
+}
