@@ -96,9 +96,12 @@ client_of d =
     object_with (codes "requests" ∷ []) d >>= λ _. required (codes "requests") d >>= λ requests.
     within (codes "requests") (array_of 0 1 (each_of request_of) requests) >>= λ rs. Ok (record { requests = rs })
 
--- an array without an event
+-- no event is built
+abbrev pub event_of : Data → Result ⊤ Fault
+event_of d = Err (here NotBuilt)
+
 abbrev pub no_event : Data → Result ⊤ Fault
-no_event d = array_of 0 0 (each_of (λ _. Ok tt)) d >>= λ _. Ok tt
+no_event d = array_of 0 100000 (each_of event_of) d >>= λ events. Ok tt
 
 unfoldable pub document_of : Data → Result Document Fault
 document_of d =
