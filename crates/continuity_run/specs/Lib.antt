@@ -1,9 +1,11 @@
 pub mod CallForm
+pub mod CallText
 pub mod Causes
 pub mod DocumentForm
 pub mod Headline
 pub mod Memory
 pub mod Reads
+pub mod ReportText
 pub mod Run
 pub mod Start
 pub mod ValueForm
