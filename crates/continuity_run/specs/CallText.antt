@@ -1,7 +1,7 @@
 -- How values, calls, answers and draws are written as JSON: values and calls in the document's form.
 use Rattle.std.specs.Prelude.{◌≡◌, ℕ, List, [], ◌∷◌, ◌++◌, map, Bool, true, false, codes, if◌then◌else◌}
 use Rattle.serde_json.specs.Data.{Data}
-use Rattle.hex.specs.Hex.{encode_of}
+use Rattle.hex.specs.Hex.{encode_lower}
 use Rattle.json_form.specs.Writing.{text, whole, integer, list, list_by, members}
 use Rattle.svc_values.specs.declared.value.Value.{Value}
 use Rattle.svc_values.specs.declared.value.Value.TheVariants as value
@@ -31,7 +31,7 @@ one name d = members ((name, d) ∷ [])
 unfoldable pub value_text : Value → Data
 value_text (value.Int n) = integer n
 value_text (value.Text t) = text t
-value_text (value.Bytes bytes) = one (codes "hex") (text (encode_of bytes))
+value_text (value.Bytes bytes) = one (codes "hex") (text (encode_lower bytes))
 
 abbrev pub row_text : List Value → Data
 row_text row = list_by value_text row
@@ -104,4 +104,4 @@ answer_text (answer.Refused refusal) = one (codes "refused") (whole (refusal_cod
 unfoldable pub draw_text : Draw → Data
 draw_text (draw.Seq name n) = list (text (codes "seq") ∷ text name ∷ integer n ∷ [])
 draw_text (draw.Clock tick) = list (text (codes "clock") ∷ whole tick ∷ [])
-draw_text (draw.Id id) = list (text (codes "id") ∷ text (encode_of id) ∷ [])
+draw_text (draw.Id id) = list (text (codes "id") ∷ text (encode_lower id) ∷ [])
