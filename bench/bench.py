@@ -1,0 +1,112 @@
+#!/usr/bin/env python3
+"""Times the built programs on large inputs, each at two sizes, so that growth shows.
+
+Usage: bench/bench.py [NAME ..]   with no name, all. Run ./continuity run < examples/first.json once before.
+"""
+
+import json
+import os
+import subprocess
+import sys
+import tempfile
+import time
+
+TOP = os.path.dirname(os.path.dirname(os.path.abspath(__file__)))
+MEGABYTE = 1_000_000
+
+
+def program(name):
+    return os.path.join(TOP, "crates", name, "out", name)
+
+
+def run(command, data=b""):
+    """The seconds and the peak memory in bytes of one run, which has to succeed."""
+    with tempfile.TemporaryFile() as source, tempfile.TemporaryFile() as sink:
+        source.write(data)
+        source.seek(0)
+        began = time.monotonic()
+        child = subprocess.Popen(command, stdin=source, stdout=sink)
+        _, status, usage = os.wait4(child.pid, 0)
+        seconds = time.monotonic() - began
+        child.returncode = os.waitstatus_to_exitcode(status)
+        if child.returncode != 0:
+            sys.exit(f"{' '.join(command)}: status {child.returncode}")
+        return seconds, usage.ru_maxrss * 1024
+
+
+def compact(value):
+    return json.dumps(value, separators=(",", ":")).encode()
+
+
+def table(name, rows):
+    return {
+        "name": name,
+        "columns": [["id", "int"], ["name", "text"]],
+        "rows": [[key, f"row {key:08d}"] for key in range(rows)],
+    }
+
+
+def rows_document(tables, rows):
+    """Keys of many rows in many tables: are they tested for duplicates in n log n?"""
+    return compact({"tables": [table(f"t{n}", rows) for n in range(tables)], "clients": []})
+
+
+def calls_document(calls, rows):
+    """One request of many calls over a table, each with reads and a write, and each third one a commit."""
+    script = []
+    for n in range(calls):
+        statements = [["get", "t", n % rows], ["update", "t", n % rows, "name", "to", f"call {n}"]]
+        script.append(statements + ([["commit"]] if n % 3 == 2 else []))
+    return compact({"tables": [table("t", rows)], "clients": [{"requests": [{"calls": script}]}]})
+
+
+def long_document(size):
+    """A document of about so many bytes, nearly all of them texts of rows in 32 tables."""
+    rows = size // 32 // 76
+    wide = [
+        {
+            "name": f"t{n}",
+            "columns": [["id", "int"], ["name", "text"]],
+            "rows": [[key, f"{key:08d}" + "x" * 54] for key in range(rows)],
+        }
+        for n in range(32)
+    ]
+    return compact({"tables": wide, "clients": []})
+
+
+def document_case(name, documents):
+    print(f"{name}")
+    for data in documents:
+        seconds, peak = run([program("continuity"), "run"], data)
+        size = len(data) / MEGABYTE
+        print(
+            f"  {size:7.2f} MB: {seconds:7.3f} s, {seconds / size:7.3f} s/MB, "
+            f"peak {peak / MEGABYTE:8.1f} MB, {peak / MEGABYTE / size:6.1f} MB/MB"
+        )
+
+
+def program_case(name, words_list, unit):
+    print(f"{name}")
+    for words in words_list:
+        seconds, peak = run([program(name), *words])
+        count = int(words[-1])
+        print(
+            f"  {' '.join(words):>20}: {seconds:7.3f} s, {seconds / count * 1e6:8.3f} us/{unit}, "
+            f"peak {peak / MEGABYTE:8.1f} MB"
+        )
+
+
+CASES = {
+    "long": lambda: document_case("long documents", [long_document(4_000_000), long_document(8_000_000)]),
+    "rows": lambda: document_case("32 tables of rows", [rows_document(32, 2_500), rows_document(32, 10_000)]),
+    "calls": lambda: document_case("calls of one request", [calls_document(256, 10_000), calls_document(1_024, 10_000)]),
+}
+
+
+def main():
+    for name in sys.argv[1:] or CASES:
+        CASES[name]()
+
+
+if __name__ == "__main__":
+    main()

@@ -1,0 +1,49 @@
+//! The program: hands its words, standard input and standard output to the top call, tells on
+//! standard error why there is no report, and ends with the status's number.
+#![tactic(auto)]
+
+mod adapters;
+#[cfg(test)]
+mod tests;
+
+use adapters::{Input, Output};
+use continuity_run::{Status, continuity};
+use std::process::ExitCode;
+use std::rt::Env;
+use std::{env, io};
+
+fn words_of(rt: &(impl Env + AllocGlobal)) -> io::Result<Vec<String>> {
+    let mut words = Vec::new(rt.alloc());
+    for word in env::args(rt)?.skip(1) {
+        words.push(word)?;
+    }
+    Ok(words)
+}
+
+fn tell(rt: &impl Eprint, status: &Status) -> io::Result<()> {
+    match status {
+        Status::Done => Ok(()),
+        Status::NoMemory => eprintln!(rt; "continuity: no memory"),
+        Status::Words => eprintln!(rt; "continuity: words"),
+        Status::Read => eprintln!(rt; "continuity: read"),
+        Status::Write => eprintln!(rt; "continuity: write"),
+        Status::Document { code, path } => {
+            let code = code.number();
+            let path = path.as_str();
+            eprintln!(rt; "continuity: document: {code} at {path}")
+        }
+    }
+}
+
+fn main(rt: HostRuntime) -> ExitCode {
+    let status = match words_of(&rt) {
+        Ok(words) => {
+            let mut source = Input::new(rt.stdin());
+            let mut sink = Output::new(rt.stdout());
+            continuity(rt.alloc(), words.as_slice(), &mut source, &mut sink)
+        }
+        Err(_) => Status::NoMemory,
+    };
+    let _ = tell(&rt, &status);
+    ExitCode::from(status.number())
+}

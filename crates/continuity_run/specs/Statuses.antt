@@ -1,0 +1,12 @@
+-- The exit status of each end of a run.
+use Rattle.std.specs.Prelude.{ℕ}
+use Rattle.continuity_run.specs.declared.top.Status.{Status}
+use Rattle.continuity_run.specs.declared.top.Status.TheVariants as status
+
+abbrev pub number_of : Status → ℕ
+number_of status.Done = 0
+number_of status.NoMemory = 1
+number_of status.Words = 2
+number_of status.Read = 3
+number_of status.Write = 4
+number_of (status.Document code path) = 5

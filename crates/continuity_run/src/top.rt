@@ -1,0 +1,136 @@
+//! The top call: from the words and the bytes in to the bytes out.
+ghost use Rattle.std.specs.Prelude.{◌≡◌, ◌↔◌, false, Err, IfOk, IfErr, IsErrOf, OnErr};
+ghost use Rattle.json_form.specs.Faults.{Fails};
+ghost use Rattle.continuity_run.specs.Causes.{Rose};
+ghost use Rattle.continuity_run.specs.DocumentForm.{document_at};
+ghost use Rattle.continuity_run.specs.Clauses.{is_command as is_command_lem, IsAnswer, IsDone, IsCut, IsRead, IsRefused, Writes, WritesFront, IfDocument, IsBefore, IsReply};
+
+use crate::outside::{Sink, Source};
+use crate::reading::{LIMIT, read_document};
+use crate::run::run_document;
+use crate::whole::{ReadError, read_to_limit, write_whole};
+use crate::writing::report_bytes;
+use json_form::{DocCode, DocFault, Pointer};
+use std::alloc::Global;
+
+/// How a run ended. The numbers 0 to 5 are the program's exit status, in this order.
+#[derive(Debug, Drop)]
+pub enum Status {
+    /// The document was read to its end, and the sink took the report's text.
+    Done,
+    /// Memory was refused.
+    NoMemory,
+    /// The words are none of the commands.
+    Words,
+    /// The source failed.
+    Read,
+    /// The sink failed, or took nothing. It holds a front of the text.
+    Write,
+    /// The bytes are no document. The path is a JSON Pointer (RFC 6901) to the value at fault.
+    Document { code: DocCode, path: Pointer },
+}
+
+impl Status {
+    ghost use Rattle.continuity_run.specs.Statuses.{number_of};
+
+    /// The exit status of a program that ends so.
+    pub fn number(&self) -> u8
+        ensures { result ≡ number_of self.now }
+    {
+        match self {
+            Status::Done => 0,
+            Status::NoMemory => 1,
+            Status::Words => 2,
+            Status::Read => 3,
+            Status::Write => 4,
+            Status::Document { .. } => 5,
+        }
+    }
+}
+
+/// Whether the words are the one command, `run`.
+fn is_command(words: &[String]) -> bool
+    ensures { result ≡ is_command_lem words.now }
+{
+    match words {
+        [word] => word.as_str() == "run",
+        _ => false,
+    }
+}
+
+/// The text of the report of the document that the bytes are.
+fn answer(alloc: Global, bytes: &[u8]) -> Result<Vec<u8>, DocFault>
+    ensures answered { IfOk result (λ text. IsAnswer bytes.now text.items) }
+    ensures refused { IfErr result (λ e. Fails e (document_at bytes.now)) }
+{
+    let document = read_document(alloc, bytes)?;
+    let report = run_document(alloc, document)?;
+    let text = report_bytes(alloc, &report)?;
+    Ok(text)
+}
+
+fn read_input<S: Source>(alloc: Global, source: &mut S) -> Result<Vec<u8>, ReadError>
+    ensures read { IfOk result (λ bytes. IsRead (S.left source.old) (S.left source.new) bytes.items) }
+    ensures failed { IsErrOf result ReadError.Failed → Rose (S.faults source.old) (S.faults source.new) }
+{
+    read_to_limit(alloc, source, LIMIT)
+}
+
+/// Judges the bytes, and writes the report.
+fn respond<K: Sink>(alloc: Global, bytes: &[u8], sink: &mut K) -> Status
+    ensures done { result ≡ Status.Done → Writes bytes.now (K.held sink.old) (K.held sink.new) }
+    ensures cut { result ≡ Status.Write → WritesFront bytes.now (K.held sink.old) (K.held sink.new) }
+    ensures write { result ≡ Status.Write → Rose (K.faults sink.old) (K.faults sink.new) }
+    ensures document { IfDocument result (λ fault. document_at bytes.now ≡ Err fault) }
+    ensures untouched { IsBefore result → sink.new ≡ sink.old }
+    ensures others { IsReply result }
+{
+    let text = match answer(alloc, bytes) {
+        Ok(text) => text,
+        Err(DocFault::NoMemory) => return Status::NoMemory,
+        Err(DocFault::At { code, path }) => return Status::Document { code, path },
+    };
+    match write_whole(sink, text.as_slice()) {
+        Ok(()) => Status::Done,
+        Err(_) => Status::Write,
+    }
+}
+
+/// Carries out a command. `run` reads a document from the source, runs its client's script, and
+/// writes the report to the sink as compact JSON. The words are looked at first; then the source is
+/// read, to one byte past the limit of 8,388,608 bytes at most; then the document is judged. Memory
+/// is proportional to the input, and the cost of reading, judging and writing is n log n in it.
+pub fn continuity<S: Source, K: Sink>(
+    alloc: Global,
+    words: &[String],
+    source: &mut S,
+    sink: &mut K,
+) -> Status
+    // The words are those of no command, and then the source is unread.
+    ensures words { (result ≡ Status.Words) ↔ (is_command_lem words.now ≡ false) }
+    ensures unread { result ≡ Status.Words → source.new ≡ source.old }
+
+    // The source or the sink failed.
+    ensures read { result ≡ Status.Read → Rose (S.faults source.old) (S.faults source.new) }
+    ensures write { result ≡ Status.Write → Rose (K.faults sink.old) (K.faults sink.new) }
+
+    // The bytes are no document, and this is why.
+    ensures document { IfDocument result (IsRefused (S.left source.old) (S.left source.new)) }
+
+    // The sink took the text of the report, or a front of it: the headline.
+    ensures done { result ≡ Status.Done → IsDone (S.left source.old) (S.left source.new) (K.held sink.old) (K.held sink.new) }
+    ensures cut { result ≡ Status.Write → IsCut (S.left source.old) (S.left source.new) (K.held sink.old) (K.held sink.new) }
+
+    // Else nothing was written.
+    ensures untouched { IsBefore result → sink.new ≡ sink.old }
+{
+    if !is_command(words) {
+        return Status::Words;
+    }
+    let bytes = match read_input(alloc, source) {
+        Ok(bytes) => bytes,
+        Err(ReadError::NoMemory) => return Status::NoMemory,
+        Err(ReadError::Failed) => return Status::Read,
+    };
+    respond(alloc, bytes.as_slice(), sink)
+}
