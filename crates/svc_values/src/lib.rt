@@ -13,6 +13,8 @@ mod memory;
 mod schema;
 mod settings;
 mod statement;
+#[cfg(test)]
+mod tests;
 mod text;
 mod value;
 

@@ -10,6 +10,7 @@ use crate::value::{Kind, Row, Value};
 use std::alloc::Global;
 use thiserror::Error;
 
+/// A column of a table.
 #[derive(PartialEq, Eq, Drop)]
 pub struct Column {
     pub name: Name,
@@ -80,7 +81,8 @@ fn values_fit(columns: &[Column], values: &[Value]) -> bool
 }
 
 impl Schema {
-    /// A table's declaration. It takes no memory.
+    /// A table's declaration: `Empty` exactly without a column, `SameName` exactly where two columns
+    /// have one name. It takes no memory.
     pub fn new(name: Name, columns: Columns) -> Result<Schema, SchemaFault>
         ensures made { IfOk result (λ schema. schema ≡ record { name = name; columns = columns }) }
         ensures empty { IsErrOf result SchemaFault.Empty ↔ (columns ≡ []) }

@@ -27,6 +27,7 @@ pub enum Value {
 pub type Row = Limited<Value, 8>;
 
 impl Value {
+    /// The kind of the value, which is that of the columns that it fits.
     pub fn kind(&self) -> Kind
         ensures { result ≡ kind_of self.now }
     {
