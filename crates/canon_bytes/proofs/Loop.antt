@@ -8,18 +8,18 @@ use Rattle.canon_bytes.specs.declared.fault.ReadFault.TheVariants as errors
 use Rattle.canon_bytes.specs.Reading.{◌>>=◌, IsReading}
 use Rattle.canon_bytes.specs.Lists.{items_at}
 
-module _ {X : Type 0} (item_at : List ℕ → Result (X × List ℕ) Fault) where
-  -- what is read, behind these items
-  abbrev pub behind : List X → Result (List X × List ℕ) Fault → Result (List X × List ℕ) Fault
-  behind items read = read >>= λ others. Ok (items ++ others.0, others.1)
+-- what is read, behind these items
+abbrev pub behind : {X : Type 0} → List X → Result (List X × List ℕ) Fault → Result (List X × List ℕ) Fault
+behind items read = read >>= λ others. Ok (items ++ others.0, others.1)
 
+pub moved : {X : Type 0} (items : List X) (x : X) (read : Result (List X × List ℕ) Fault) → behind items (read >>= λ others. Ok (x ∷ others.0, others.1)) ≡ behind (items ++ x ∷ []) read
+moved items x (Err fault) = refl
+moved items x (Ok others) = simp append_assoc
+
+module _ {X : Type 0} (item_at : List ℕ → Result (X × List ℕ) Fault) where
   -- these items, and then that many more from the bytes
   abbrev pub continued : List X → ℕ → List ℕ → Result (List X × List ℕ) Fault
   continued items more bytes = behind items (items_at item_at more bytes)
-
-  moved : (items : List X) (x : X) (read : Result (List X × List ℕ) Fault) → behind items (read >>= λ others. Ok (x ∷ others.0, others.1)) ≡ behind (items ++ x ∷ []) read
-  moved items x (Err fault) = refl
-  moved items x (Ok others) = simp append_assoc
 
   pub continued-next : (items : List X) (more : ℕ) (bytes : List ℕ) (x : X) (rest : List ℕ) → item_at bytes ≡ Ok (x, rest) → continued items (suc more) bytes ≡ continued (items ++ x ∷ []) more rest
   unfolding items_at

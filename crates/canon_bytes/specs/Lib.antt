@@ -6,6 +6,8 @@ pub mod Lists
 pub mod Numbers
 pub mod Operands
 pub mod Reading
+pub mod SettingsAgain
+pub mod SettingsBytes
 pub mod StatementBytes
 pub mod StatementsAgain
 pub mod TextBytes

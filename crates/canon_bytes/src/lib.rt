@@ -14,6 +14,7 @@ mod lists;
 mod numbers;
 mod operands;
 mod readers;
+mod settings;
 mod statements;
 mod texts;
 mod values;
