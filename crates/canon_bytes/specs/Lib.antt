@@ -1,0 +1,15 @@
+pub mod Again
+pub mod AnswerBytes
+pub mod Draws
+pub mod FirstValue
+pub mod Lists
+pub mod Numbers
+pub mod Operands
+pub mod Reading
+pub mod SettingsAgain
+pub mod SettingsBytes
+pub mod StatementBytes
+pub mod StatementsAgain
+pub mod TextBytes
+pub mod Values
+pub mod ValuesAgain

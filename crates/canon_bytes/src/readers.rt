@@ -1,0 +1,222 @@
+//! The public readers. Each reads a first value and gives its length beside it.
+//!
+//! A refusal names the first byte at fault in reading order. `Short`: a byte is missing. `BadTag`: a
+//! tag, a flag or a code is none. `BadText`: a text is not UTF-8. `BadPart`, at the first byte of the
+//! part: a name is none; names of settings do not rise; a number of bytes or of items is past the
+//! limit, which is judged before they are read; a part of an identifier is above 2^63; or a work call
+//! is none that `Call::work` makes. Each reader is linear in the bytes that it reads.
+ghost use Rattle.std.specs.Prelude.{◌≡◌, ◌++◌, List, ℕ, ℤ, Ok, length, IfOk, Bool};
+ghost use Rattle.svc_values.specs.declared.answer.Answer.{Answer};
+ghost use Rattle.svc_values.specs.declared.statement.Change.{Change};
+ghost use Rattle.svc_values.specs.declared.draw.Draw.{Draw};
+ghost use Rattle.svc_values.specs.declared.draw.DrawKind.{DrawKind};
+ghost use Rattle.svc_values.specs.declared.value.Kind.{Kind};
+ghost use Rattle.svc_values.specs.declared.statement.Operand.{Operand};
+ghost use Rattle.svc_values.specs.declared.statement.Statement.{Statement};
+ghost use Rattle.svc_values.specs.declared.statement.Test.{Test};
+ghost use Rattle.svc_values.specs.declared.value.Value.{Value};
+ghost use Rattle.canon_bytes.specs.AnswerBytes.{spell_rows, FitsRows, rows_at, spell_answer, FitsAnswer, answer_at, spell_answers, FitsAnswers, answers_at};
+ghost use Rattle.canon_bytes.specs.Draws.{spell_draw_kind, FitsDrawKind, draw_kind_at, spell_draw, FitsDraw, draw_at, spell_draws, FitsDraws, draws_at};
+ghost use Rattle.canon_bytes.specs.Numbers.{spell_u64, FitsU64, u64_at, spell_i64, FitsI64, i64_at, spell_bool, FitsBool, bool_at};
+ghost use Rattle.canon_bytes.specs.Operands.{spell_operand, FitsOperand, operand_at, spell_operands, FitsOperands, operands_at, spell_change, FitsChange, change_at, spell_test, FitsTest, test_at};
+ghost use Rattle.canon_bytes.specs.StatementBytes.{spell_statement, FitsStatement, statement_at, spell_statements, FitsStatements, statements_at};
+ghost use Rattle.canon_bytes.specs.TextBytes.{spell_bytes, FitsName, name_at, FitsText, text_at, FitsOctets, octets_at};
+ghost use Rattle.canon_bytes.specs.Values.{spell_kind, FitsKind, kind_at, spell_value, FitsValue, value_at, spell_row, FitsRow, row_at};
+ghost use Rattle.canon_bytes.specs.FirstValue.{GivesFirst, Spells, IsUnlessMemory};
+
+use crate::canon::take_first;
+use crate::fault::CanonFault;
+use std::alloc::Global;
+use svc_values::{
+    Answer, Answers, Change, Draw, DrawKind, Draws, Kind, Name, Octets, Operand, Operands, Row,
+    Rows, Statement, Statements, Test, Text, Value,
+};
+
+/// Reads a number.
+pub fn take_u64(alloc: Global, bytes: &[u8]) -> Result<(u64, usize), CanonFault>
+    ensures exact { GivesFirst u64_at bytes.now result }
+    ensures found { IfOk result (λ x. Spells spell_u64 FitsU64 bytes.now x.0 x.1) }
+    ensures only { (x : ℕ) (rest : List ℕ) → FitsU64 x → bytes.now ≡ spell_u64 x ++ rest → IsUnlessMemory result (Ok (x, length (spell_u64 x))) }
+{
+    take_first(alloc, bytes)
+}
+
+/// Reads a number.
+pub fn take_i64(alloc: Global, bytes: &[u8]) -> Result<(i64, usize), CanonFault>
+    ensures exact { GivesFirst i64_at bytes.now result }
+    ensures found { IfOk result (λ x. Spells spell_i64 FitsI64 bytes.now x.0 x.1) }
+    ensures only { (x : ℤ) (rest : List ℕ) → FitsI64 x → bytes.now ≡ spell_i64 x ++ rest → IsUnlessMemory result (Ok (x, length (spell_i64 x))) }
+{
+    take_first(alloc, bytes)
+}
+
+/// Reads a flag.
+pub fn take_bool(alloc: Global, bytes: &[u8]) -> Result<(bool, usize), CanonFault>
+    ensures exact { GivesFirst bool_at bytes.now result }
+    ensures found { IfOk result (λ x. Spells spell_bool FitsBool bytes.now x.0 x.1) }
+    ensures only { (x : Bool) (rest : List ℕ) → FitsBool x → bytes.now ≡ spell_bool x ++ rest → IsUnlessMemory result (Ok (x, length (spell_bool x))) }
+{
+    take_first(alloc, bytes)
+}
+
+/// Reads a name.
+pub fn take_name(alloc: Global, bytes: &[u8]) -> Result<(Name, usize), CanonFault>
+    ensures exact { GivesFirst name_at bytes.now result }
+    ensures found { IfOk result (λ x. Spells spell_bytes FitsName bytes.now x.0 x.1) }
+    ensures only { (x : List ℕ) (rest : List ℕ) → FitsName x → bytes.now ≡ spell_bytes x ++ rest → IsUnlessMemory result (Ok (x, length (spell_bytes x))) }
+{
+    take_first(alloc, bytes)
+}
+
+/// Reads a text.
+pub fn take_text(alloc: Global, bytes: &[u8]) -> Result<(Text, usize), CanonFault>
+    ensures exact { GivesFirst text_at bytes.now result }
+    ensures found { IfOk result (λ x. Spells spell_bytes FitsText bytes.now x.0 x.1) }
+    ensures only { (x : List ℕ) (rest : List ℕ) → FitsText x → bytes.now ≡ spell_bytes x ++ rest → IsUnlessMemory result (Ok (x, length (spell_bytes x))) }
+{
+    take_first(alloc, bytes)
+}
+
+/// Reads a row of octets.
+pub fn take_octets(alloc: Global, bytes: &[u8]) -> Result<(Octets, usize), CanonFault>
+    ensures exact { GivesFirst octets_at bytes.now result }
+    ensures found { IfOk result (λ x. Spells spell_bytes FitsOctets bytes.now x.0 x.1) }
+    ensures only { (x : List ℕ) (rest : List ℕ) → FitsOctets x → bytes.now ≡ spell_bytes x ++ rest → IsUnlessMemory result (Ok (x, length (spell_bytes x))) }
+{
+    take_first(alloc, bytes)
+}
+
+/// Reads a kind.
+pub fn take_kind(alloc: Global, bytes: &[u8]) -> Result<(Kind, usize), CanonFault>
+    ensures exact { GivesFirst kind_at bytes.now result }
+    ensures found { IfOk result (λ x. Spells spell_kind FitsKind bytes.now x.0 x.1) }
+    ensures only { (x : Kind) (rest : List ℕ) → FitsKind x → bytes.now ≡ spell_kind x ++ rest → IsUnlessMemory result (Ok (x, length (spell_kind x))) }
+{
+    take_first(alloc, bytes)
+}
+
+/// Reads a value.
+pub fn take_value(alloc: Global, bytes: &[u8]) -> Result<(Value, usize), CanonFault>
+    ensures exact { GivesFirst value_at bytes.now result }
+    ensures found { IfOk result (λ x. Spells spell_value FitsValue bytes.now x.0 x.1) }
+    ensures only { (x : Value) (rest : List ℕ) → FitsValue x → bytes.now ≡ spell_value x ++ rest → IsUnlessMemory result (Ok (x, length (spell_value x))) }
+{
+    take_first(alloc, bytes)
+}
+
+/// Reads a row.
+pub fn take_row(alloc: Global, bytes: &[u8]) -> Result<(Row, usize), CanonFault>
+    ensures exact { GivesFirst row_at bytes.now result }
+    ensures found { IfOk result (λ x. Spells spell_row FitsRow bytes.now x.0 x.1) }
+    ensures only { (x : List Value) (rest : List ℕ) → FitsRow x → bytes.now ≡ spell_row x ++ rest → IsUnlessMemory result (Ok (x, length (spell_row x))) }
+{
+    take_first(alloc, bytes)
+}
+
+/// Reads a list of rows.
+pub fn take_rows(alloc: Global, bytes: &[u8]) -> Result<(Rows, usize), CanonFault>
+    ensures exact { GivesFirst rows_at bytes.now result }
+    ensures found { IfOk result (λ x. Spells spell_rows FitsRows bytes.now x.0 x.1) }
+    ensures only { (x : List (List Value)) (rest : List ℕ) → FitsRows x → bytes.now ≡ spell_rows x ++ rest → IsUnlessMemory result (Ok (x, length (spell_rows x))) }
+{
+    take_first(alloc, bytes)
+}
+
+/// Reads an answer.
+pub fn take_answer(alloc: Global, bytes: &[u8]) -> Result<(Answer, usize), CanonFault>
+    ensures exact { GivesFirst answer_at bytes.now result }
+    ensures found { IfOk result (λ x. Spells spell_answer FitsAnswer bytes.now x.0 x.1) }
+    ensures only { (x : Answer) (rest : List ℕ) → FitsAnswer x → bytes.now ≡ spell_answer x ++ rest → IsUnlessMemory result (Ok (x, length (spell_answer x))) }
+{
+    take_first(alloc, bytes)
+}
+
+/// Reads a list of answers.
+pub fn take_answers(alloc: Global, bytes: &[u8]) -> Result<(Answers, usize), CanonFault>
+    ensures exact { GivesFirst answers_at bytes.now result }
+    ensures found { IfOk result (λ x. Spells spell_answers FitsAnswers bytes.now x.0 x.1) }
+    ensures only { (x : List Answer) (rest : List ℕ) → FitsAnswers x → bytes.now ≡ spell_answers x ++ rest → IsUnlessMemory result (Ok (x, length (spell_answers x))) }
+{
+    take_first(alloc, bytes)
+}
+
+/// Reads a kind of draw.
+pub fn take_draw_kind(alloc: Global, bytes: &[u8]) -> Result<(DrawKind, usize), CanonFault>
+    ensures exact { GivesFirst draw_kind_at bytes.now result }
+    ensures found { IfOk result (λ x. Spells spell_draw_kind FitsDrawKind bytes.now x.0 x.1) }
+    ensures only { (x : DrawKind) (rest : List ℕ) → FitsDrawKind x → bytes.now ≡ spell_draw_kind x ++ rest → IsUnlessMemory result (Ok (x, length (spell_draw_kind x))) }
+{
+    take_first(alloc, bytes)
+}
+
+/// Reads a draw.
+pub fn take_draw(alloc: Global, bytes: &[u8]) -> Result<(Draw, usize), CanonFault>
+    ensures exact { GivesFirst draw_at bytes.now result }
+    ensures found { IfOk result (λ x. Spells spell_draw FitsDraw bytes.now x.0 x.1) }
+    ensures only { (x : Draw) (rest : List ℕ) → FitsDraw x → bytes.now ≡ spell_draw x ++ rest → IsUnlessMemory result (Ok (x, length (spell_draw x))) }
+{
+    take_first(alloc, bytes)
+}
+
+/// Reads a list of draws.
+pub fn take_draws(alloc: Global, bytes: &[u8]) -> Result<(Draws, usize), CanonFault>
+    ensures exact { GivesFirst draws_at bytes.now result }
+    ensures found { IfOk result (λ x. Spells spell_draws FitsDraws bytes.now x.0 x.1) }
+    ensures only { (x : List Draw) (rest : List ℕ) → FitsDraws x → bytes.now ≡ spell_draws x ++ rest → IsUnlessMemory result (Ok (x, length (spell_draws x))) }
+{
+    take_first(alloc, bytes)
+}
+
+/// Reads an operand.
+pub fn take_operand(alloc: Global, bytes: &[u8]) -> Result<(Operand, usize), CanonFault>
+    ensures exact { GivesFirst operand_at bytes.now result }
+    ensures found { IfOk result (λ x. Spells spell_operand FitsOperand bytes.now x.0 x.1) }
+    ensures only { (x : Operand) (rest : List ℕ) → FitsOperand x → bytes.now ≡ spell_operand x ++ rest → IsUnlessMemory result (Ok (x, length (spell_operand x))) }
+{
+    take_first(alloc, bytes)
+}
+
+/// Reads a list of operands.
+pub fn take_operands(alloc: Global, bytes: &[u8]) -> Result<(Operands, usize), CanonFault>
+    ensures exact { GivesFirst operands_at bytes.now result }
+    ensures found { IfOk result (λ x. Spells spell_operands FitsOperands bytes.now x.0 x.1) }
+    ensures only { (x : List Operand) (rest : List ℕ) → FitsOperands x → bytes.now ≡ spell_operands x ++ rest → IsUnlessMemory result (Ok (x, length (spell_operands x))) }
+{
+    take_first(alloc, bytes)
+}
+
+/// Reads a change.
+pub fn take_change(alloc: Global, bytes: &[u8]) -> Result<(Change, usize), CanonFault>
+    ensures exact { GivesFirst change_at bytes.now result }
+    ensures found { IfOk result (λ x. Spells spell_change FitsChange bytes.now x.0 x.1) }
+    ensures only { (x : Change) (rest : List ℕ) → FitsChange x → bytes.now ≡ spell_change x ++ rest → IsUnlessMemory result (Ok (x, length (spell_change x))) }
+{
+    take_first(alloc, bytes)
+}
+
+/// Reads a test.
+pub fn take_test(alloc: Global, bytes: &[u8]) -> Result<(Test, usize), CanonFault>
+    ensures exact { GivesFirst test_at bytes.now result }
+    ensures found { IfOk result (λ x. Spells spell_test FitsTest bytes.now x.0 x.1) }
+    ensures only { (x : Test) (rest : List ℕ) → FitsTest x → bytes.now ≡ spell_test x ++ rest → IsUnlessMemory result (Ok (x, length (spell_test x))) }
+{
+    take_first(alloc, bytes)
+}
+
+/// Reads a statement.
+pub fn take_statement(alloc: Global, bytes: &[u8]) -> Result<(Statement, usize), CanonFault>
+    ensures exact { GivesFirst statement_at bytes.now result }
+    ensures found { IfOk result (λ x. Spells spell_statement FitsStatement bytes.now x.0 x.1) }
+    ensures only { (x : Statement) (rest : List ℕ) → FitsStatement x → bytes.now ≡ spell_statement x ++ rest → IsUnlessMemory result (Ok (x, length (spell_statement x))) }
+{
+    take_first(alloc, bytes)
+}
+
+/// Reads a list of statements.
+pub fn take_statements(alloc: Global, bytes: &[u8]) -> Result<(Statements, usize), CanonFault>
+    ensures exact { GivesFirst statements_at bytes.now result }
+    ensures found { IfOk result (λ x. Spells spell_statements FitsStatements bytes.now x.0 x.1) }
+    ensures only { (x : List Statement) (rest : List ℕ) → FitsStatements x → bytes.now ≡ spell_statements x ++ rest → IsUnlessMemory result (Ok (x, length (spell_statements x))) }
+{
+    take_first(alloc, bytes)
+}

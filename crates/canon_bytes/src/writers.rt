@@ -1,0 +1,206 @@
+//! The public writers. Each appends the one spelling of a value, and leaves `out` as it was where
+//! memory is refused. Each is linear in the spelling.
+ghost use Rattle.std.specs.Prelude.{◌≡◌, ◌++◌, OnOk, OnErr};
+ghost use Rattle.canon_bytes.specs.AnswerBytes.{spell_rows, FitsRows, spell_answer, FitsAnswer, spell_answers, FitsAnswers};
+ghost use Rattle.canon_bytes.specs.Draws.{spell_draw_kind, FitsDrawKind, spell_draw, FitsDraw, spell_draws, FitsDraws};
+ghost use Rattle.canon_bytes.specs.Numbers.{spell_u64, FitsU64, spell_i64, FitsI64, spell_bool, FitsBool};
+ghost use Rattle.canon_bytes.specs.Operands.{spell_operand, FitsOperand, spell_operands, FitsOperands, spell_change, FitsChange, spell_test, FitsTest};
+ghost use Rattle.canon_bytes.specs.StatementBytes.{spell_statement, FitsStatement, spell_statements, FitsStatements};
+ghost use Rattle.canon_bytes.specs.TextBytes.{spell_bytes, FitsName, FitsText, FitsOctets};
+ghost use Rattle.canon_bytes.specs.Values.{spell_kind, FitsKind, spell_value, FitsValue, spell_row, FitsRow};
+
+use crate::canon::put_last;
+use std::alloc::Global;
+use svc_values::{
+    Answer, Answers, Change, Draw, DrawKind, Draws, Kind, Name, NoMemory, Octets, Operand,
+    Operands, Row, Rows, Statement, Statements, Test, Text, Value,
+};
+
+/// Writes a number.
+pub fn put_u64(alloc: Global, value: &u64, out: &mut Vec<u8>) -> Result<(), NoMemory>
+    ensures written { OnOk result (out.new.items ≡ out.old.items ++ spell_u64 value.now) }
+    ensures fitting { OnOk result (FitsU64 value.now) }
+    ensures err { OnErr result (out.new.items ≡ out.old.items) }
+{
+    put_last(alloc, value, out)
+}
+
+/// Writes a number.
+pub fn put_i64(alloc: Global, value: &i64, out: &mut Vec<u8>) -> Result<(), NoMemory>
+    ensures written { OnOk result (out.new.items ≡ out.old.items ++ spell_i64 value.now) }
+    ensures fitting { OnOk result (FitsI64 value.now) }
+    ensures err { OnErr result (out.new.items ≡ out.old.items) }
+{
+    put_last(alloc, value, out)
+}
+
+/// Writes a flag.
+pub fn put_bool(alloc: Global, value: &bool, out: &mut Vec<u8>) -> Result<(), NoMemory>
+    ensures written { OnOk result (out.new.items ≡ out.old.items ++ spell_bool value.now) }
+    ensures fitting { OnOk result (FitsBool value.now) }
+    ensures err { OnErr result (out.new.items ≡ out.old.items) }
+{
+    put_last(alloc, value, out)
+}
+
+/// Writes a name.
+pub fn put_name(alloc: Global, value: &Name, out: &mut Vec<u8>) -> Result<(), NoMemory>
+    ensures written { OnOk result (out.new.items ≡ out.old.items ++ spell_bytes value.now) }
+    ensures fitting { OnOk result (FitsName value.now) }
+    ensures err { OnErr result (out.new.items ≡ out.old.items) }
+{
+    put_last(alloc, value, out)
+}
+
+/// Writes a text.
+pub fn put_text(alloc: Global, value: &Text, out: &mut Vec<u8>) -> Result<(), NoMemory>
+    ensures written { OnOk result (out.new.items ≡ out.old.items ++ spell_bytes value.now) }
+    ensures fitting { OnOk result (FitsText value.now) }
+    ensures err { OnErr result (out.new.items ≡ out.old.items) }
+{
+    put_last(alloc, value, out)
+}
+
+/// Writes a row of octets.
+pub fn put_octets(alloc: Global, value: &Octets, out: &mut Vec<u8>) -> Result<(), NoMemory>
+    ensures written { OnOk result (out.new.items ≡ out.old.items ++ spell_bytes value.now) }
+    ensures fitting { OnOk result (FitsOctets value.now) }
+    ensures err { OnErr result (out.new.items ≡ out.old.items) }
+{
+    put_last(alloc, value, out)
+}
+
+/// Writes a kind.
+pub fn put_kind(alloc: Global, value: &Kind, out: &mut Vec<u8>) -> Result<(), NoMemory>
+    ensures written { OnOk result (out.new.items ≡ out.old.items ++ spell_kind value.now) }
+    ensures fitting { OnOk result (FitsKind value.now) }
+    ensures err { OnErr result (out.new.items ≡ out.old.items) }
+{
+    put_last(alloc, value, out)
+}
+
+/// Writes a value.
+pub fn put_value(alloc: Global, value: &Value, out: &mut Vec<u8>) -> Result<(), NoMemory>
+    ensures written { OnOk result (out.new.items ≡ out.old.items ++ spell_value value.now) }
+    ensures fitting { OnOk result (FitsValue value.now) }
+    ensures err { OnErr result (out.new.items ≡ out.old.items) }
+{
+    put_last(alloc, value, out)
+}
+
+/// Writes a row.
+pub fn put_row(alloc: Global, value: &Row, out: &mut Vec<u8>) -> Result<(), NoMemory>
+    ensures written { OnOk result (out.new.items ≡ out.old.items ++ spell_row value.now) }
+    ensures fitting { OnOk result (FitsRow value.now) }
+    ensures err { OnErr result (out.new.items ≡ out.old.items) }
+{
+    put_last(alloc, value, out)
+}
+
+/// Writes a list of rows.
+pub fn put_rows(alloc: Global, value: &Rows, out: &mut Vec<u8>) -> Result<(), NoMemory>
+    ensures written { OnOk result (out.new.items ≡ out.old.items ++ spell_rows value.now) }
+    ensures fitting { OnOk result (FitsRows value.now) }
+    ensures err { OnErr result (out.new.items ≡ out.old.items) }
+{
+    put_last(alloc, value, out)
+}
+
+/// Writes an answer.
+pub fn put_answer(alloc: Global, value: &Answer, out: &mut Vec<u8>) -> Result<(), NoMemory>
+    ensures written { OnOk result (out.new.items ≡ out.old.items ++ spell_answer value.now) }
+    ensures fitting { OnOk result (FitsAnswer value.now) }
+    ensures err { OnErr result (out.new.items ≡ out.old.items) }
+{
+    put_last(alloc, value, out)
+}
+
+/// Writes a list of answers.
+pub fn put_answers(alloc: Global, value: &Answers, out: &mut Vec<u8>) -> Result<(), NoMemory>
+    ensures written { OnOk result (out.new.items ≡ out.old.items ++ spell_answers value.now) }
+    ensures fitting { OnOk result (FitsAnswers value.now) }
+    ensures err { OnErr result (out.new.items ≡ out.old.items) }
+{
+    put_last(alloc, value, out)
+}
+
+/// Writes a kind of draw.
+pub fn put_draw_kind(alloc: Global, value: &DrawKind, out: &mut Vec<u8>) -> Result<(), NoMemory>
+    ensures written { OnOk result (out.new.items ≡ out.old.items ++ spell_draw_kind value.now) }
+    ensures fitting { OnOk result (FitsDrawKind value.now) }
+    ensures err { OnErr result (out.new.items ≡ out.old.items) }
+{
+    put_last(alloc, value, out)
+}
+
+/// Writes a draw.
+pub fn put_draw(alloc: Global, value: &Draw, out: &mut Vec<u8>) -> Result<(), NoMemory>
+    ensures written { OnOk result (out.new.items ≡ out.old.items ++ spell_draw value.now) }
+    ensures fitting { OnOk result (FitsDraw value.now) }
+    ensures err { OnErr result (out.new.items ≡ out.old.items) }
+{
+    put_last(alloc, value, out)
+}
+
+/// Writes a list of draws.
+pub fn put_draws(alloc: Global, value: &Draws, out: &mut Vec<u8>) -> Result<(), NoMemory>
+    ensures written { OnOk result (out.new.items ≡ out.old.items ++ spell_draws value.now) }
+    ensures fitting { OnOk result (FitsDraws value.now) }
+    ensures err { OnErr result (out.new.items ≡ out.old.items) }
+{
+    put_last(alloc, value, out)
+}
+
+/// Writes an operand.
+pub fn put_operand(alloc: Global, value: &Operand, out: &mut Vec<u8>) -> Result<(), NoMemory>
+    ensures written { OnOk result (out.new.items ≡ out.old.items ++ spell_operand value.now) }
+    ensures fitting { OnOk result (FitsOperand value.now) }
+    ensures err { OnErr result (out.new.items ≡ out.old.items) }
+{
+    put_last(alloc, value, out)
+}
+
+/// Writes a list of operands.
+pub fn put_operands(alloc: Global, value: &Operands, out: &mut Vec<u8>) -> Result<(), NoMemory>
+    ensures written { OnOk result (out.new.items ≡ out.old.items ++ spell_operands value.now) }
+    ensures fitting { OnOk result (FitsOperands value.now) }
+    ensures err { OnErr result (out.new.items ≡ out.old.items) }
+{
+    put_last(alloc, value, out)
+}
+
+/// Writes a change.
+pub fn put_change(alloc: Global, value: &Change, out: &mut Vec<u8>) -> Result<(), NoMemory>
+    ensures written { OnOk result (out.new.items ≡ out.old.items ++ spell_change value.now) }
+    ensures fitting { OnOk result (FitsChange value.now) }
+    ensures err { OnErr result (out.new.items ≡ out.old.items) }
+{
+    put_last(alloc, value, out)
+}
+
+/// Writes a test.
+pub fn put_test(alloc: Global, value: &Test, out: &mut Vec<u8>) -> Result<(), NoMemory>
+    ensures written { OnOk result (out.new.items ≡ out.old.items ++ spell_test value.now) }
+    ensures fitting { OnOk result (FitsTest value.now) }
+    ensures err { OnErr result (out.new.items ≡ out.old.items) }
+{
+    put_last(alloc, value, out)
+}
+
+/// Writes a statement.
+pub fn put_statement(alloc: Global, value: &Statement, out: &mut Vec<u8>) -> Result<(), NoMemory>
+    ensures written { OnOk result (out.new.items ≡ out.old.items ++ spell_statement value.now) }
+    ensures fitting { OnOk result (FitsStatement value.now) }
+    ensures err { OnErr result (out.new.items ≡ out.old.items) }
+{
+    put_last(alloc, value, out)
+}
+
+/// Writes a list of statements.
+pub fn put_statements(alloc: Global, value: &Statements, out: &mut Vec<u8>) -> Result<(), NoMemory>
+    ensures written { OnOk result (out.new.items ≡ out.old.items ++ spell_statements value.now) }
+    ensures fitting { OnOk result (FitsStatements value.now) }
+    ensures err { OnErr result (out.new.items ≡ out.old.items) }
+{
+    put_last(alloc, value, out)
+}
