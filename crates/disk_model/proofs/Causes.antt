@@ -1,5 +1,5 @@
 -- How the causes of faults, and the stop, go on from call to call.
-use Rattle.std.proofs.Common.{◌≡◌, refl, ap, ℕ, ◌+◌, ◌≤◌, Option, Some, None, inl, inr, sym, ◌∙◌, subst, arith}
+use Rattle.std.proofs.Common.{refl, ℕ, ◌+◌, ◌≤◌, Option, Some, None, inl, inr, sym, ◌∙◌, subst, arith}
 use Rattle.std.specs.Prelude.{IsTrue}
 use Rattle.disk_model.specs.Disk.{DiskState, HasRisen, Allows, Lowered, Caused, OnlyReads}
 

@@ -1,9 +1,7 @@
-use Rattle.std.proofs.Common.{◌≡◌, ◌⊎◌, ℕ, ◌+◌, ◌<◌, ◌≤◌, [], ◌∷◌, ◌++◌, List, length, inl, inr, ⊎_elim, refl, sym, ◌∙◌, ap, subst, arith}
+use Rattle.std.proofs.Common.{◌≡◌, ℕ, ◌+◌, [], ◌∷◌, List, inl, inr, ⊎_elim, sym, ◌∙◌, ap, subst, arith}
 use Rattle.std.proofs.lemmas.Bool.{cases_lt}
-use Rattle.disk_model.specs.declared.written.Written.{Written}
 use Rattle.disk_model.specs.Moment.{InRanges}
 use Rattle.disk_model.specs.Log.{ranges_of}
-use Rattle.disk_model.specs.Kept.{cases_outside}
 use Rattle.disk_model.proofs.Past.{ranges_push, ranges_snoc, unwind}
 use Rattle.disk_model.proofs.crash.all_ones.Goals as goal
 

@@ -1,4 +1,4 @@
-use Rattle.std.proofs.Common.{◌≡◌, ℕ, ◌<◌, ◌⊎◌, [], length, vec_len}
+use Rattle.std.proofs.Common.{◌≡◌, ℕ, ◌⊎◌, [], length, vec_len}
 use Rattle.std.specs.Prelude.{slice_index}
 use Rattle.disk_model.specs.Moment.{InRanges}
 use Rattle.disk_model.specs.Log.{ranges_of}

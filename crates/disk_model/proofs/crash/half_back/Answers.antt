@@ -1,7 +1,6 @@
-use Rattle.std.proofs.Common.{◌≡◌, ◌⊎◌, ℕ, ◌+◌, ◌%◌, ◌<◌, ◌≤◌, [], ◌∷◌, ◌++◌, List, length, get_or, inl, inr, ⊎_elim, refl, sym, ◌∙◌, ap, subst, arith}
+use Rattle.std.proofs.Common.{◌≡◌, ◌⊎◌, ℕ, ◌+◌, ◌%◌, ◌<◌, ◌≤◌, List, length, get_or, inl, inr, ⊎_elim, refl, sym, ◌∙◌, ap, arith}
 use Rattle.std.proofs.lemmas.Bool.{cases_lt}
-use Rattle.disk_model.specs.declared.written.Written.{Written}
-use Rattle.disk_model.proofs.Past.{unwind, unwound_start, unwound_end, unwound_all}
+use Rattle.disk_model.proofs.Past.{unwind, unwound_start, unwound_end}
 use Rattle.disk_model.proofs.Halves.{bytes_before_inside, bytes_before_outside}
 use Rattle.disk_model.proofs.crash.half_back.Goals as goal
 

@@ -1,6 +1,5 @@
-use Rattle.std.proofs.Common.{◌≡◌, ℕ, ◌%◌, ◌<◌, ◌≤◌, List, length, vec_len}
+use Rattle.std.proofs.Common.{◌≡◌, ℕ, ◌%◌, ◌<◌, length, vec_len}
 use Rattle.std.specs.Prelude.{slice_index}
-use Rattle.disk_model.specs.Log.{first_bytes, synced_of, IsLog}
 use Rattle.disk_model.proofs.Past.{Unwound}
 use Rattle.disk_model.proofs.crash.half_back.Given as goal
 

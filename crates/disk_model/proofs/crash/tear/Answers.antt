@@ -1,10 +1,9 @@
-use Rattle.std.proofs.Common.{◌≡◌, ◌⊎◌, ℕ, ◌%◌, ◌<◌, ◌≤◌, List, length, inl, inr, ⊎_elim, refl, sym, ◌∙◌, ap, subst, arith, Vec, Global}
-use Rattle.std.specs.Prelude.{slice_index}
+use Rattle.std.proofs.Common.{◌≡◌, ◌⊎◌, ℕ, ◌%◌, List, inl, inr, ⊎_elim, refl, sym, ◌∙◌, subst, arith, Vec, Global}
 use Rattle.std.proofs.lemmas.Bool.{cases_eq}
-use Rattle.disk_model.specs.Moment.{Moment, MayLeave, InRanges}
+use Rattle.disk_model.specs.Moment.{Moment, MayLeave}
 use Rattle.disk_model.specs.Log.{now_of}
 use Rattle.disk_model.specs.Kept.{reads_now_of}
-use Rattle.disk_model.specs.Picks.{IsPicked, IsHalfNew, IsOnes}
+use Rattle.disk_model.specs.Picks.{IsHalfNew, IsOnes}
 use Rattle.disk_model.proofs.crash.tear.Goals as goal
 use Rattle.disk_model.proofs.crash.tear.Goals.{in-0, in-1, in-2, in_default}
 
