@@ -1,0 +1,41 @@
+-- The two writes of an append, as what a crash meanwhile leaves of the records.
+use Rattle.std.proofs.Common.{◌≡◌, ◌⊎◌, ℕ, ◌+◌, ◌^◌, ◌<◌, List, [], ◌∷◌, ◌++◌, length, inl, inr, refl, sym, ap, subst}
+use Rattle.disk_model.specs.Moment.{Torn, with_bytes}
+use Rattle.disk_model.specs.Disk.{DiskState, Meanwhile, LeftSince, moment, IsSettled}
+use Rattle.disk_model.specs.declared.disk.DiskFault.{DiskFault}
+use Rattle.disk_model.specs.declared.disk.DiskFault.TheVariants.{Failed, NoMemory}
+use Rattle.disk_model.proofs.Moments.{then, weaker, since}
+use Rattle.disk_model.proofs.Writes.{torn_with_bytes}
+use Rattle.redo_store.specs.Records.{length_bytes, records_of}
+use Rattle.redo_store.specs.Store.{IsStore, IsOldOrNew}
+use Rattle.redo_store.proofs.Gates.{tail_within, same_records, behind_gate, old_or_new}
+
+pub fault_cases : (fault : DiskFault) → (fault ≡ Failed) ⊎ (fault ≡ NoMemory)
+fault_cases Failed = inl refl
+fault_cases NoMemory = inr refl
+
+-- a crash since the start of a call on a disk with nothing pending
+pub old_or_new_since : (s u : DiskState) (payload : List ℕ) → IsSettled s → Meanwhile s u (IsOldOrNew s.now.seen payload) → (image : List ℕ) → LeftSince u (moment s) image → IsOldOrNew s.now.seen payload image
+old_or_new_since s u payload settled run image left = since s u (IsOldOrNew s.now.seen payload) run (λ i now. inl (ap records_of (settled i now))) image left
+
+module _ (s t : DiskState) (tail : ℕ) (store : IsStore tail s.now.seen) (payload body : List ℕ) where
+  -- the first leaves the records as they were
+  pub body_written : Meanwhile s t (Torn (tail + 1) (length body) s.now.seen) → Meanwhile s t (IsOldOrNew s.now.seen payload)
+  body_written run = weaker s t (Torn (tail + 1) (length body) s.now.seen) (IsOldOrNew s.now.seen payload) run (λ image torn. inl (same_records tail s.now.seen store (length body) image torn))
+
+  module _ (staged : t.now.seen ≡ with_bytes (tail + 1) body s.now.seen) where
+    torn : Torn (tail + 1) (length body) s.now.seen t.now.seen
+    torn = subst (λ (l : List ℕ). Torn (tail + 1) (length body) s.now.seen l) (sym staged) (torn_with_bytes (tail + 1) body s.now.seen (tail_within tail s.now.seen store))
+
+    pub kept : records_of t.now.seen ≡ records_of s.now.seen
+    kept = same_records tail s.now.seen store (length body) t.now.seen torn
+
+    pub still_store : IsStore tail t.now.seen
+    still_store = behind_gate tail s.now.seen store (length body) t.now.seen torn
+
+    -- the second leaves them with the payload or without
+    pub gate_written : (u : DiskState) → length payload < 2 ^ 64 → body ≡ length_bytes (length payload) ++ payload ++ 0 ∷ [] → Meanwhile s t (Torn (tail + 1) (length body) s.now.seen) → Meanwhile t u (Torn tail 1 t.now.seen) → Meanwhile s u (IsOldOrNew s.now.seen payload)
+    gate_written u short spells first second =
+        then s t u (IsOldOrNew s.now.seen payload) (body_written first)
+        (weaker t u (Torn tail 1 t.now.seen) (IsOldOrNew s.now.seen payload) second
+        (λ image at_gate. old_or_new tail s.now.seen store payload body short spells image (subst (λ (l : List ℕ). Torn tail 1 l image) staged at_gate)))

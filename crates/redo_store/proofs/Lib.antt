@@ -1,0 +1,4 @@
+pub mod Grammar
+pub mod Gates
+pub mod Appending
+pub mod Walk

@@ -1,0 +1,47 @@
+-- The grammar of a store's bytes.
+use Rattle.std.specs.Prelude.{ℕ, suc, zero, ◌+◌, ◌==◌, if◌then◌else◌, nat_le, List, [], ◌∷◌, ◌++◌, length, take, drop, Result, Ok, Err}
+use Rattle.std.specs.Str.{bytes_eq}
+use Rattle.std.specs.Int.{to_be_bytes, from_be_bytes, w64}
+
+-- the bytes of "TGSTORE1"
+abbrev pub magic : List ℕ
+magic = 84 ∷ 71 ∷ 83 ∷ 84 ∷ 79 ∷ 82 ∷ 69 ∷ 49 ∷ []
+
+-- a length as eight bytes, the most significant first
+unfoldable pub length_bytes : ℕ → List ℕ
+length_bytes n = to_be_bytes w64 n
+
+-- the length that eight bytes spell
+unfoldable pub length_of : List ℕ → ℕ
+length_of bytes = from_be_bytes w64 bytes
+
+-- a record in front of others that were read
+abbrev pub with_first : List ℕ → Result (List (List ℕ)) ℕ → Result (List (List ℕ)) ℕ
+with_first payload (Ok records) = Ok (payload ∷ records)
+with_first payload (Err place) = Err place
+
+-- The payloads of the records that begin at `place`, or the place of the first gate that is damaged: an open one that no
+-- whole length, no whole payload or no further byte follows. The first `skip` bytes belong to the record before.
+abbrev pub records_from : ℕ → ℕ → List ℕ → Result (List (List ℕ)) ℕ
+records_from place skip [] = Err place
+records_from place (suc skip) (byte ∷ rest) = records_from (suc place) skip rest
+records_from place zero (gate ∷ rest) =
+    if gate == 1 then
+    if nat_le (9 + length_of (take 8 rest)) (length rest) then
+    with_first (take (length_of (take 8 rest)) (drop 8 rest)) (records_from (suc place) (8 + length_of (take 8 rest)) rest)
+    else Err place
+    else Ok []
+
+-- the payloads of the records of an image, or the place where it is damaged
+unfoldable pub records_of : List ℕ → Result (List (List ℕ)) ℕ
+records_of image = if bytes_eq (take 8 image) magic then records_from 8 0 (drop 8 image) else Err 0
+
+-- the bytes of open records with these payloads
+abbrev pub spelling_of : List (List ℕ) → List ℕ
+spelling_of [] = []
+spelling_of (payload ∷ payloads) = 1 ∷ length_bytes (length payload) ++ payload ++ spelling_of payloads
+
+-- the records with one more
+abbrev pub with_last : List ℕ → Result (List (List ℕ)) ℕ → Result (List (List ℕ)) ℕ
+with_last payload (Ok records) = Ok (records ++ payload ∷ [])
+with_last payload (Err place) = Err place

@@ -1,0 +1,100 @@
+//! A record's bytes, written and read.
+ghost use Rattle.std.specs.Prelude.{◌≡◌, ◌+◌, ◌≤◌, ◌<◌, ◌^◌, ◌++◌, ◌∷◌, [], ℕ, length, take, drop, OnOk, OnErr, IfOk, IsErrOf, Err, MatchOption};
+ghost use Rattle.disk_model.specs.Disk.{OnlyReads};
+ghost use Rattle.redo_store.specs.Records.{magic, length_bytes, length_of, records_from, records_of};
+ghost use Rattle.redo_store.specs.Store.{HasRecord, HasClosedGate};
+
+use crate::fault::RedoFault;
+use disk_model::Disk;
+use std::alloc::{AllocError, Global};
+
+/// What a store's bytes begin with.
+pub const MAGIC: [u8; 8] = *b"TGSTORE1";
+
+/// The gate in front of a record that counts.
+pub const OPEN: u8 = 1;
+
+/// The gate behind the last record.
+pub const CLOSED: u8 = 0;
+
+/// How many bytes a record has beside its payload: its gate and its length.
+pub const HEAD: u64 = 9;
+
+// What is written behind a closed gate: the length, the payload and the next closed gate.
+#[tactic(auto, unfolding(crate::specs::Records::length_bytes))]
+pub fn body_of(alloc: Global, payload: &[u8]) -> Result<Vec<u8>, AllocError>
+    ensures body { IfOk result (λ body. body.items ≡ length_bytes (length payload.now) ++ payload.now ++ 0 ∷ []) }
+    ensures short { OnOk result (length payload.now < 2 ^ 64) }
+{
+    let mut body = Vec::with_capacity(alloc, payload.len() + 9)?;
+    body.extend_from_slice(&(payload.len() as u64).to_be_bytes())?;
+    body.extend_from_slice(payload)?;
+    body.push(CLOSED)?;
+    Ok(body)
+}
+
+// The length that eight bytes spell.
+#[tactic(auto, unfolding(crate::specs::Records::length_of))]
+fn length_in(spelling: &[u8; 8]) -> u64
+    ensures length { result ≡ length_of spelling.now }
+    ensures spelling { length_bytes result ≡ spelling.now }
+{
+    u64::from_be_bytes(*spelling)
+}
+
+// Reads what the bytes begin with.
+pub fn check_magic<D: Disk>(disk: &mut D) -> Result<(), RedoFault>
+    ensures magic { OnOk result (take 8 (D.state disk.old).now.seen ≡ magic) }
+    ensures damaged { (place : ℕ) → IsErrOf result (RedoFault.Damaged place) → records_of (D.state disk.old).now.seen ≡ Err place }
+    ensures no_memory { IsErrOf result RedoFault.NoMemory → ⊥ }
+    ensures only_reads { OnlyReads (IsErrOf result RedoFault.Stopped) (D.state disk.old) (D.state disk.new) }
+{
+    let mut front = [0; 8];
+    if disk.size() < 8 {
+        return Err(RedoFault::Damaged(0));
+    }
+    disk.read(0, &mut front)?;
+    if front != MAGIC {
+        return Err(RedoFault::Damaged(0));
+    }
+    Ok(())
+}
+
+// Reads the payload of the record whose gate stands at the place, or none where that gate is closed.
+//
+// A length is believed only once as many bytes are there, so no memory is taken by a length that a damaged store claims.
+pub fn record_at<D: Disk>(
+    alloc: Global,
+    disk: &mut D,
+    place: u64,
+) -> Result<Option<Vec<u8>>, RedoFault>
+    requires { place ≤ length (D.state disk.old).now.seen }
+    ensures found { IfOk result (λ found. MatchOption found
+        (HasClosedGate place (D.state disk.old).now.seen)
+        (λ payload. HasRecord place payload.items (D.state disk.old).now.seen)) }
+    ensures damaged { (at : ℕ) → IsErrOf result (RedoFault.Damaged at)
+        → (at ≡ place) × (records_from place 0 (drop place (D.state disk.old).now.seen) ≡ Err place) }
+    ensures only_reads { OnlyReads (IsErrOf result RedoFault.Stopped) (D.state disk.old) (D.state disk.new) }
+{
+    let rest = disk.size() - place;
+    if rest == 0 {
+        return Err(RedoFault::Damaged(place));
+    }
+    let mut gate = [0];
+    disk.read(place, &mut gate)?;
+    if gate[0] != OPEN {
+        return Ok(None);
+    }
+    if rest <= HEAD {
+        return Err(RedoFault::Damaged(place));
+    }
+    let mut spelling = [0; 8];
+    disk.read(place + 1, &mut spelling)?;
+    let count = length_in(&spelling);
+    if count >= rest - HEAD {
+        return Err(RedoFault::Damaged(place));
+    }
+    let mut payload = vec![in alloc; 0; count as usize]?;
+    disk.read(place + HEAD, &mut payload)?;
+    Ok(Some(payload))
+}

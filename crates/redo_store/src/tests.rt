@@ -1,0 +1,144 @@
+//! What no clause says: that calls succeed, and the values of worked cases.
+ghost use Rattle.std.specs.Prelude.{◌<◌};
+
+use crate::{Redo, RedoFault};
+use disk_model::{MemDisk, StopDisk};
+use std::alloc::{AllocError, Global};
+use std::test::Fail;
+
+// The payloads of the records after an append of the byte aa that is stopped after so many writes and syncs and then
+// crashed, each in hexadecimal digits and followed by a comma.
+fn left_by(alloc: Global, stop: u64, pick: u8) -> Result<String, RedoFault>
+    requires { pick < 4 }
+{
+    let mut disk = MemDisk::new(alloc);
+    Redo::create(&mut disk)?;
+    let (mut redo, _) = Redo::open(alloc, &mut disk)?;
+    disk.stop_after(Some(stop));
+    let _ = redo.append(&mut disk, &[0xaa]);
+    disk.crash(pick);
+    let (_, records) = Redo::open(alloc, &mut disk)?;
+    Ok(spelled(alloc, &records)?)
+}
+
+fn spelled(alloc: Global, records: &[Vec<u8>]) -> Result<String, AllocError> {
+    let mut text = String::new(alloc);
+    for payload in records {
+        for byte in payload {
+            text.push_str(&format!(in alloc; "{byte:02x}")?)?;
+        }
+        text.push(',')?;
+    }
+    Ok(text)
+}
+
+#[test]
+fn a_stop_in_each_call_of_an_append(rt: HostRuntime) -> Result<(), Fail> {
+    let alloc = rt.alloc();
+    for (stop, left) in [
+        (0, ["", "", "", ""]),
+        (1, ["", "", "", ""]),
+        (2, ["", "", "", ""]),
+        (3, ["aa,", "", "aa,", ""]),
+        (4, ["aa,", "aa,", "aa,", "aa,"]),
+    ] {
+        for pick in 0..4 {
+            assert_eq!(rt;
+                left_by(alloc, stop, pick)?.as_str(),
+                left[pick as usize],
+                "stop {stop}, pick {pick}"
+            );
+        }
+    }
+    Ok(())
+}
+
+// A store with the records aa and bbcc, by hand.
+const TWO: [u8; 30] = [
+    0x54, 0x47, 0x53, 0x54, 0x4f, 0x52, 0x45, 0x31, // TGSTORE1
+    1, 0, 0, 0, 0, 0, 0, 0, 1, 0xaa, // at 8
+    1, 0, 0, 0, 0, 0, 0, 0, 2, 0xbb, 0xcc, // at 18
+    0, // the closed gate at 29
+];
+
+// What an opening of the bytes says: the records, or the place of the damage.
+fn opened(alloc: Global, bytes: &[u8]) -> Result<String, AllocError> {
+    let mut disk = MemDisk::of(alloc, bytes)?;
+    match Redo::open(alloc, &mut disk) {
+        Ok((_, records)) => spelled(alloc, &records),
+        Err(RedoFault::Damaged(place)) => format!(in alloc; "damaged at {place}"),
+        Err(fault) => format!(in alloc; "{fault}"),
+    }
+}
+
+#[test]
+fn a_store_cut_short_is_damaged_at_the_gate_that_lost_its_record(
+    rt: HostRuntime,
+) -> Result<(), Fail> {
+    let alloc = rt.alloc();
+    assert_eq!(rt; opened(alloc, &TWO)?.as_str(), "aa,bbcc,");
+    for (count, _) in TWO.iter().enumerate() {
+        let place = if count < 8 {
+            0
+        } else if count < 19 {
+            8
+        } else {
+            18
+        };
+        assert_eq!(rt;
+            opened(alloc, &TWO[..count])?,
+            format!(in alloc; "damaged at {place}")?,
+            "{count} bytes"
+        );
+    }
+    Ok(())
+}
+
+#[test]
+fn bytes_and_what_an_opening_says_of_them(rt: HostRuntime) -> Result<(), Fail> {
+    let alloc = rt.alloc();
+    let cases: [(&[u8], &str); 10] = [
+        // Another front.
+        (b"TGSTORE2\0", "damaged at 0"),
+        (b"tGSTORE1\0", "damaged at 0"),
+        // A closed gate, which any byte but 1 is, and bytes without a meaning behind it.
+        (b"TGSTORE1\0", ""),
+        (b"TGSTORE1\xff\x01", ""),
+        // An empty payload.
+        (b"TGSTORE1\x01\0\0\0\0\0\0\0\0\0", ","),
+        // Lengths that are too large by one, by much, and by so much that a sum with them would wrap.
+        (b"TGSTORE1\x01\0\0\0\0\0\0\0\x02\xaa\0", "damaged at 8"),
+        (b"TGSTORE1\x01\x7f\0\0\0\0\0\0\0\xaa\0", "damaged at 8"),
+        (
+            b"TGSTORE1\x01\xff\xff\xff\xff\xff\xff\xff\xf6\xaa\0",
+            "damaged at 8",
+        ),
+        (
+            b"TGSTORE1\x01\xff\xff\xff\xff\xff\xff\xff\xff\xaa\0",
+            "damaged at 8",
+        ),
+        // The second record alone is damaged.
+        (
+            b"TGSTORE1\x01\0\0\0\0\0\0\0\x01\xaa\x01\0\0\0\0\0\0\0\x01\xbb",
+            "damaged at 18",
+        ),
+    ];
+    for (bytes, said) in cases {
+        assert_eq!(rt; opened(alloc, bytes)?.as_str(), said);
+    }
+    Ok(())
+}
+
+#[test]
+fn the_bytes_of_records_that_were_added(rt: HostRuntime) -> Result<(), Fail> {
+    let alloc = rt.alloc();
+    let mut disk = MemDisk::new(alloc);
+    Redo::create(&mut disk)?;
+    assert_eq!(rt; disk.bytes(), b"TGSTORE1\0".as_slice());
+    let (mut redo, _) = Redo::open(alloc, &mut disk)?;
+    redo.append(&mut disk, &[0xaa])?;
+    redo.append(&mut disk, &[0xbb, 0xcc])?;
+    assert!(rt; redo.is_live());
+    assert_eq!(rt; disk.bytes(), TWO.as_slice());
+    Ok(())
+}
