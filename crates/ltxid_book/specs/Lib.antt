@@ -1,0 +1,4 @@
+pub mod Identifiers
+pub mod Journal
+pub mod Laws
+pub mod Sessions
