@@ -1,0 +1,68 @@
+-- The values of operands. Draws are taken from the front of a list, by kind and name.
+use Rattle.std.specs.Prelude.{◌≡◌, ℕ, ℤ, pos, ◌^◌, ◌-◌, min, Bool, true, false, List, [], ◌∷◌, Option, Some, None, Result, Ok, Err, if◌then◌else◌}
+use Rattle.std.specs.List.{list_any}
+use Rattle.std.specs.Str.{bytes_eq}
+use Rattle.svc_values.specs.declared.value.Value.{Value}
+use Rattle.svc_values.specs.declared.value.Value.TheVariants as value
+use Rattle.svc_values.specs.declared.draw.DrawKind.{DrawKind}
+use Rattle.svc_values.specs.declared.draw.DrawKind.TheVariants as kind
+use Rattle.svc_values.specs.declared.draw.Draw.{Draw}
+use Rattle.svc_values.specs.declared.draw.Draw.TheVariants as draw
+use Rattle.svc_values.specs.declared.statement.Operand.{Operand}
+use Rattle.svc_values.specs.declared.statement.Operand.TheVariants as operand
+use Rattle.svc_values.specs.declared.answer.StatementFault.{StatementFault}
+use Rattle.svc_values.specs.declared.answer.StatementFault.TheVariants as fault
+use Rattle.svc_values.specs.SettingsList.{setting_of}
+
+-- the value that a draw stands for. A tick above the greatest integer stands for that one
+abbrev pub drawn_value : Draw → Value
+drawn_value (draw.Seq name n) = value.Int n
+drawn_value (draw.Clock tick) = value.Int (pos (min tick (2 ^ 63 - 1)))
+drawn_value (draw.Id id) = value.Bytes id
+
+-- the draw is of this kind, a sequence's of this name
+abbrev pub is_of_kind : DrawKind → Draw → Bool
+is_of_kind (kind.Seq asked) (draw.Seq name n) = bytes_eq name asked
+is_of_kind kind.Clock (draw.Clock tick) = true
+is_of_kind kind.Id (draw.Id id) = true
+is_of_kind _ _ = false
+
+-- What reading gives: a value or the fault that refuses the statement, beside the draws that are left;
+-- and nothing at all where the draws don't begin with the one that is asked for.
+abbrev pub Read : Type 0 → Type 0
+Read A = Option (Result A StatementFault × List Draw)
+
+infixl 10 ◌>>=◌
+abbrev pub ◌>>=◌ : {A B : Type 0} → Read A → (A → List Draw → Read B) → Read B
+None >>= next = None
+Some (Err refusal, draws) >>= next = Some (Err refusal, draws)
+Some (Ok x, draws) >>= next = next x draws
+
+-- the first of the draws, where it is of the kind
+abbrev pub take_draw : DrawKind → List Draw → Read Value
+take_draw asked [] = None
+take_draw asked (first ∷ rest) = if is_of_kind asked first then Some (Ok (drawn_value first), rest) else None
+
+abbrev pub is_name_of : List (List ℕ) → List ℕ → Bool
+is_name_of names name = list_any (λ one. bytes_eq one name) names
+
+-- a sequence that is not there refuses the statement, and nothing is drawn
+abbrev pub value_of_draw : List (List ℕ) → DrawKind → List Draw → Read Value
+value_of_draw sequences (kind.Seq name) draws = if is_name_of sequences name then take_draw (kind.Seq name) draws else Some (Err fault.NoSequence, draws)
+value_of_draw sequences kind.Clock draws = take_draw kind.Clock draws
+value_of_draw sequences kind.Id draws = take_draw kind.Id draws
+
+abbrev pub value_of_setting : Option Value → Result Value StatementFault
+value_of_setting None = Err fault.NoVar
+value_of_setting (Some x) = Ok x
+
+abbrev pub value_of : List (List ℕ) → List (List ℕ × Value) → Operand → List Draw → Read Value
+value_of sequences settings (operand.Lit x) draws = Some (Ok x, draws)
+value_of sequences settings (operand.Var name) draws = Some (value_of_setting (setting_of settings name), draws)
+value_of sequences settings (operand.Draw asked) draws = value_of_draw sequences asked draws
+
+-- from left to right, up to the first that refuses
+abbrev pub values_of : List (List ℕ) → List (List ℕ × Value) → List Operand → List Draw → Read (List Value)
+values_of sequences settings [] draws = Some (Ok [], draws)
+values_of sequences settings (first ∷ rest) draws =
+    value_of sequences settings first draws >>= λ x left. values_of sequences settings rest left >>= λ xs over. Some (Ok (x ∷ xs), over)

@@ -1,0 +1,38 @@
+-- Transactions that were run call by call, each call on what was committed at its moment.
+use Rattle.std.specs.Prelude.{◌≡◌, ℕ, List, [], ◌∷◌, ◌++◌, All}
+use Rattle.svc_values.specs.declared.value.Value.{Value}
+use Rattle.svc_values.specs.declared.schema.Shape.{Shape}
+use Rattle.svc_values.specs.declared.entry.Piece.{Piece}
+use Rattle.svc_values.specs.declared.entry.Write.{Write}
+use Rattle.stmt_meaning.specs.declared.tables.PlainRow.{PlainRow}
+use Rattle.stmt_meaning.specs.Tables.{rows_at, with_writes, AreTables}
+use Rattle.stmt_meaning.specs.Meaning.{Meant}
+use Rattle.stmt_meaning.specs.Serial.{Replays}
+
+-- A call of a transaction: the committed tables at its moment, and the piece that it left.
+pub record Moment : Type 0 where
+  pub committed : List PlainRow
+  pub piece : Piece
+
+-- The calls in order, each on the tables committed at its moment with the transaction's own earlier writes over them.
+-- `own` and `settings` are those before the first call, `own_after` and `settings_after` those after the last.
+abbrev pub RanAt : Shape → List (List ℕ × Value) → List Write → List Moment → List (List ℕ × Value) → List Write → Type 0
+RanAt shape settings own [] settings_after own_after = (settings_after ≡ settings) × (own_after ≡ own)
+RanAt shape settings own (moment ∷ moments) settings_after own_after =
+    (meant : Meant) × (Replays shape (with_writes moment.committed own) settings moment.piece meant × RanAt shape meant.settings (own ++ meant.writes) moments settings_after own_after)
+
+-- Each place that a call read has on the tables of now the value that was committed at the call's moment.
+abbrev pub Unchanged : Shape → List (List ℕ × Value) → List Write → List Moment → List PlainRow → Type 0
+Unchanged shape settings own [] now = Unit {0}
+Unchanged shape settings own (moment ∷ moments) now =
+    (meant : Meant) → Replays shape (with_writes moment.committed own) settings moment.piece meant →
+    All (λ place. rows_at moment.committed place ≡ rows_at now place) meant.reads × Unchanged shape meant.settings (own ++ meant.writes) moments now
+
+-- all at one moment
+abbrev pub at_once : List PlainRow → List Moment → List Moment
+at_once now [] = []
+at_once now (moment ∷ moments) = record { committed = now; piece = moment.piece } ∷ at_once now moments
+
+abbrev pub AreOrdered : List Moment → Type 0
+AreOrdered [] = Unit {0}
+AreOrdered (moment ∷ moments) = AreTables moment.committed × AreOrdered moments
