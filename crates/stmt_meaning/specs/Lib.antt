@@ -1,8 +1,10 @@
+pub mod Answers
 pub mod Effects
 pub mod Fitting
 pub mod Meaning
 pub mod Operands
 pub mod Plans
 pub mod Rerun
+pub mod Seen
 pub mod Serial
 pub mod Tables
