@@ -1,5 +1,9 @@
 -- What a plan answers and writes, from the rows at its one place.
+<<<<<<< HEAD
 use Rattle.std.specs.Prelude.{◌≡◌, ℕ, ℤ, pos, negsuc, ◌+ℤ◌, ◌^◌, Bool, true, false, List, [], ◌∷◌, Option, Some, None, length, map, filter, nat_lt, slice_set, slice_get, if◌then◌else◌}
+=======
+use Rattle.std.specs.Prelude.{◌≡◌, ℕ, ℤ, pos, negsuc, ◌+ℤ◌, ◌^◌, Bool, true, false, List, [], ◌∷◌, Option, Some, None, length, filter, nat_lt, slice_set, slice_get, if◌then◌else◌}
+>>>>>>> a1f0535943d4e6828f0f293fe6527bab7b2d057c
 use Rattle.std.specs.Ordering.{match_ordering}
 use Rattle.std.specs.declared.cmp.Ordering.{Ordering}
 use Rattle.svc_values.specs.declared.value.Value.{Value}
@@ -10,6 +14,7 @@ use Rattle.svc_values.specs.declared.answer.Answer.{Answer}
 use Rattle.svc_values.specs.declared.answer.Answer.TheVariants as answer
 use Rattle.svc_values.specs.declared.answer.StatementFault.{StatementFault}
 use Rattle.svc_values.specs.declared.answer.StatementFault.TheVariants as fault
+<<<<<<< HEAD
 use Rattle.svc_values.specs.declared.entry.Write.{Write}
 use Rattle.svc_values.specs.Order.{value_cmp}
 use Rattle.stmt_meaning.specs.declared.plan.Plan.{Plan}
@@ -34,6 +39,16 @@ place_of (plan.Select table at compared than) = Some (place.Table table)
 place_of (plan.Count table) = Some (place.Table table)
 place_of (plan.Sum table at) = Some (place.Table table)
 place_of (plan.Show shown) = None
+=======
+use Rattle.svc_values.specs.Order.{value_cmp}
+use Rattle.stmt_meaning.specs.declared.effect.Effect.{Effect}
+use Rattle.stmt_meaning.specs.declared.plan.Plan.{Plan}
+use Rattle.stmt_meaning.specs.declared.plan.Plan.TheVariants as plan
+use Rattle.stmt_meaning.specs.declared.plan.RowWork.{RowWork}
+use Rattle.stmt_meaning.specs.declared.plan.RowWork.TheVariants as row_work
+use Rattle.stmt_meaning.specs.declared.plan.TableWork.{TableWork}
+use Rattle.stmt_meaning.specs.declared.plan.TableWork.TheVariants as table_work
+>>>>>>> a1f0535943d4e6828f0f293fe6527bab7b2d057c
 
 -- an integer of 64 bits
 abbrev pub fits_i64 : ℤ → Bool
@@ -48,9 +63,15 @@ number_of _ = pos 0
 abbrev pub number_at : List Value → ℕ → ℤ
 number_at row at = number_of (slice_get row at)
 
+<<<<<<< HEAD
 abbrev pub total : ℕ → List PlainRow → ℤ
 total at [] = pos 0
 total at (first ∷ rest) = number_at first.row at +ℤ total at rest
+=======
+abbrev pub total : ℕ → List (List Value) → ℤ
+total at [] = pos 0
+total at (first ∷ rest) = number_at first at +ℤ total at rest
+>>>>>>> a1f0535943d4e6828f0f293fe6527bab7b2d057c
 
 abbrev pub meets : Test → Ordering → Bool
 meets test.Eq order = match_ordering order false true false
@@ -62,6 +83,7 @@ value_meets compared than None = false
 value_meets compared than (Some x) = meets compared (value_cmp x than)
 
 -- the rows whose value in the column meets the test
+<<<<<<< HEAD
 abbrev pub selected : ℕ → Test → Value → List PlainRow → List PlainRow
 selected at compared than rows = filter (λ one. value_meets compared than (slice_get one.row at)) rows
 
@@ -74,17 +96,29 @@ Effect = Answer × List Write
 
 abbrev pub only : Answer → Effect
 only a = (a, [])
+=======
+abbrev pub selected : ℕ → Test → Value → List (List Value) → List (List Value)
+selected at compared than rows = filter (λ row. value_meets compared than (slice_get row at)) rows
+
+abbrev pub only : Answer → Effect
+only a = record { answer = a; write = None }
+>>>>>>> a1f0535943d4e6828f0f293fe6527bab7b2d057c
 
 abbrev pub refused : StatementFault → Effect
 refused refusal = only (answer.Refused refusal)
 
 -- one row was written, or taken away
 abbrev pub wrote : List ℕ → Value → Option (List Value) → Effect
+<<<<<<< HEAD
 wrote table key row = (answer.Done 1, record { table = table; key = key; row = row } ∷ [])
+=======
+wrote table key row = record { answer = answer.Done 1; write = Some (record { table = table; key = key; row = row }) }
+>>>>>>> a1f0535943d4e6828f0f293fe6527bab7b2d057c
 
 abbrev pub added : List ℕ → Value → ℕ → List Value → ℤ → Effect
 added table key at row sum = if fits_i64 sum then wrote table key (Some (slice_set row at (value.Int sum))) else refused fault.SumRange
 
+<<<<<<< HEAD
 abbrev pub limited : List PlainRow → Effect
 limited rows = if nat_lt 32 (length rows) then refused fault.TooManyRows else only (answer.Rows (rows_of rows))
 
@@ -105,4 +139,39 @@ effect (plan.Get table key) rows = only (answer.Rows (rows_of rows))
 effect (plan.Select table at compared than) rows = limited (selected at compared than rows)
 effect (plan.Count table) rows = only (answer.Number (pos (length rows)))
 effect (plan.Sum table at) rows = summed (total at rows)
+=======
+-- On the row of a key. A missing row is nothing to change, and an insert wants none there.
+abbrev pub row_effect : List ℕ → Value → RowWork → Option (List Value) → Effect
+row_effect table key (row_work.Insert row) None = wrote table key (Some row)
+row_effect table key (row_work.Insert row) (Some there) = refused fault.DuplicateKey
+row_effect table key (row_work.Set at to) None = only (answer.Done 0)
+row_effect table key (row_work.Set at to) (Some there) = wrote table key (Some (slice_set there at to))
+row_effect table key (row_work.Add at by) None = only (answer.Done 0)
+row_effect table key (row_work.Add at by) (Some there) = added table key at there (number_at there at +ℤ by)
+row_effect table key row_work.Delete None = only (answer.Done 0)
+row_effect table key row_work.Delete (Some there) = wrote table key None
+row_effect table key row_work.Get None = only (answer.Rows [])
+row_effect table key row_work.Get (Some there) = only (answer.Rows (there ∷ []))
+
+abbrev pub limited : List (List Value) → Answer
+limited rows = if nat_lt 32 (length rows) then answer.Refused fault.TooManyRows else answer.Rows rows
+
+abbrev pub summed : ℤ → Answer
+summed sum = if fits_i64 sum then answer.Number sum else answer.Refused fault.SumRange
+
+-- From all rows of a table, in order of key. Nothing is written.
+abbrev pub table_answer : TableWork → List (List Value) → Answer
+table_answer (table_work.Select at compared than) rows = limited (selected at compared than rows)
+table_answer table_work.Count rows = answer.Number (pos (length rows))
+table_answer (table_work.Sum at) rows = summed (total at rows)
+
+abbrev pub first_of : List (List Value) → Option (List Value)
+first_of [] = None
+first_of (row ∷ more) = Some row
+
+-- From the rows at the plan's place: those of its table, or the one of its key.
+abbrev pub effect : Plan → List (List Value) → Effect
+effect (plan.AtRow table key work) rows = row_effect table key work (first_of rows)
+effect (plan.InTable table work) rows = only (table_answer work rows)
+>>>>>>> a1f0535943d4e6828f0f293fe6527bab7b2d057c
 effect (plan.Show shown) rows = only (answer.Rows ((shown ∷ []) ∷ []))

@@ -13,12 +13,24 @@ use Rattle.svc_values.specs.declared.statement.Operand.{Operand}
 use Rattle.svc_values.specs.declared.statement.Change.{Change}
 use Rattle.svc_values.specs.declared.statement.Change.TheVariants as change
 use Rattle.svc_values.specs.declared.statement.Statement.{Statement}
+<<<<<<< HEAD
+=======
+use Rattle.svc_values.specs.declared.statement.Test.{Test}
+>>>>>>> a1f0535943d4e6828f0f293fe6527bab7b2d057c
 use Rattle.svc_values.specs.declared.statement.Statement.TheVariants as statement
 use Rattle.svc_values.specs.declared.answer.StatementFault.{StatementFault}
 use Rattle.svc_values.specs.declared.answer.StatementFault.TheVariants as fault
 use Rattle.svc_values.specs.Kinds.{kind_of, same_kind, row_fits}
 use Rattle.stmt_meaning.specs.declared.plan.Plan.{Plan}
 use Rattle.stmt_meaning.specs.declared.plan.Plan.TheVariants as plan
+<<<<<<< HEAD
+=======
+use Rattle.stmt_meaning.specs.declared.plan.RowWork.{RowWork}
+use Rattle.stmt_meaning.specs.declared.plan.RowWork.TheVariants as row_work
+use Rattle.stmt_meaning.specs.declared.plan.TableWork.TheVariants as table_work
+use Rattle.stmt_meaning.specs.declared.tables.Place.{Place}
+use Rattle.stmt_meaning.specs.declared.tables.Place.TheVariants as place
+>>>>>>> a1f0535943d4e6828f0f293fe6527bab7b2d057c
 use Rattle.stmt_meaning.specs.Operands.{Read, ◌>>=◌, values_of}
 
 abbrev pub schema_of : List Schema → List ℕ → Option Schema
@@ -28,6 +40,7 @@ schema_of schemas table = find (λ schema. bytes_eq schema.name table) schemas
 abbrev pub column_of : List Column → List ℕ → Option ℕ
 column_of columns name = position (λ column. bytes_eq column.name name) columns
 
+<<<<<<< HEAD
 -- the column at this place is of this kind
 abbrev pub is_of_kind : List Column → ℕ → Kind → Bool
 is_of_kind columns at wanted = is_kind (slice_get columns at)
@@ -39,6 +52,19 @@ is_of_kind columns at wanted = is_kind (slice_get columns at)
 -- a key is of the first column's kind
 abbrev pub key_fits : List Column → Value → Bool
 key_fits columns key = is_of_kind columns 0 (kind_of key)
+=======
+abbrev pub is_kind : Kind → Option Column → Bool
+is_kind wanted None = false
+is_kind wanted (Some column) = same_kind column.kind wanted
+
+-- the column at this place is of this kind
+abbrev pub is_column_kind : List Column → ℕ → Kind → Bool
+is_column_kind columns at wanted = is_kind wanted (slice_get columns at)
+
+-- a key is of the first column's kind
+abbrev pub key_fits : List Column → Value → Bool
+key_fits columns key = is_column_kind columns 0 (kind_of key)
+>>>>>>> a1f0535943d4e6828f0f293fe6527bab7b2d057c
 
 -- the operands in the order in which they are read
 abbrev pub operand_of : Change → Operand
@@ -56,6 +82,7 @@ operands_of (statement.Sum table column) = []
 operands_of (statement.Show operand) = operand ∷ []
 
 -- where a statement works: the columns of its table, and the place of the column that it names (0 where it names none)
+<<<<<<< HEAD
 pub record Target : Type 0 where
   pub columns : List Column
   pub at : ℕ
@@ -89,10 +116,51 @@ target_of schemas (statement.Select table column test operand) = in_table (schem
 target_of schemas (statement.Count table) = in_table (schema_of schemas table) whole
 target_of schemas (statement.Sum table column) = in_table (schema_of schemas table) (in_column column)
 target_of schemas (statement.Show operand) = whole []
+=======
+pub record Aim : Type 0 where
+  pub columns : List Column
+  pub at : ℕ
+
+abbrev pub in_table : Option Schema → (List Column → Result Aim StatementFault) → Result Aim StatementFault
+in_table None next = Err fault.NoTable
+in_table (Some schema) next = next schema.columns
+
+abbrev pub whole : List Column → Result Aim StatementFault
+whole columns = Ok (record { columns = columns; at = 0 })
+
+abbrev pub at_column : List Column → Option ℕ → Result Aim StatementFault
+at_column columns None = Err fault.NoColumn
+at_column columns (Some at) = Ok (record { columns = columns; at = at })
+
+abbrev pub in_column : List ℕ → List Column → Result Aim StatementFault
+in_column name columns = at_column columns (column_of columns name)
+
+-- an update does not change the key
+abbrev pub but_key : Result Aim StatementFault → Result Aim StatementFault
+but_key (Err refusal) = Err refusal
+but_key (Ok aim) = if aim.at == 0 then Err fault.KeyColumn else Ok aim
+
+-- What is checked before an operand is read: the table, the column, and that an update's is not the key.
+abbrev pub aim_of : List Schema → Statement → Result Aim StatementFault
+aim_of schemas (statement.Insert table operands) = in_table (schema_of schemas table) whole
+aim_of schemas (statement.Update table key column by) = but_key (in_table (schema_of schemas table) (in_column column))
+aim_of schemas (statement.Delete table key) = in_table (schema_of schemas table) whole
+aim_of schemas (statement.Get table key) = in_table (schema_of schemas table) whole
+aim_of schemas (statement.Select table column test operand) = in_table (schema_of schemas table) (in_column column)
+aim_of schemas (statement.Count table) = in_table (schema_of schemas table) whole
+aim_of schemas (statement.Sum table column) = in_table (schema_of schemas table) (in_column column)
+aim_of schemas (statement.Show operand) = whole []
+
+-- the first value is the key
+abbrev pub key_of : List Value → Value
+key_of [] = value.Int (pos 0)
+key_of (key ∷ rest) = key
+>>>>>>> a1f0535943d4e6828f0f293fe6527bab7b2d057c
 
 abbrev pub if_kinds_fit : Bool → Plan → Result Plan StatementFault
 if_kinds_fit fits asked = if fits then Ok asked else Err fault.KindDiffers
 
+<<<<<<< HEAD
 abbrev pub set_plan : Target → List ℕ → List Value → Result Plan StatementFault
 set_plan target table (key ∷ to ∷ []) = if_kinds_fit (key_fits target.columns key && is_of_kind target.columns target.at (kind_of to)) (plan.Set table key target.at to)
 set_plan target table _ = Err fault.KindDiffers
@@ -133,3 +201,55 @@ plan_at shape settings asked draws (Ok target) = values_of shape.sequences setti
 -- The checks in their order: the names, the operands from left to right, and then the kinds.
 abbrev pub plan_of : Shape → List (List ℕ × Value) → Statement → List Draw → Read Plan
 plan_of shape settings asked draws = plan_at shape settings asked draws (target_of shape.schemas asked)
+=======
+-- (A statement has a value for each of its operands, so that none is missing in what follows.)
+abbrev pub key_plan : Aim → List ℕ → RowWork → Option Value → Result Plan StatementFault
+key_plan aim table work None = Err fault.KindDiffers
+key_plan aim table work (Some key) = if_kinds_fit (key_fits aim.columns key) (plan.AtRow table key work)
+
+abbrev pub set_plan : Aim → List ℕ → Option Value → Option Value → Result Plan StatementFault
+set_plan aim table key None = Err fault.KindDiffers
+set_plan aim table key (Some to) = if is_column_kind aim.columns aim.at (kind_of to) then key_plan aim table (row_work.Set aim.at to) key else Err fault.KindDiffers
+
+-- a number is added, and to an integer
+abbrev pub add_plan : Aim → List ℕ → Option Value → Option Value → Result Plan StatementFault
+add_plan aim table key (Some (value.Int by)) = if is_column_kind aim.columns aim.at kind.Int then key_plan aim table (row_work.Add aim.at by) key else Err fault.KindDiffers
+add_plan aim table key _ = Err fault.KindDiffers
+
+abbrev pub change_plan : Aim → List ℕ → Change → Option Value → Option Value → Result Plan StatementFault
+change_plan aim table (change.To operand) key to = set_plan aim table key to
+change_plan aim table (change.Plus operand) key by = add_plan aim table key by
+
+abbrev pub select_plan : Aim → List ℕ → Test → Option Value → Result Plan StatementFault
+select_plan aim table test None = Err fault.KindDiffers
+select_plan aim table test (Some than) = if_kinds_fit (is_column_kind aim.columns aim.at (kind_of than)) (plan.InTable table (table_work.Select aim.at test than))
+
+abbrev pub show_plan : Option Value → Result Plan StatementFault
+show_plan None = Err fault.KindDiffers
+show_plan (Some shown) = Ok (plan.Show shown)
+
+-- What is to be done with the operands' values, if their kinds are the columns'.
+abbrev pub plan_for : Aim → Statement → List Value → Result Plan StatementFault
+plan_for aim (statement.Insert table operands) values = if_kinds_fit (row_fits aim.columns values) (plan.AtRow table (key_of values) (row_work.Insert values))
+plan_for aim (statement.Update table key column by) values = change_plan aim table by (slice_get values 0) (slice_get values 1)
+plan_for aim (statement.Delete table key) values = key_plan aim table row_work.Delete (slice_get values 0)
+plan_for aim (statement.Get table key) values = key_plan aim table row_work.Get (slice_get values 0)
+plan_for aim (statement.Select table column test operand) values = select_plan aim table test (slice_get values 0)
+plan_for aim (statement.Count table) values = Ok (plan.InTable table table_work.Count)
+plan_for aim (statement.Sum table column) values = if_kinds_fit (is_column_kind aim.columns aim.at kind.Int) (plan.InTable table (table_work.Sum aim.at))
+plan_for aim (statement.Show operand) values = show_plan (slice_get values 0)
+
+abbrev pub plan_at : Shape → List (List ℕ × Value) → Statement → List Draw → Result Aim StatementFault → Read Plan
+plan_at shape settings asked draws (Err refusal) = Some (Err refusal, draws)
+plan_at shape settings asked draws (Ok aim) = values_of shape.sequences settings (operands_of asked) draws >>= λ values left. Some (plan_for aim asked values, left)
+
+-- The checks in their order: the names, the operands from left to right, and then the kinds.
+abbrev pub plan_of : Shape → List (List ℕ × Value) → Statement → List Draw → Read Plan
+plan_of shape settings asked draws = plan_at shape settings asked draws (aim_of shape.schemas asked)
+
+-- the place that is read: a row, or a whole table, or none
+abbrev pub place_of : Plan → Option Place
+place_of (plan.AtRow table key work) = Some (place.Row table key)
+place_of (plan.InTable table work) = Some (place.Table table)
+place_of (plan.Show shown) = None
+>>>>>>> a1f0535943d4e6828f0f293fe6527bab7b2d057c

@@ -1,0 +1,23 @@
+-- What is borrowed, seen as plain values.
+use Rattle.std.specs.Prelude.{Result, Ok, Err}
+use Rattle.svc_values.specs.declared.answer.StatementFault.{StatementFault}
+use Rattle.stmt_meaning.specs.declared.target.Target.{Target}
+use Rattle.stmt_meaning.specs.declared.operand.Wanted.{Wanted as Lent}
+use Rattle.stmt_meaning.specs.declared.operand.Wanted.TheVariants as lent
+use Rattle.stmt_meaning.specs.Operands.{Wanted, Known, Drawn}
+use Rattle.stmt_meaning.specs.Plans.{Aim}
+
+abbrev pub aim : Target → Aim
+aim target = record { columns = target.columns.now; at = target.at }
+
+abbrev pub aim_seen : Result Target StatementFault → Result Aim StatementFault
+aim_seen (Err refusal) = Err refusal
+aim_seen (Ok target) = Ok (aim target)
+
+abbrev pub wanted_value : Lent → Wanted
+wanted_value (lent.Known x) = Known x.now
+wanted_value (lent.Drawn asked) = Drawn asked.now
+
+abbrev pub wanted_seen : Result Lent StatementFault → Result Wanted StatementFault
+wanted_seen (Err refusal) = Err refusal
+wanted_seen (Ok x) = Ok (wanted_value x)

@@ -1,0 +1,134 @@
+//! What is answered and written at the row of a key.
+ghost use Rattle.std.specs.Prelude.{◌≡◌, IfOk, option_copied, slice_set, ◌+ℤ◌, [], ◌∷◌};
+ghost use Rattle.stmt_meaning.specs.Effects.{number_at as number_at_lem, row_effect as row_effect_lem, only as only_lem, wrote as wrote_lem, added as added_lem, refused as refused_lem};
+ghost use Rattle.stmt_meaning.specs.Meaning.{is_refusal as is_refusal_lem};
+
+use crate::plan::RowWork;
+use std::alloc::Global;
+use svc_values::{Answer, Name, NoMemory, Row, Rows, StatementFault, TryCopy, Value, Write, copies};
+
+/// An answer and the write that goes with it, if any.
+#[derive(PartialEq, Eq, Drop)]
+pub struct Effect {
+    pub answer: Answer,
+    pub write: Option<Write>,
+}
+
+/// Whether a statement was refused.
+pub fn is_refusal(answer: &Answer) -> bool
+    ensures { result ≡ is_refusal_lem answer.now }
+{
+    matches!(answer, Answer::Refused(_))
+}
+
+/// The integer in a column of a row, and 0 where there is none.
+pub fn number_at(row: &Row, column: usize) -> i64
+    ensures { result ≡ number_at_lem row.now column }
+{
+    match row.get(column) {
+        Some(Value::Int(number)) => *number,
+        _ => 0,
+    }
+}
+
+/// The row with another value in a column.
+fn with_value(alloc: Global, row: &Row, column: usize, value: Value) -> Result<Row, NoMemory>
+    ensures { IfOk result (λ made. made ≡ slice_set row.now column value) }
+{
+    let mut values = copies(alloc, row.as_slice())?;
+    if column < values.len() {
+        values[column] = value;
+    }
+    Ok(Row::from_vec(values))
+}
+
+fn only(answer: Answer) -> Effect
+    ensures { result ≡ only_lem answer }
+{
+    Effect {
+        answer,
+        write: None,
+    }
+}
+
+fn refused(fault: StatementFault) -> Effect
+    ensures { result ≡ refused_lem fault }
+{
+    only(Answer::Refused(fault))
+}
+
+fn wrote(table: Name, key: Value, row: Option<Row>) -> Effect
+    ensures { result ≡ wrote_lem table key row }
+{
+    Effect {
+        answer: Answer::Done(1),
+        write: Some(Write { table, key, row }),
+    }
+}
+
+/// The row with a number added in a column, unless the sum is no integer of 64 bits.
+fn added(
+    alloc: Global,
+    table: Name,
+    key: Value,
+    column: usize,
+    row: &Row,
+    number: i64,
+) -> Result<Effect, NoMemory>
+    ensures { IfOk result (λ effect. effect ≡ added_lem table key column row.now (number_at_lem row.now column +ℤ number)) }
+{
+    match number_at(row, column).checked_add(number) {
+        None => Ok(refused(StatementFault::SumRange)),
+        Some(sum) => {
+            let row = with_value(alloc, row, column, Value::Int(sum))?;
+            Ok(wrote(table, key, Some(row)))
+        }
+    }
+}
+
+/// The rows of one row.
+fn rows_of(alloc: Global, row: Row) -> Result<Rows, NoMemory>
+    ensures { IfOk result (λ rows. rows ≡ row ∷ []) }
+{
+    let rows = Vec::from_array(alloc, [row])?;
+    Ok(Rows::from_vec(rows))
+}
+
+/// What is answered to `Show`: one row of the value.
+pub fn shown(alloc: Global, value: Value) -> Result<Answer, NoMemory>
+    ensures { IfOk result (λ answer. answer ≡ Answer.Rows ((value ∷ []) ∷ [])) }
+{
+    let row = Vec::from_array(alloc, [value])?;
+    Ok(Answer::Rows(rows_of(alloc, Row::from_vec(row))?))
+}
+
+/// What is answered and written at the row of a key, from the row that stands there, if any. An
+/// insert over a row is refused, and a change of none changes nothing. Nothing of the row is kept but
+/// copies.
+pub fn row_effect(
+    alloc: Global,
+    table: Name,
+    key: Value,
+    work: RowWork,
+    row: Option<&Row>,
+) -> Result<Effect, NoMemory>
+    ensures { IfOk result (λ effect. effect ≡ row_effect_lem table key work (option_copied row.entry)) }
+{
+    let Some(row) = row else {
+        return Ok(match work {
+            RowWork::Insert { row } => wrote(table, key, Some(row)),
+            RowWork::Set { .. } | RowWork::Add { .. } | RowWork::Delete => only(Answer::Done(0)),
+            RowWork::Get => only(Answer::Rows(Rows::new(alloc))),
+        });
+    };
+    match work {
+        RowWork::Insert { .. } => Ok(refused(StatementFault::DuplicateKey)),
+        RowWork::Set { column, value } => {
+            let row = with_value(alloc, row, column, value)?;
+            Ok(wrote(table, key, Some(row)))
+        }
+        RowWork::Add { column, number } => added(alloc, table, key, column, row, number),
+        RowWork::Delete => Ok(wrote(table, key, None)),
+        RowWork::Get => Ok(only(Answer::Rows(rows_of(alloc, row.copy(alloc)?)?))),
+    }
+}
