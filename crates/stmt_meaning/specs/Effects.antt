@@ -1,9 +1,5 @@
 -- What a plan answers and writes, from the rows at its one place.
-<<<<<<< HEAD
-use Rattle.std.specs.Prelude.{◌≡◌, ℕ, ℤ, pos, negsuc, ◌+ℤ◌, ◌^◌, Bool, true, false, List, [], ◌∷◌, Option, Some, None, length, map, filter, nat_lt, slice_set, slice_get, if◌then◌else◌}
-=======
 use Rattle.std.specs.Prelude.{◌≡◌, ℕ, ℤ, pos, negsuc, ◌+ℤ◌, ◌^◌, Bool, true, false, List, [], ◌∷◌, Option, Some, None, length, filter, nat_lt, slice_set, slice_get, if◌then◌else◌}
->>>>>>> a1f0535943d4e6828f0f293fe6527bab7b2d057c
 use Rattle.std.specs.Ordering.{match_ordering}
 use Rattle.std.specs.declared.cmp.Ordering.{Ordering}
 use Rattle.svc_values.specs.declared.value.Value.{Value}
@@ -14,32 +10,6 @@ use Rattle.svc_values.specs.declared.answer.Answer.{Answer}
 use Rattle.svc_values.specs.declared.answer.Answer.TheVariants as answer
 use Rattle.svc_values.specs.declared.answer.StatementFault.{StatementFault}
 use Rattle.svc_values.specs.declared.answer.StatementFault.TheVariants as fault
-<<<<<<< HEAD
-use Rattle.svc_values.specs.declared.entry.Write.{Write}
-use Rattle.svc_values.specs.Order.{value_cmp}
-use Rattle.stmt_meaning.specs.declared.plan.Plan.{Plan}
-use Rattle.stmt_meaning.specs.declared.plan.Plan.TheVariants as plan
-use Rattle.stmt_meaning.specs.declared.tables.PlainRow.{PlainRow}
-use Rattle.stmt_meaning.specs.declared.tables.Place.{Place}
-use Rattle.stmt_meaning.specs.declared.tables.Place.TheVariants as place
-
--- the first value is the key
-abbrev pub key_of : List Value → Value
-key_of [] = value.Int (pos 0)
-key_of (key ∷ rest) = key
-
--- the place that is read: a row, or a whole table, or none
-abbrev pub place_of : Plan → Option Place
-place_of (plan.Insert table row) = Some (place.Row table (key_of row))
-place_of (plan.Set table key at to) = Some (place.Row table key)
-place_of (plan.Add table key at by) = Some (place.Row table key)
-place_of (plan.Delete table key) = Some (place.Row table key)
-place_of (plan.Get table key) = Some (place.Row table key)
-place_of (plan.Select table at compared than) = Some (place.Table table)
-place_of (plan.Count table) = Some (place.Table table)
-place_of (plan.Sum table at) = Some (place.Table table)
-place_of (plan.Show shown) = None
-=======
 use Rattle.svc_values.specs.Order.{value_cmp}
 use Rattle.stmt_meaning.specs.declared.effect.Effect.{Effect}
 use Rattle.stmt_meaning.specs.declared.plan.Plan.{Plan}
@@ -48,7 +18,6 @@ use Rattle.stmt_meaning.specs.declared.plan.RowWork.{RowWork}
 use Rattle.stmt_meaning.specs.declared.plan.RowWork.TheVariants as row_work
 use Rattle.stmt_meaning.specs.declared.plan.TableWork.{TableWork}
 use Rattle.stmt_meaning.specs.declared.plan.TableWork.TheVariants as table_work
->>>>>>> a1f0535943d4e6828f0f293fe6527bab7b2d057c
 
 -- an integer of 64 bits
 abbrev pub fits_i64 : ℤ → Bool
@@ -63,15 +32,9 @@ number_of _ = pos 0
 abbrev pub number_at : List Value → ℕ → ℤ
 number_at row at = number_of (slice_get row at)
 
-<<<<<<< HEAD
-abbrev pub total : ℕ → List PlainRow → ℤ
-total at [] = pos 0
-total at (first ∷ rest) = number_at first.row at +ℤ total at rest
-=======
 abbrev pub total : ℕ → List (List Value) → ℤ
 total at [] = pos 0
 total at (first ∷ rest) = number_at first at +ℤ total at rest
->>>>>>> a1f0535943d4e6828f0f293fe6527bab7b2d057c
 
 abbrev pub meets : Test → Ordering → Bool
 meets test.Eq order = match_ordering order false true false
@@ -83,63 +46,22 @@ value_meets compared than None = false
 value_meets compared than (Some x) = meets compared (value_cmp x than)
 
 -- the rows whose value in the column meets the test
-<<<<<<< HEAD
-abbrev pub selected : ℕ → Test → Value → List PlainRow → List PlainRow
-selected at compared than rows = filter (λ one. value_meets compared than (slice_get one.row at)) rows
-
-abbrev pub rows_of : List PlainRow → List (List Value)
-rows_of rows = map (λ one. one.row) rows
-
--- an answer and the writes that go with it
-abbrev pub Effect : Type 0
-Effect = Answer × List Write
-
-abbrev pub only : Answer → Effect
-only a = (a, [])
-=======
 abbrev pub selected : ℕ → Test → Value → List (List Value) → List (List Value)
 selected at compared than rows = filter (λ row. value_meets compared than (slice_get row at)) rows
 
 abbrev pub only : Answer → Effect
 only a = record { answer = a; write = None }
->>>>>>> a1f0535943d4e6828f0f293fe6527bab7b2d057c
 
 abbrev pub refused : StatementFault → Effect
 refused refusal = only (answer.Refused refusal)
 
 -- one row was written, or taken away
 abbrev pub wrote : List ℕ → Value → Option (List Value) → Effect
-<<<<<<< HEAD
-wrote table key row = (answer.Done 1, record { table = table; key = key; row = row } ∷ [])
-=======
 wrote table key row = record { answer = answer.Done 1; write = Some (record { table = table; key = key; row = row }) }
->>>>>>> a1f0535943d4e6828f0f293fe6527bab7b2d057c
 
 abbrev pub added : List ℕ → Value → ℕ → List Value → ℤ → Effect
 added table key at row sum = if fits_i64 sum then wrote table key (Some (slice_set row at (value.Int sum))) else refused fault.SumRange
 
-<<<<<<< HEAD
-abbrev pub limited : List PlainRow → Effect
-limited rows = if nat_lt 32 (length rows) then refused fault.TooManyRows else only (answer.Rows (rows_of rows))
-
-abbrev pub summed : ℤ → Effect
-summed sum = if fits_i64 sum then only (answer.Number sum) else refused fault.SumRange
-
--- From the rows at the plan's place. A missing row is nothing to change, and an insert wants none there.
-abbrev pub effect : Plan → List PlainRow → Effect
-effect (plan.Insert table row) [] = wrote table (key_of row) (Some row)
-effect (plan.Insert table row) (there ∷ more) = refused fault.DuplicateKey
-effect (plan.Set table key at to) [] = only (answer.Done 0)
-effect (plan.Set table key at to) (there ∷ more) = wrote table key (Some (slice_set there.row at to))
-effect (plan.Add table key at by) [] = only (answer.Done 0)
-effect (plan.Add table key at by) (there ∷ more) = added table key at there.row (number_at there.row at +ℤ by)
-effect (plan.Delete table key) [] = only (answer.Done 0)
-effect (plan.Delete table key) (there ∷ more) = wrote table key None
-effect (plan.Get table key) rows = only (answer.Rows (rows_of rows))
-effect (plan.Select table at compared than) rows = limited (selected at compared than rows)
-effect (plan.Count table) rows = only (answer.Number (pos (length rows)))
-effect (plan.Sum table at) rows = summed (total at rows)
-=======
 -- On the row of a key. A missing row is nothing to change, and an insert wants none there.
 abbrev pub row_effect : List ℕ → Value → RowWork → Option (List Value) → Effect
 row_effect table key (row_work.Insert row) None = wrote table key (Some row)
@@ -173,5 +95,4 @@ first_of (row ∷ more) = Some row
 abbrev pub effect : Plan → List (List Value) → Effect
 effect (plan.AtRow table key work) rows = row_effect table key work (first_of rows)
 effect (plan.InTable table work) rows = only (table_answer work rows)
->>>>>>> a1f0535943d4e6828f0f293fe6527bab7b2d057c
 effect (plan.Show shown) rows = only (answer.Rows ((shown ∷ []) ∷ []))

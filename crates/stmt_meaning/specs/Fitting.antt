@@ -8,12 +8,7 @@ use Rattle.svc_values.specs.declared.entry.Write.{Write}
 use Rattle.svc_values.specs.Kinds.{row_fits}
 use Rattle.svc_values.specs.Same.{same_value}
 use Rattle.stmt_meaning.specs.declared.tables.PlainRow.{PlainRow}
-<<<<<<< HEAD
-use Rattle.stmt_meaning.specs.Plans.{schema_of, key_fits}
-use Rattle.stmt_meaning.specs.Effects.{key_of}
-=======
 use Rattle.stmt_meaning.specs.Plans.{schema_of, key_fits, key_of}
->>>>>>> a1f0535943d4e6828f0f293fe6527bab7b2d057c
 
 -- the row has a value of its kind for each column, and its key first
 abbrev pub is_row_of : Option Schema → Value → List Value → Bool
@@ -24,16 +19,6 @@ is_row_of (Some schema) key row = row_fits schema.columns row && same_value (key
 abbrev pub tables_fit : List Schema → List PlainRow → Bool
 tables_fit schemas tables = list_all (λ one. is_row_of (schema_of schemas one.table) one.key one.row) tables
 
-<<<<<<< HEAD
--- a write names a declared table and a key of the first column's kind, and its row, if it has one, is a row of that table and key
-abbrev pub write_fits : List Schema → Write → Bool
-write_fits schemas write = fits (schema_of schemas write.table) write.row
-  where
-    fits : Option Schema → Option (List Value) → Bool
-    fits None row = false
-    fits (Some schema) None = key_fits schema.columns write.key
-    fits (Some schema) (Some row) = is_row_of (Some schema) write.key row
-=======
 abbrev pub has_fit : Option Schema → Value → Option (List Value) → Bool
 has_fit None key row = false
 has_fit (Some schema) key None = key_fits schema.columns key
@@ -42,7 +27,6 @@ has_fit (Some schema) key (Some row) = is_row_of (Some schema) key row
 -- a write names a declared table and a key of the first column's kind, and its row, if it has one, is a row of that table and key
 abbrev pub write_fits : List Schema → Write → Bool
 write_fits schemas write = has_fit (schema_of schemas write.table) write.key write.row
->>>>>>> a1f0535943d4e6828f0f293fe6527bab7b2d057c
 
 abbrev pub writes_fit : List Schema → List Write → Bool
 writes_fit schemas writes = list_all (write_fits schemas) writes

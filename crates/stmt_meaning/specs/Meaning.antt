@@ -1,9 +1,5 @@
 -- What statements and calls mean on plain tables.
-<<<<<<< HEAD
-use Rattle.std.specs.Prelude.{◌≡◌, ℕ, Bool, true, false, List, [], ◌∷◌, ◌++◌, Option, Some, None, Result, Ok, Err, if◌then◌else◌}
-=======
 use Rattle.std.specs.Prelude.{◌≡◌, ℕ, Bool, true, false, List, [], ◌∷◌, ◌++◌, Option, Some, None, Result, Ok, Err, map, option_to_list, if◌then◌else◌}
->>>>>>> a1f0535943d4e6828f0f293fe6527bab7b2d057c
 use Rattle.svc_values.specs.declared.value.Value.{Value}
 use Rattle.svc_values.specs.declared.schema.Shape.{Shape}
 use Rattle.svc_values.specs.declared.draw.Draw.{Draw}
@@ -20,19 +16,6 @@ use Rattle.stmt_meaning.specs.declared.tables.PlainRow.{PlainRow}
 use Rattle.stmt_meaning.specs.declared.tables.Place.{Place}
 use Rattle.stmt_meaning.specs.Tables.{rows_at, with_writes}
 use Rattle.stmt_meaning.specs.Operands.{Read}
-<<<<<<< HEAD
-use Rattle.stmt_meaning.specs.Plans.{plan_of}
-use Rattle.stmt_meaning.specs.Effects.{place_of, effect}
-
--- what stands at the place that a plan reads
-abbrev pub seen_at : List PlainRow → Option Place → List PlainRow
-seen_at tables None = []
-seen_at tables (Some at) = rows_at tables at
-
-abbrev pub places_of : Option Place → List Place
-places_of None = []
-places_of (Some at) = at ∷ []
-=======
 use Rattle.stmt_meaning.specs.Plans.{plan_of, place_of}
 use Rattle.stmt_meaning.specs.Effects.{effect}
 
@@ -40,7 +23,6 @@ use Rattle.stmt_meaning.specs.Effects.{effect}
 abbrev pub seen_at : List PlainRow → Option Place → List (List Value)
 seen_at tables None = []
 seen_at tables (Some at) = map (λ one. one.row) (rows_at tables at)
->>>>>>> a1f0535943d4e6828f0f293fe6527bab7b2d057c
 
 -- what a statement does: its answer, its writes, the place that it read, if any, and the draws that are left
 pub record OneDone : Type 0 where
@@ -54,11 +36,7 @@ done_at tables None = None
 done_at tables (Some (Err refusal, left)) = Some (record { answer = answer.Refused refusal; writes = []; reads = []; rest = left })
 done_at tables (Some (Ok asked, left)) =
     let done = effect asked (seen_at tables (place_of asked)) in
-<<<<<<< HEAD
-    Some (record { answer = done.0; writes = done.1; reads = places_of (place_of asked); rest = left })
-=======
     Some (record { answer = done.answer; writes = option_to_list done.write; reads = option_to_list (place_of asked); rest = left })
->>>>>>> a1f0535943d4e6828f0f293fe6527bab7b2d057c
 
 -- One statement: what its text and operands ask for, done on the rows at its place. None where the draws differ from those asked for.
 abbrev pub mean1 : Shape → List PlainRow → List (List ℕ × Value) → Statement → List Draw → Option OneDone

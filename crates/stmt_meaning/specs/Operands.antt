@@ -46,22 +46,6 @@ take_draw asked (first ∷ rest) = if is_of_kind asked first then Some (Ok (draw
 abbrev pub is_name_of : List (List ℕ) → List ℕ → Bool
 is_name_of names name = list_any (λ one. bytes_eq one name) names
 
-<<<<<<< HEAD
--- a sequence that is not there refuses the statement, and nothing is drawn
-abbrev pub value_of_draw : List (List ℕ) → DrawKind → List Draw → Read Value
-value_of_draw sequences (kind.Seq name) draws = if is_name_of sequences name then take_draw (kind.Seq name) draws else Some (Err fault.NoSequence, draws)
-value_of_draw sequences kind.Clock draws = take_draw kind.Clock draws
-value_of_draw sequences kind.Id draws = take_draw kind.Id draws
-
-abbrev pub value_of_setting : Option Value → Result Value StatementFault
-value_of_setting None = Err fault.NoVar
-value_of_setting (Some x) = Ok x
-
-abbrev pub value_of : List (List ℕ) → List (List ℕ × Value) → Operand → List Draw → Read Value
-value_of sequences settings (operand.Lit x) draws = Some (Ok x, draws)
-value_of sequences settings (operand.Var name) draws = Some (value_of_setting (setting_of settings name), draws)
-value_of sequences settings (operand.Draw asked) draws = value_of_draw sequences asked draws
-=======
 -- what an operand stands for: a value that is there, or one that is to be drawn
 pub data Wanted : Type 0 where
   Known : (known : Value) → Wanted
@@ -89,7 +73,6 @@ taken (Ok (Drawn asked)) draws = take_draw asked draws
 
 abbrev pub value_of : List (List ℕ) → List (List ℕ × Value) → Operand → List Draw → Read Value
 value_of sequences settings asked draws = taken (wanted sequences settings asked) draws
->>>>>>> a1f0535943d4e6828f0f293fe6527bab7b2d057c
 
 -- from left to right, up to the first that refuses
 abbrev pub values_of : List (List ℕ) → List (List ℕ × Value) → List Operand → List Draw → Read (List Value)

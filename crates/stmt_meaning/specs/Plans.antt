@@ -13,24 +13,18 @@ use Rattle.svc_values.specs.declared.statement.Operand.{Operand}
 use Rattle.svc_values.specs.declared.statement.Change.{Change}
 use Rattle.svc_values.specs.declared.statement.Change.TheVariants as change
 use Rattle.svc_values.specs.declared.statement.Statement.{Statement}
-<<<<<<< HEAD
-=======
 use Rattle.svc_values.specs.declared.statement.Test.{Test}
->>>>>>> a1f0535943d4e6828f0f293fe6527bab7b2d057c
 use Rattle.svc_values.specs.declared.statement.Statement.TheVariants as statement
 use Rattle.svc_values.specs.declared.answer.StatementFault.{StatementFault}
 use Rattle.svc_values.specs.declared.answer.StatementFault.TheVariants as fault
 use Rattle.svc_values.specs.Kinds.{kind_of, same_kind, row_fits}
 use Rattle.stmt_meaning.specs.declared.plan.Plan.{Plan}
 use Rattle.stmt_meaning.specs.declared.plan.Plan.TheVariants as plan
-<<<<<<< HEAD
-=======
 use Rattle.stmt_meaning.specs.declared.plan.RowWork.{RowWork}
 use Rattle.stmt_meaning.specs.declared.plan.RowWork.TheVariants as row_work
 use Rattle.stmt_meaning.specs.declared.plan.TableWork.TheVariants as table_work
 use Rattle.stmt_meaning.specs.declared.tables.Place.{Place}
 use Rattle.stmt_meaning.specs.declared.tables.Place.TheVariants as place
->>>>>>> a1f0535943d4e6828f0f293fe6527bab7b2d057c
 use Rattle.stmt_meaning.specs.Operands.{Read, ◌>>=◌, values_of}
 
 abbrev pub schema_of : List Schema → List ℕ → Option Schema
@@ -40,19 +34,6 @@ schema_of schemas table = find (λ schema. bytes_eq schema.name table) schemas
 abbrev pub column_of : List Column → List ℕ → Option ℕ
 column_of columns name = position (λ column. bytes_eq column.name name) columns
 
-<<<<<<< HEAD
--- the column at this place is of this kind
-abbrev pub is_of_kind : List Column → ℕ → Kind → Bool
-is_of_kind columns at wanted = is_kind (slice_get columns at)
-  where
-    is_kind : Option Column → Bool
-    is_kind None = false
-    is_kind (Some column) = same_kind column.kind wanted
-
--- a key is of the first column's kind
-abbrev pub key_fits : List Column → Value → Bool
-key_fits columns key = is_of_kind columns 0 (kind_of key)
-=======
 abbrev pub is_kind : Kind → Option Column → Bool
 is_kind wanted None = false
 is_kind wanted (Some column) = same_kind column.kind wanted
@@ -64,7 +45,6 @@ is_column_kind columns at wanted = is_kind wanted (slice_get columns at)
 -- a key is of the first column's kind
 abbrev pub key_fits : List Column → Value → Bool
 key_fits columns key = is_column_kind columns 0 (kind_of key)
->>>>>>> a1f0535943d4e6828f0f293fe6527bab7b2d057c
 
 -- the operands in the order in which they are read
 abbrev pub operand_of : Change → Operand
@@ -82,41 +62,6 @@ operands_of (statement.Sum table column) = []
 operands_of (statement.Show operand) = operand ∷ []
 
 -- where a statement works: the columns of its table, and the place of the column that it names (0 where it names none)
-<<<<<<< HEAD
-pub record Target : Type 0 where
-  pub columns : List Column
-  pub at : ℕ
-
-abbrev pub in_table : Option Schema → (List Column → Result Target StatementFault) → Result Target StatementFault
-in_table None next = Err fault.NoTable
-in_table (Some schema) next = next schema.columns
-
-abbrev pub whole : List Column → Result Target StatementFault
-whole columns = Ok (record { columns = columns; at = 0 })
-
-abbrev pub in_column : List ℕ → List Column → Result Target StatementFault
-in_column name columns = placed (column_of columns name)
-  where
-    placed : Option ℕ → Result Target StatementFault
-    placed None = Err fault.NoColumn
-    placed (Some at) = Ok (record { columns = columns; at = at })
-
--- an update does not change the key
-abbrev pub but_key : Result Target StatementFault → Result Target StatementFault
-but_key (Err refusal) = Err refusal
-but_key (Ok target) = if target.at == 0 then Err fault.KeyColumn else Ok target
-
--- What is checked before an operand is read: the table, the column, and that an update's is not the key.
-abbrev pub target_of : List Schema → Statement → Result Target StatementFault
-target_of schemas (statement.Insert table operands) = in_table (schema_of schemas table) whole
-target_of schemas (statement.Update table key column by) = in_table (schema_of schemas table) (λ columns. but_key (in_column column columns))
-target_of schemas (statement.Delete table key) = in_table (schema_of schemas table) whole
-target_of schemas (statement.Get table key) = in_table (schema_of schemas table) whole
-target_of schemas (statement.Select table column test operand) = in_table (schema_of schemas table) (in_column column)
-target_of schemas (statement.Count table) = in_table (schema_of schemas table) whole
-target_of schemas (statement.Sum table column) = in_table (schema_of schemas table) (in_column column)
-target_of schemas (statement.Show operand) = whole []
-=======
 pub record Aim : Type 0 where
   pub columns : List Column
   pub at : ℕ
@@ -155,53 +100,10 @@ aim_of schemas (statement.Show operand) = whole []
 abbrev pub key_of : List Value → Value
 key_of [] = value.Int (pos 0)
 key_of (key ∷ rest) = key
->>>>>>> a1f0535943d4e6828f0f293fe6527bab7b2d057c
 
 abbrev pub if_kinds_fit : Bool → Plan → Result Plan StatementFault
 if_kinds_fit fits asked = if fits then Ok asked else Err fault.KindDiffers
 
-<<<<<<< HEAD
-abbrev pub set_plan : Target → List ℕ → List Value → Result Plan StatementFault
-set_plan target table (key ∷ to ∷ []) = if_kinds_fit (key_fits target.columns key && is_of_kind target.columns target.at (kind_of to)) (plan.Set table key target.at to)
-set_plan target table _ = Err fault.KindDiffers
-
--- a number is added, and to an integer
-abbrev pub add_plan : Target → List ℕ → List Value → Result Plan StatementFault
-add_plan target table (key ∷ value.Int by ∷ []) = if_kinds_fit (key_fits target.columns key && is_of_kind target.columns target.at kind.Int) (plan.Add table key target.at by)
-add_plan target table _ = Err fault.KindDiffers
-
-abbrev pub key_plan : Target → (Value → Plan) → List Value → Result Plan StatementFault
-key_plan target asked (key ∷ []) = if_kinds_fit (key_fits target.columns key) (asked key)
-key_plan target asked _ = Err fault.KindDiffers
-
-abbrev pub select_plan : Target → (Value → Plan) → List Value → Result Plan StatementFault
-select_plan target asked (than ∷ []) = if_kinds_fit (is_of_kind target.columns target.at (kind_of than)) (asked than)
-select_plan target asked _ = Err fault.KindDiffers
-
-abbrev pub show_plan : List Value → Result Plan StatementFault
-show_plan (shown ∷ []) = Ok (plan.Show shown)
-show_plan _ = Err fault.KindDiffers
-
--- What is to be done with the operands' values, if their kinds are the columns'.
-abbrev pub plan_for : Target → Statement → List Value → Result Plan StatementFault
-plan_for target (statement.Insert table operands) values = if_kinds_fit (row_fits target.columns values) (plan.Insert table values)
-plan_for target (statement.Update table key column (change.To operand)) values = set_plan target table values
-plan_for target (statement.Update table key column (change.Plus operand)) values = add_plan target table values
-plan_for target (statement.Delete table key) values = key_plan target (λ k. plan.Delete table k) values
-plan_for target (statement.Get table key) values = key_plan target (λ k. plan.Get table k) values
-plan_for target (statement.Select table column test operand) values = select_plan target (λ than. plan.Select table target.at test than) values
-plan_for target (statement.Count table) values = Ok (plan.Count table)
-plan_for target (statement.Sum table column) values = if_kinds_fit (is_of_kind target.columns target.at kind.Int) (plan.Sum table target.at)
-plan_for target (statement.Show operand) values = show_plan values
-
-abbrev pub plan_at : Shape → List (List ℕ × Value) → Statement → List Draw → Result Target StatementFault → Read Plan
-plan_at shape settings asked draws (Err refusal) = Some (Err refusal, draws)
-plan_at shape settings asked draws (Ok target) = values_of shape.sequences settings (operands_of asked) draws >>= λ values left. Some (plan_for target asked values, left)
-
--- The checks in their order: the names, the operands from left to right, and then the kinds.
-abbrev pub plan_of : Shape → List (List ℕ × Value) → Statement → List Draw → Read Plan
-plan_of shape settings asked draws = plan_at shape settings asked draws (target_of shape.schemas asked)
-=======
 -- (A statement has a value for each of its operands, so that none is missing in what follows.)
 abbrev pub key_plan : Aim → List ℕ → RowWork → Option Value → Result Plan StatementFault
 key_plan aim table work None = Err fault.KindDiffers
@@ -252,4 +154,3 @@ abbrev pub place_of : Plan → Option Place
 place_of (plan.AtRow table key work) = Some (place.Row table key)
 place_of (plan.InTable table work) = Some (place.Table table)
 place_of (plan.Show shown) = None
->>>>>>> a1f0535943d4e6828f0f293fe6527bab7b2d057c

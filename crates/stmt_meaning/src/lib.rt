@@ -1,13 +1,6 @@
 //! What statements and calls mean, over plain lists of rows.
 #![tactic(auto)]
 
-<<<<<<< HEAD
-mod plan;
-mod tables;
-
-pub use plan::Plan;
-pub use tables::{Place, PlainRow, PlainTables};
-=======
 mod effect;
 mod operand;
 mod plan;
@@ -21,4 +14,3 @@ pub use planning::{PlanFault, plan_for};
 pub use plan::{Plan, RowWork, TableWork};
 pub use tables::{Place, PlainRow, PlainTables};
 pub use target::{Target, schema_of, target_of};
->>>>>>> a1f0535943d4e6828f0f293fe6527bab7b2d057c

@@ -1,39 +1,4 @@
 //! What a statement asks to be done once its operands are read.
-<<<<<<< HEAD
-
-use svc_values::{Name, Row, Test, Value};
-
-/// A statement whose names were found and whose operands have the kinds of its columns. No row was
-/// looked at. A column is told by its place, from 0.
-#[derive(Drop)]
-pub enum Plan {
-    Insert {
-        table: Name,
-        row: Row,
-    },
-    Set {
-        table: Name,
-        key: Value,
-        column: usize,
-        value: Value,
-    },
-    Add {
-        table: Name,
-        key: Value,
-        column: usize,
-        number: i64,
-    },
-    Delete {
-        table: Name,
-        key: Value,
-    },
-    Get {
-        table: Name,
-        key: Value,
-    },
-    Select {
-        table: Name,
-=======
 ghost use Rattle.std.specs.Prelude.{◌≡◌, IfOk};
 ghost use Rattle.stmt_meaning.specs.Plans.{place_of};
 
@@ -61,23 +26,10 @@ pub enum RowWork {
 pub enum TableWork {
     /// The rows whose value in a column meets a test.
     Select {
->>>>>>> a1f0535943d4e6828f0f293fe6527bab7b2d057c
         column: usize,
         test: Test,
         value: Value,
     },
-<<<<<<< HEAD
-    Count {
-        table: Name,
-    },
-    Sum {
-        table: Name,
-        column: usize,
-    },
-    Show {
-        value: Value,
-    },
-=======
     /// The number of rows.
     Count,
     /// The sum of an integer column.
@@ -113,5 +65,4 @@ impl Plan {
             Plan::Show { .. } => Ok(None),
         }
     }
->>>>>>> a1f0535943d4e6828f0f293fe6527bab7b2d057c
 }
