@@ -1,8 +1,4 @@
 -- The order of values: kinds in order Int, Text, Bytes, and in one kind by number or by bytes.
-<<<<<<< HEAD
-=======
-use Rattle.std.specs.Prelude.{ℕ, List}
->>>>>>> a4c1e74 (Define what statements, calls and serial runs mean)
 use Rattle.std.specs.Ordering.{nat_cmp, int_cmp}
 use Rattle.std.specs.declared.cmp.Ordering.{Ordering}
 use Rattle.std.specs.declared.cmp.Ordering.TheVariants.{Less, Greater}
