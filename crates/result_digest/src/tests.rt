@@ -1,0 +1,28 @@
+use crate::{Digesting, digest_of};
+use sha2::Digest;
+use std::test::Fail;
+use svc_values::{Answer, Limited, Value};
+
+#[test]
+fn a_list_of_no_answer_has_the_digest_of_eight_zero_bytes(rt: HostRuntime) -> Result<(), Fail> {
+    let zero = sha2::Sha256::digest([0u8; 8].as_slice());
+    assert!(rt; Digesting::new(rt.alloc(), 0).finish() == zero);
+    Ok(())
+}
+
+#[test]
+fn a_read_row_has_the_digest_of_its_43_bytes(rt: HostRuntime) -> Result<(), Fail> {
+    let alloc = rt.alloc();
+    let bytes = hex::decode(
+        alloc,
+        "00000000000000010200000000000000010000000000000002010000000000000001010000000000000064",
+    )?;
+    let row = Limited::from_vec(vec![in alloc; Value::Int(1), Value::Int(100)]?);
+    let answer = Answer::Rows(Limited::from_vec(vec![in alloc; row]?));
+    let wanted = sha2::Sha256::digest(bytes.as_slice());
+    let mut digesting = Digesting::new(alloc, 1);
+    digesting.add(&answer)?;
+    assert!(rt; digesting.finish() == wanted);
+    assert!(rt; digest_of(alloc, [answer].as_slice())? == wanted);
+    Ok(())
+}
