@@ -7,18 +7,26 @@
 //! is none that `Call::work` makes. Each reader is linear in the bytes that it reads.
 ghost use Rattle.std.specs.Prelude.{◌≡◌, ◌++◌, List, ℕ, ℤ, Ok, length, IfOk, Bool};
 ghost use Rattle.svc_values.specs.declared.answer.Answer.{Answer};
+ghost use Rattle.svc_values.specs.declared.call.Call.{Call};
 ghost use Rattle.svc_values.specs.declared.statement.Change.{Change};
 ghost use Rattle.svc_values.specs.declared.draw.Draw.{Draw};
 ghost use Rattle.svc_values.specs.declared.draw.DrawKind.{DrawKind};
+ghost use Rattle.svc_values.specs.declared.entry.Entry.{Entry};
 ghost use Rattle.svc_values.specs.declared.value.Kind.{Kind};
+ghost use Rattle.svc_values.specs.declared.entry.Ltxid.{Ltxid};
 ghost use Rattle.svc_values.specs.declared.statement.Operand.{Operand};
+ghost use Rattle.svc_values.specs.declared.entry.Piece.{Piece};
 ghost use Rattle.svc_values.specs.declared.statement.Statement.{Statement};
 ghost use Rattle.svc_values.specs.declared.statement.Test.{Test};
 ghost use Rattle.svc_values.specs.declared.value.Value.{Value};
+ghost use Rattle.svc_values.specs.declared.entry.Write.{Write};
 ghost use Rattle.canon_bytes.specs.AnswerBytes.{spell_rows, FitsRows, rows_at, spell_answer, FitsAnswer, answer_at, spell_answers, FitsAnswers, answers_at};
+ghost use Rattle.canon_bytes.specs.CallBytes.{spell_call, FitsCall, call_at};
 ghost use Rattle.canon_bytes.specs.Draws.{spell_draw_kind, FitsDrawKind, draw_kind_at, spell_draw, FitsDraw, draw_at, spell_draws, FitsDraws, draws_at};
+ghost use Rattle.canon_bytes.specs.Entries.{spell_ltxid, FitsLtxid, ltxid_at, spell_piece, FitsPiece, piece_at, spell_write, FitsWrite, write_at, spell_entry, FitsEntry, entry_at};
 ghost use Rattle.canon_bytes.specs.Numbers.{spell_u64, FitsU64, u64_at, spell_i64, FitsI64, i64_at, spell_bool, FitsBool, bool_at};
 ghost use Rattle.canon_bytes.specs.Operands.{spell_operand, FitsOperand, operand_at, spell_operands, FitsOperands, operands_at, spell_change, FitsChange, change_at, spell_test, FitsTest, test_at};
+ghost use Rattle.canon_bytes.specs.SettingsBytes.{spell_settings, FitsSettings, settings_at};
 ghost use Rattle.canon_bytes.specs.StatementBytes.{spell_statement, FitsStatement, statement_at, spell_statements, FitsStatements, statements_at};
 ghost use Rattle.canon_bytes.specs.TextBytes.{spell_bytes, FitsName, name_at, FitsText, text_at, FitsOctets, octets_at};
 ghost use Rattle.canon_bytes.specs.Values.{spell_kind, FitsKind, kind_at, spell_value, FitsValue, value_at, spell_row, FitsRow, row_at};
@@ -28,8 +36,8 @@ use crate::canon::take_first;
 use crate::fault::CanonFault;
 use std::alloc::Global;
 use svc_values::{
-    Answer, Answers, Change, Draw, DrawKind, Draws, Kind, Name, Octets, Operand, Operands, Row,
-    Rows, Statement, Statements, Test, Text, Value,
+    Answer, Answers, Call, Change, Draw, DrawKind, Draws, Entry, Kind, Ltxid, Name, Octets,
+    Operand, Operands, Piece, Row, Rows, Settings, Statement, Statements, Test, Text, Value, Write,
 };
 
 /// Reads a number.
@@ -217,6 +225,60 @@ pub fn take_statements(alloc: Global, bytes: &[u8]) -> Result<(Statements, usize
     ensures exact { GivesFirst statements_at bytes.now result }
     ensures found { IfOk result (λ x. Spells spell_statements FitsStatements bytes.now x.0 x.1) }
     ensures only { (x : List Statement) (rest : List ℕ) → FitsStatements x → bytes.now ≡ spell_statements x ++ rest → IsUnlessMemory result (Ok (x, length (spell_statements x))) }
+{
+    take_first(alloc, bytes)
+}
+
+/// Reads a call.
+pub fn take_call(alloc: Global, bytes: &[u8]) -> Result<(Call, usize), CanonFault>
+    ensures exact { GivesFirst call_at bytes.now result }
+    ensures found { IfOk result (λ x. Spells spell_call FitsCall bytes.now x.0 x.1) }
+    ensures only { (x : Call) (rest : List ℕ) → FitsCall x → bytes.now ≡ spell_call x ++ rest → IsUnlessMemory result (Ok (x, length (spell_call x))) }
+{
+    take_first(alloc, bytes)
+}
+
+/// Reads a map of settings.
+pub fn take_settings(alloc: Global, bytes: &[u8]) -> Result<(Settings, usize), CanonFault>
+    ensures exact { GivesFirst settings_at bytes.now result }
+    ensures found { IfOk result (λ x. Spells spell_settings FitsSettings bytes.now x.0 x.1) }
+    ensures only { (x : List (List ℕ × Value)) (rest : List ℕ) → FitsSettings x → bytes.now ≡ spell_settings x ++ rest → IsUnlessMemory result (Ok (x, length (spell_settings x))) }
+{
+    take_first(alloc, bytes)
+}
+
+/// Reads an identifier.
+pub fn take_ltxid(alloc: Global, bytes: &[u8]) -> Result<(Ltxid, usize), CanonFault>
+    ensures exact { GivesFirst ltxid_at bytes.now result }
+    ensures found { IfOk result (λ x. Spells spell_ltxid FitsLtxid bytes.now x.0 x.1) }
+    ensures only { (x : Ltxid) (rest : List ℕ) → FitsLtxid x → bytes.now ≡ spell_ltxid x ++ rest → IsUnlessMemory result (Ok (x, length (spell_ltxid x))) }
+{
+    take_first(alloc, bytes)
+}
+
+/// Reads a piece.
+pub fn take_piece(alloc: Global, bytes: &[u8]) -> Result<(Piece, usize), CanonFault>
+    ensures exact { GivesFirst piece_at bytes.now result }
+    ensures found { IfOk result (λ x. Spells spell_piece FitsPiece bytes.now x.0 x.1) }
+    ensures only { (x : Piece) (rest : List ℕ) → FitsPiece x → bytes.now ≡ spell_piece x ++ rest → IsUnlessMemory result (Ok (x, length (spell_piece x))) }
+{
+    take_first(alloc, bytes)
+}
+
+/// Reads a write.
+pub fn take_write(alloc: Global, bytes: &[u8]) -> Result<(Write, usize), CanonFault>
+    ensures exact { GivesFirst write_at bytes.now result }
+    ensures found { IfOk result (λ x. Spells spell_write FitsWrite bytes.now x.0 x.1) }
+    ensures only { (x : Write) (rest : List ℕ) → FitsWrite x → bytes.now ≡ spell_write x ++ rest → IsUnlessMemory result (Ok (x, length (spell_write x))) }
+{
+    take_first(alloc, bytes)
+}
+
+/// Reads an entry.
+pub fn take_entry(alloc: Global, bytes: &[u8]) -> Result<(Entry, usize), CanonFault>
+    ensures exact { GivesFirst entry_at bytes.now result }
+    ensures found { IfOk result (λ x. Spells spell_entry FitsEntry bytes.now x.0 x.1) }
+    ensures only { (x : Entry) (rest : List ℕ) → FitsEntry x → bytes.now ≡ spell_entry x ++ rest → IsUnlessMemory result (Ok (x, length (spell_entry x))) }
 {
     take_first(alloc, bytes)
 }

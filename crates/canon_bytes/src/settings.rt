@@ -32,11 +32,7 @@ fn take_setting<'a>(
 }
 
 /// That many settings, names rising.
-fn take_rising(
-    alloc: Global,
-    count: u64,
-    bytes: &[u8],
-) -> Result<(Settings, &[u8]), ReadFault>
+fn take_rising(alloc: Global, count: u64, bytes: &[u8]) -> Result<(Settings, &[u8]), ReadFault>
     ensures exact { IsReading (λ x. (x.0, x.1.now)) result (settings_behind None count bytes.now) }
     ensures found { IfOk result (λ x. bytes.now ≡ flat_map spell_setting x.0 ++ x.1.now) }
     ensures fitting { IfOk result (λ x. AllByRecursion FitsSetting x.0) }

@@ -2,18 +2,24 @@
 //! memory is refused. Each is linear in the spelling.
 ghost use Rattle.std.specs.Prelude.{◌≡◌, ◌++◌, OnOk, OnErr};
 ghost use Rattle.canon_bytes.specs.AnswerBytes.{spell_rows, FitsRows, spell_answer, FitsAnswer, spell_answers, FitsAnswers};
+ghost use Rattle.canon_bytes.specs.CallBytes.{spell_call, FitsCall};
 ghost use Rattle.canon_bytes.specs.Draws.{spell_draw_kind, FitsDrawKind, spell_draw, FitsDraw, spell_draws, FitsDraws};
+ghost use Rattle.canon_bytes.specs.Entries.{spell_ltxid, FitsLtxid, spell_piece, FitsPiece, IsMadePiece, spell_write, FitsWrite, spell_entry, FitsEntry, IsMadeEntry};
 ghost use Rattle.canon_bytes.specs.Numbers.{spell_u64, FitsU64, spell_i64, FitsI64, spell_bool, FitsBool};
 ghost use Rattle.canon_bytes.specs.Operands.{spell_operand, FitsOperand, spell_operands, FitsOperands, spell_change, FitsChange, spell_test, FitsTest};
+ghost use Rattle.canon_bytes.specs.SettingsBytes.{spell_settings, FitsSettings};
 ghost use Rattle.canon_bytes.specs.StatementBytes.{spell_statement, FitsStatement, spell_statements, FitsStatements};
 ghost use Rattle.canon_bytes.specs.TextBytes.{spell_bytes, FitsName, FitsText, FitsOctets};
 ghost use Rattle.canon_bytes.specs.Values.{spell_kind, FitsKind, spell_value, FitsValue, spell_row, FitsRow};
+ghost use Rattle.svc_values.specs.Calls.{IsMade};
+ghost use Rattle.svc_values.specs.Identifiers.{IsLtxid};
 
-use crate::canon::put_last;
+use crate::canon::{put_last, put_made_last};
 use std::alloc::Global;
 use svc_values::{
-    Answer, Answers, Change, Draw, DrawKind, Draws, Kind, Name, NoMemory, Octets, Operand,
-    Operands, Row, Rows, Statement, Statements, Test, Text, Value,
+    Answer, Answers, Call, Change, Draw, DrawKind, Draws, Entry, Kind, Ltxid, Name, NoMemory,
+    Octets, Operand, Operands, Piece, Row, Rows, Settings, Statement, Statements, Test, Text,
+    Value, Write,
 };
 
 /// Writes a number.
@@ -203,4 +209,62 @@ pub fn put_statements(alloc: Global, value: &Statements, out: &mut Vec<u8>) -> R
     ensures err { OnErr result (out.new.items ≡ out.old.items) }
 {
     put_last(alloc, value, out)
+}
+
+/// Writes a call.
+pub fn put_call(alloc: Global, value: &Call, out: &mut Vec<u8>) -> Result<(), NoMemory>
+    requires { IsMade value.now }
+    ensures written { OnOk result (out.new.items ≡ out.old.items ++ spell_call value.now) }
+    ensures fitting { OnOk result (FitsCall value.now) }
+    ensures err { OnErr result (out.new.items ≡ out.old.items) }
+{
+    put_made_last(alloc, value, out)
+}
+
+/// Writes a map of settings.
+pub fn put_settings(alloc: Global, value: &Settings, out: &mut Vec<u8>) -> Result<(), NoMemory>
+    ensures written { OnOk result (out.new.items ≡ out.old.items ++ spell_settings value.now) }
+    ensures fitting { OnOk result (FitsSettings value.now) }
+    ensures err { OnErr result (out.new.items ≡ out.old.items) }
+{
+    put_last(alloc, value, out)
+}
+
+/// Writes an identifier.
+pub fn put_ltxid(alloc: Global, value: &Ltxid, out: &mut Vec<u8>) -> Result<(), NoMemory>
+    requires { IsLtxid value.now }
+    ensures written { OnOk result (out.new.items ≡ out.old.items ++ spell_ltxid value.now) }
+    ensures fitting { OnOk result (FitsLtxid value.now) }
+    ensures err { OnErr result (out.new.items ≡ out.old.items) }
+{
+    put_made_last(alloc, value, out)
+}
+
+/// Writes a piece.
+pub fn put_piece(alloc: Global, value: &Piece, out: &mut Vec<u8>) -> Result<(), NoMemory>
+    requires { IsMadePiece value.now }
+    ensures written { OnOk result (out.new.items ≡ out.old.items ++ spell_piece value.now) }
+    ensures fitting { OnOk result (FitsPiece value.now) }
+    ensures err { OnErr result (out.new.items ≡ out.old.items) }
+{
+    put_made_last(alloc, value, out)
+}
+
+/// Writes a write.
+pub fn put_write(alloc: Global, value: &Write, out: &mut Vec<u8>) -> Result<(), NoMemory>
+    ensures written { OnOk result (out.new.items ≡ out.old.items ++ spell_write value.now) }
+    ensures fitting { OnOk result (FitsWrite value.now) }
+    ensures err { OnErr result (out.new.items ≡ out.old.items) }
+{
+    put_last(alloc, value, out)
+}
+
+/// Writes an entry.
+pub fn put_entry(alloc: Global, value: &Entry, out: &mut Vec<u8>) -> Result<(), NoMemory>
+    requires { IsMadeEntry value.now }
+    ensures written { OnOk result (out.new.items ≡ out.old.items ++ spell_entry value.now) }
+    ensures fitting { OnOk result (FitsEntry value.now) }
+    ensures err { OnErr result (out.new.items ≡ out.old.items) }
+{
+    put_made_last(alloc, value, out)
 }

@@ -6,7 +6,7 @@ use Rattle.std.proofs.lemmas.Bool.{cases_Bool}
 use Rattle.disk_model.specs.declared.written.Written.{Written}
 use Rattle.disk_model.specs.Moment.{Moment, MayLeave, next_moment}
 use Rattle.disk_model.specs.Kept.{torn_step}
-use Rattle.disk_model.specs.Log.{bytes_before, first_bytes, synced_of, ranges_of, past_of, now_of, marked, with_sync, Covers, IsLog, Logged}
+use Rattle.disk_model.specs.Log.{bytes_before, first_bytes, synced_of, ranges_of, past_of, now_of, synced_write, with_sync, Covers, IsLog, Logged}
 
 abbrev pub at_moment : List ℕ → List (ℕ × ℕ) → List ℕ → Moment
 at_moment synced ranges seen = record { seen = seen; synced = synced; written = ranges }
@@ -67,8 +67,8 @@ module _ (at n : ℕ) (old new : List ℕ) (log later : List Written) (more : Lo
   still_log fits = subst (λ (l : List Written). IsLog l new) (sym more.one_more) (log_push more.entry old new more.undoes more.covers log fits)
 
 -- a sync
-same_mark : (w : Written) → w.synced ≡ true → marked w ≡ w
-same_mark w e = ap (λ (b : Bool). record w { synced = b }) (sym e)
+same_synced_write : (w : Written) → w.synced ≡ true → synced_write w ≡ w
+same_synced_write w e = ap (λ (b : Bool). record w { synced = b }) (sym e)
 
 first_bytes-with_sync : (log : List Written) (bytes : List ℕ) → first_bytes (with_sync log) bytes ≡ first_bytes log bytes
 first_bytes-with_sync [] bytes = refl
@@ -83,19 +83,19 @@ ranges-with_sync : (ranges : List (ℕ × ℕ)) (w : Written) (log : List Writte
 ranges-with_sync ranges w [] = refl
 ranges-with_sync ranges w (x ∷ log) = ranges-with_sync (if w.synced then [] else (w.at, w.len) ∷ ranges) x log
 
-covers_marked : (w : Written) (after : List ℕ) → Covers w after → Covers (marked w) after
-covers_marked w after c = record { within = c.within; covered = c.covered; at_end = c.at_end }
+covers_synced_write : (w : Written) (after : List ℕ) → Covers w after → Covers (synced_write w) after
+covers_synced_write w after c = record { within = c.within; covered = c.covered; at_end = c.at_end }
 
 pub log-with_sync : (log : List Written) (bytes : List ℕ) → IsLog log bytes → IsLog (with_sync log) bytes
 log-with_sync [] bytes fits = tt
-log-with_sync (w ∷ []) bytes fits = (covers_marked w bytes fits.0, tt)
+log-with_sync (w ∷ []) bytes fits = (covers_synced_write w bytes fits.0, tt)
 log-with_sync (w ∷ x ∷ log) bytes fits = (subst (Covers w) (sym (first_bytes-with_sync (x ∷ log) bytes)) fits.0, log-with_sync (x ∷ log) bytes fits.1)
 
-marked_last : (synced : List ℕ) (ranges : List (ℕ × ℕ)) (w : Written) (bytes : List ℕ) → w.synced ≡ false → past_of synced ranges (marked w ∷ []) bytes ≡ past_of synced ranges (w ∷ []) bytes ++ at_moment (synced_of synced (w ∷ []) bytes) (ranges_of ranges (w ∷ [])) bytes ∷ []
-marked_last synced ranges w bytes pending = rw pending refl
+past-synced_write : (synced : List ℕ) (ranges : List (ℕ × ℕ)) (w : Written) (bytes : List ℕ) → w.synced ≡ false → past_of synced ranges (synced_write w ∷ []) bytes ≡ past_of synced ranges (w ∷ []) bytes ++ at_moment (synced_of synced (w ∷ []) bytes) (ranges_of ranges (w ∷ [])) bytes ∷ []
+past-synced_write synced ranges w bytes pending = rw pending refl
 
 past-with_sync : (synced : List ℕ) (ranges : List (ℕ × ℕ)) (w : Written) (log : List Written) (bytes : List ℕ) → (past_of synced ranges (with_sync (w ∷ log)) bytes ≡ past_of synced ranges (w ∷ log) bytes ++ at_moment (synced_of synced (w ∷ log) bytes) (ranges_of ranges (w ∷ log)) bytes ∷ []) ⊎ (with_sync (w ∷ log) ≡ w ∷ log)
-past-with_sync synced ranges w [] bytes = ⊎_elim (λ e. inr (ap (λ (x : Written). x ∷ []) (same_mark w e))) (λ e. inl (marked_last synced ranges w bytes e)) (cases_Bool w.synced)
+past-with_sync synced ranges w [] bytes = ⊎_elim (λ e. inr (ap (λ (x : Written). x ∷ []) (same_synced_write w e))) (λ e. inl (past-synced_write synced ranges w bytes e)) (cases_Bool w.synced)
 past-with_sync synced ranges w (x ∷ log) bytes =
     let later : List (ℕ × ℕ) = if w.synced then [] else (w.at, w.len) ∷ ranges in
     let before : List ℕ → Moment = λ b. at_moment synced ranges (bytes_before w b) in

@@ -6,6 +6,7 @@ use Rattle.std.proofs.lemmas.Grind.{common_steps, same_number_lists}
 use Rattle.std.proofs.lemmas.Bool.{cases_eq, cases_lt}
 use Rattle.disk_model.specs.Moment.{Moment, MayLeave, Torn, InRanges, next_moment, with_bytes}
 use Rattle.disk_model.specs.Disk.{DiskState, IsSettled}
+use Rattle.disk_model.specs.Kept.{cases_outside}
 
 pub length-with_bytes : (at : ℕ) (bytes old : List ℕ) → at ≤ length old → length (with_bytes at bytes old) ≡ max (length old) (at + length bytes)
 length-with_bytes at bytes old le = grind (arith, common_steps)
@@ -15,10 +16,6 @@ below at bytes old k le lt = grind (arith, common_steps)
 
 above : (at : ℕ) (bytes old : List ℕ) (k : ℕ) → at ≤ length old → at + length bytes ≤ k → get_or (with_bytes at bytes old) k 0 ≡ get_or old k 0
 above at bytes old k le ge = grind (arith, common_steps)
-
-cases_outside : (at n k : ℕ) → ((at ≤ k) × (k < at + n) → ⊥) → (k < at) ⊎ (at + n ≤ k)
-cases_outside at n k out =
-    ⊎_elim (λ lt. inl lt) (λ ge. ⊎_elim (λ l. absurd (out (ge, l))) (λ g. inr g) (cases_lt k (at + n))) (cases_lt k at)
 
 pub torn_with_bytes : (at : ℕ) (bytes old : List ℕ) → at ≤ length old → Torn at (length bytes) old (with_bytes at bytes old)
 torn_with_bytes at bytes old le = record {

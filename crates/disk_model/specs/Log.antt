@@ -1,4 +1,4 @@
--- What a disk in memory keeps of its writes, and the moments that it stands for.
+-- What a disk in memory keeps of its writes, and the moments that it stands for. A log has its first write first.
 use Rattle.std.specs.Prelude.{◌≡◌, ℕ, ◌+◌, ◌<◌, ◌≤◌, Bool, true, false, if◌then◌else◌, List, [], ◌∷◌, ◌++◌, length, take, drop}
 use Rattle.std.proofs.Props.{props}
 use Rattle.disk_model.specs.declared.written.Written.{Written}
@@ -8,38 +8,52 @@ use Rattle.disk_model.specs.Moment.{Moment}
 abbrev pub bytes_before : Written → List ℕ → List ℕ
 bytes_before w after = take w.at after ++ w.covered.items ++ drop (w.at + w.len) after
 
--- the bytes before these writes, the first of them first
+-- the bytes before all of these writes, from those after them
 abbrev pub first_bytes : List Written → List ℕ → List ℕ
 first_bytes [] bytes = bytes
 first_bytes (w ∷ log) bytes = bytes_before w (first_bytes log bytes)
 
+-- what was synced last once a write was made, where `synced` was before it and `after` stood behind it
+abbrev pub synced_after : Written → List ℕ → List ℕ → List ℕ
+synced_after w synced after = if w.synced then after else synced
+
+-- the ranges written since the last sync once a write was made, where these were before it
+abbrev pub ranges_after : Written → List (ℕ × ℕ) → List (ℕ × ℕ)
+ranges_after w ranges = if w.synced then [] else (w.at, w.len) ∷ ranges
+
+-- the moment between a write and the sync that followed it, if one did
+abbrev pub before_sync : Written → List ℕ → List (ℕ × ℕ) → List ℕ → List Moment
+before_sync w synced ranges after = if w.synced then record { seen = after; synced = synced; written = (w.at, w.len) ∷ ranges } ∷ [] else []
+
 -- what was synced last, where `synced` was before these writes
 abbrev pub synced_of : List ℕ → List Written → List ℕ → List ℕ
 synced_of synced [] bytes = synced
-synced_of synced (w ∷ log) bytes = synced_of (if w.synced then first_bytes log bytes else synced) log bytes
+synced_of synced (w ∷ log) bytes = synced_of (synced_after w synced (first_bytes log bytes)) log bytes
 
--- the ranges written since the last sync, where these stood before
+-- the ranges written since the last sync, where these were before the writes
 abbrev pub ranges_of : List (ℕ × ℕ) → List Written → List (ℕ × ℕ)
 ranges_of ranges [] = ranges
-ranges_of ranges (w ∷ log) = ranges_of (if w.synced then [] else (w.at, w.len) ∷ ranges) log
+ranges_of ranges (w ∷ log) = ranges_of (ranges_after w ranges) log
 
--- each moment but the last
+-- each moment but the last: one before each write, and one before each sync
 abbrev pub past_of : List ℕ → List (ℕ × ℕ) → List Written → List ℕ → List Moment
 past_of synced ranges [] bytes = []
 past_of synced ranges (w ∷ log) bytes =
     record { seen = first_bytes (w ∷ log) bytes; synced = synced; written = ranges }
-    ∷ ((if w.synced then record { seen = first_bytes log bytes; synced = synced; written = (w.at, w.len) ∷ ranges } ∷ [] else [])
-    ++ past_of (if w.synced then first_bytes log bytes else synced) (if w.synced then [] else (w.at, w.len) ∷ ranges) log bytes)
+    ∷ (before_sync w synced ranges (first_bytes log bytes)
+    ++ past_of (synced_after w synced (first_bytes log bytes)) (ranges_after w ranges) log bytes)
 
+-- the last moment; the bytes before the first write count as synced
 abbrev pub now_of : List Written → List ℕ → Moment
 now_of log bytes = record { seen = bytes; synced = synced_of (first_bytes log bytes) log bytes; written = ranges_of [] log }
 
--- each write kept what it covered
+-- a write within the bytes after it, which kept what it covered: less than its length only where it ended past the end
 pub record Covers (w : Written) (after : List ℕ) : Type 0 where
   pub within : w.at + w.len ≤ length after
   pub covered : length w.covered.items ≤ w.len
   pub at_end : length w.covered.items < w.len → w.at + w.len ≡ length after
 
+-- each write of the log kept what it covered
 abbrev pub IsLog : List Written → List ℕ → Type 0
 IsLog [] bytes = Unit {0}
 IsLog (w ∷ log) bytes = Covers w (first_bytes log bytes) × IsLog log bytes
@@ -48,11 +62,7 @@ pub is_prop_log : (log : List Written) (bytes : List ℕ) → IsProp (IsLog log 
 is_prop_log [] bytes = hlevel props
 is_prop_log (w ∷ log) bytes = hlevel (props, is_prop_log log bytes)
 
--- a write that a sync followed
-abbrev pub marked : Written → Written
-marked w = record w { synced = true }
-
--- the log has one entry more, for a write of n bytes at this offset
+-- the log has one write more, of n bytes at this offset, by which the old bytes became the new ones
 pub record Logged (at n : ℕ) (old new : List ℕ) (log later : List Written) : Type 0 where
   pub entry : Written
   pub one_more : later ≡ log ++ entry ∷ []
@@ -62,12 +72,17 @@ pub record Logged (at n : ℕ) (old new : List ℕ) (log later : List Written) :
   pub undoes : bytes_before entry new ≡ old
   pub covers : Covers entry new
 
--- a sync followed the last of them
+-- a write that a sync followed
+abbrev pub synced_write : Written → Written
+synced_write w = record w { synced = true }
+
+-- the log with a sync behind its last write
 abbrev pub with_sync : List Written → List Written
 with_sync [] = []
-with_sync (w ∷ []) = marked w ∷ []
+with_sync (w ∷ []) = synced_write w ∷ []
 with_sync (w ∷ x ∷ log) = w ∷ with_sync (x ∷ log)
 
+-- there are none
 abbrev pub is_nil : List ℕ → Bool
 is_nil [] = true
 is_nil (x ∷ xs) = false

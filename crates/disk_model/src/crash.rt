@@ -28,11 +28,11 @@ fn back_to_sync(bytes: &mut Vec<u8>, log: &mut Vec<Written>)
     requires { IsLog log.old.items bytes.old.items }
     ensures { bytes.new.items ≡ (now_of log.old.items bytes.old.items).synced }
 {
-    while let Some(w) = log.pop() {
-        if w.synced {
+    while let Some(write) = log.pop() {
+        if write.synced {
             break;
         }
-        undo(bytes, &w);
+        undo(bytes, &write);
     }
 }
 
@@ -41,11 +41,11 @@ fn half_back(bytes: &mut Vec<u8>, log: &mut Vec<Written>)
     requires { IsLog log.old.items bytes.old.items }
     ensures { IsHalfNew (now_of log.old.items bytes.old.items) bytes.new.items }
 {
-    while let Some(w) = log.pop() {
-        if w.synced {
+    while let Some(write) = log.pop() {
+        if write.synced {
             break;
         }
-        undo_odd(bytes, &w);
+        undo_odd(bytes, &write);
     }
 }
 
@@ -54,10 +54,10 @@ fn all_ones(bytes: &mut Vec<u8>, log: &mut Vec<Written>)
     requires { IsLog log.old.items bytes.old.items }
     ensures { IsOnes (now_of log.old.items bytes.old.items) bytes.new.items }
 {
-    while let Some(w) = log.pop() {
-        if w.synced {
+    while let Some(write) = log.pop() {
+        if write.synced {
             break;
         }
-        fill_ones(bytes, &w);
+        fill_ones(bytes, &write);
     }
 }

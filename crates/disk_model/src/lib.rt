@@ -8,6 +8,8 @@
 mod crash;
 mod disk;
 mod mem;
+#[cfg(test)]
+mod tests;
 mod written;
 
 pub use disk::{Disk, DiskFault, StopDisk};

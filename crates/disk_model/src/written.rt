@@ -61,27 +61,27 @@ pub fn mark(log: &mut Vec<Written>)
 }
 
 // Puts the bytes back that a write covered.
-pub fn undo(bytes: &mut Vec<u8>, w: &Written)
-    requires { Covers w.now bytes.old.items }
-    ensures { bytes.new.items ≡ bytes_before w.now bytes.old.items }
+pub fn undo(bytes: &mut Vec<u8>, write: &Written)
+    requires { Covers write.now bytes.old.items }
+    ensures { bytes.new.items ≡ bytes_before write.now bytes.old.items }
 {
-    overwrite(bytes, w.at, &w.covered);
-    if w.covered.len() < w.len {
-        bytes.truncate(w.at + w.covered.len());
+    overwrite(bytes, write.at, &write.covered);
+    if write.covered.len() < write.len {
+        bytes.truncate(write.at + write.covered.len());
     }
 }
 
 // Puts the bytes back that a write covered, but at odd offsets alone, and 0 where it covered none.
-pub fn undo_odd(bytes: &mut Vec<u8>, w: &Written)
-    requires { w.now.at + w.now.len ≤ length bytes.old.items }
+pub fn undo_odd(bytes: &mut Vec<u8>, write: &Written)
+    requires { write.now.at + write.now.len ≤ length bytes.old.items }
     ensures long { length bytes.new.items ≡ length bytes.old.items }
-    ensures inside { (k : ℕ) → w.now.at ≤ k → k < w.now.at + w.now.len → k % 2 ≡ 1 → slice_index bytes.new.items k ≡ slice_index w.now.covered.items (k - w.now.at) }
-    ensures outside { (k : ℕ) → ((w.now.at ≤ k) × (k < w.now.at + w.now.len) × (k % 2 ≡ 1) → ⊥) → slice_index bytes.new.items k ≡ slice_index bytes.old.items k }
+    ensures inside { (k : ℕ) → write.now.at ≤ k → k < write.now.at + write.now.len → k % 2 ≡ 1 → slice_index bytes.new.items k ≡ slice_index write.now.covered.items (k - write.now.at) }
+    ensures outside { (k : ℕ) → ((write.now.at ≤ k) × (k < write.now.at + write.now.len) × (k % 2 ≡ 1) → ⊥) → slice_index bytes.new.items k ≡ slice_index bytes.old.items k }
 {
-    for k in w.at..w.at + w.len {
-        if k % 2 == 1 {
-            bytes[k] = if k - w.at < w.covered.len() {
-                w.covered[k - w.at]
+    for offset in write.at..write.at + write.len {
+        if offset % 2 == 1 {
+            bytes[offset] = if offset - write.at < write.covered.len() {
+                write.covered[offset - write.at]
             } else {
                 0
             };
@@ -90,14 +90,14 @@ pub fn undo_odd(bytes: &mut Vec<u8>, w: &Written)
 }
 
 // Makes each byte of a write 255.
-pub fn fill_ones(bytes: &mut Vec<u8>, w: &Written)
-    requires { w.now.at + w.now.len ≤ length bytes.old.items }
+pub fn fill_ones(bytes: &mut Vec<u8>, write: &Written)
+    requires { write.now.at + write.now.len ≤ length bytes.old.items }
     ensures long { length bytes.new.items ≡ length bytes.old.items }
-    ensures inside { (k : ℕ) → w.now.at ≤ k → k < w.now.at + w.now.len → slice_index bytes.new.items k ≡ 255 }
-    ensures outside { (k : ℕ) → ((w.now.at ≤ k) × (k < w.now.at + w.now.len) → ⊥) → slice_index bytes.new.items k ≡ slice_index bytes.old.items k }
+    ensures inside { (k : ℕ) → write.now.at ≤ k → k < write.now.at + write.now.len → slice_index bytes.new.items k ≡ 255 }
+    ensures outside { (k : ℕ) → ((write.now.at ≤ k) × (k < write.now.at + write.now.len) → ⊥) → slice_index bytes.new.items k ≡ slice_index bytes.old.items k }
 {
-    for k in w.at..w.at + w.len {
-        bytes[k] = 255;
+    for offset in write.at..write.at + write.len {
+        bytes[offset] = 255;
     }
 }
 

@@ -2,5 +2,7 @@ pub mod Counts
 pub mod Each
 pub mod Failures
 pub mod Keys
-pub mod Members
+pub mod Known
+pub mod NoFloats
 pub mod Utf8
+pub mod WrittenItems

@@ -1,6 +1,6 @@
 -- JSON values of texts, numbers, lists and objects.
 use Rattle.std.specs.Prelude.{ℕ, ℤ, List, [], ◌∷◌, map, Bool}
-use Rattle.serde_json.specs.Data.{Data, boolean, number, unsigned, string, array, object, Members, no_members, put as with_member}
+use Rattle.serde_json.specs.Data.{Data, null as json_null, boolean, number, unsigned, string, array, object, Members, no_members, put as with_member}
 use Rattle.serde_json.specs.Find.{of_integer}
 use Rattle.serde_json.specs.View.{items_of}
 
@@ -12,6 +12,9 @@ whole n = number (unsigned n)
 
 abbrev pub integer : ℤ → Data
 integer z = number (of_integer z)
+
+abbrev pub null : Data
+null = json_null
 
 abbrev pub flag : Bool → Data
 flag b = boolean b

@@ -10,7 +10,10 @@ mod object;
 mod pointer;
 mod reader;
 mod step;
+#[cfg(test)]
+mod tests;
 mod word;
+mod written;
 
 pub use array::{array_at, array_from, array_or_none, fixed, item};
 pub use bytes::json_from;
@@ -22,3 +25,4 @@ pub use pointer::Pointer;
 pub use reader::{Flag, Integer, Reader, Whole};
 pub use step::{within, within_item};
 pub use word::{chosen, head_from, text_from, word_from};
+pub use written::{ObjectWriter, Writer, Written};

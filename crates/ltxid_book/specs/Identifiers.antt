@@ -1,10 +1,6 @@
--- Logical transaction identifiers and their sessions.
-use Rattle.std.specs.Prelude.{ℕ, ◌^◌, ◌≤◌, ◌==◌, ◌&&◌, Bool}
+-- Identifiers and their sessions.
+use Rattle.std.specs.Prelude.{ℕ, ◌==◌, ◌&&◌, Bool}
 use Rattle.svc_values.specs.declared.entry.Ltxid.{Ltxid}
-
--- the parts of an identifier are at most 2^63
-abbrev pub HasSmallParts : Ltxid → Type 0
-HasSmallParts x = (x.incarnation ≤ 2 ^ 63) × (x.session ≤ 2 ^ 63) × (x.number ≤ 2 ^ 63)
 
 -- the identifier is one of this session
 abbrev pub is_of : Ltxid → ℕ → ℕ → Bool

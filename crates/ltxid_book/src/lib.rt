@@ -5,7 +5,7 @@
 #![tactic(auto)]
 
 ghost use Rattle.std.specs.Prelude.{◌≡◌, ◌≤◌, ◌^◌, ◌↔◌, ℕ, [], IsTrue, OnOk, OnErr};
-ghost use Rattle.ltxid_book.specs.Identifiers.{HasSmallParts};
+ghost use Rattle.svc_values.specs.Identifiers.{IsLtxid};
 ghost use Rattle.ltxid_book.specs.Sessions.{Says, state_in, may_commit, after_commit, after_block};
 ghost use Rattle.ltxid_book.specs.Laws.{BeginsUntouched, FollowsCommits, FollowsBlocks, TellsBlocks};
 
@@ -66,7 +66,7 @@ impl Book {
 
     /// Whether the identifier is its session's next one and is not blocked.
     pub fn can_commit(&self, x: &Ltxid) -> bool
-        requires { HasSmallParts x.now }
+        requires { IsLtxid x.now }
         ensures { result ≡ may_commit (state_in self.now) x.now }
     {
         let state = self.state(x.incarnation, x.session);
@@ -75,7 +75,7 @@ impl Book {
 
     /// Notes a commit. Where memory is refused the book stays as it was.
     pub fn commit(&mut self, x: &Ltxid, completed: bool) -> Result<(), NoMemory>
-        requires parts { HasSmallParts x.now }
+        requires parts { IsLtxid x.now }
         requires may { IsTrue (may_commit (state_in self.old) x.now) }
         ensures ok { OnOk result (Says self.new (after_commit (state_in self.old) x.now completed)) }
         ensures err { OnErr result (self.new ≡ self.old) }
@@ -92,7 +92,7 @@ impl Book {
     /// Notes that the identifier is blocked: its session can commit no more. Where memory is refused
     /// the book stays as it was.
     pub fn block(&mut self, x: &Ltxid) -> Result<(), NoMemory>
-        requires parts { HasSmallParts x.now }
+        requires parts { IsLtxid x.now }
         requires may { IsTrue (may_commit (state_in self.old) x.now) }
         ensures ok { OnOk result (Says self.new (after_block (state_in self.old) x.now)) }
         ensures err { OnErr result (self.new ≡ self.old) }

@@ -2,7 +2,7 @@
 #![tactic(auto)]
 
 ghost use Rattle.std.specs.Prelude.{◌≡◌, ℕ};
-ghost use Rattle.ltxid_book.specs.Identifiers.{HasSmallParts};
+ghost use Rattle.svc_values.specs.Identifiers.{IsLtxid};
 ghost use Rattle.ltxid_book.specs.Sessions.{state_in};
 ghost use Rattle.outcome_call.specs.Table.{verdict_of};
 
@@ -28,7 +28,7 @@ pub enum Verdict {
 
 /// The outcome of the identifier. Logarithmic in the number of sessions of the book; takes no memory.
 pub fn decide(book: &Book, x: &Ltxid) -> Verdict
-    requires { HasSmallParts x.now }
+    requires { IsLtxid x.now }
     ensures { result ≡ verdict_of (state_in book.now) x.now }
 {
     let state = book.state(x.incarnation, x.session);

@@ -32,7 +32,11 @@ fn tells_each_line_of_the_outcome_table(rt: HostRuntime) -> Result<(), Fail> {
         (2, 1, Verdict::ClientAhead { next: 0 }),
     ];
     for (session, number, verdict) in verdicts {
-        assert_eq!(rt; decide(&book, &ltxid(session, number)), verdict, "at {session}, {number}");
+        assert_eq!(rt;
+            decide(&book, &ltxid(session, number)),
+            verdict,
+            "at {session}, {number}"
+        );
     }
     Ok(())
 }

@@ -1,5 +1,5 @@
 -- The grammar of a store's bytes.
-use Rattle.std.specs.Prelude.{ℕ, suc, zero, ◌+◌, ◌==◌, if◌then◌else◌, nat_le, List, [], ◌∷◌, ◌++◌, length, take, drop, Result, Ok, Err}
+use Rattle.std.specs.Prelude.{ℕ, Bool, suc, zero, ◌+◌, ◌==◌, if◌then◌else◌, nat_le, List, [], ◌∷◌, ◌++◌, length, take, drop, Result, Ok, Err}
 use Rattle.std.specs.Str.{bytes_eq}
 use Rattle.std.specs.Int.{to_be_bytes, from_be_bytes, w64}
 
@@ -15,24 +15,28 @@ length_bytes n = to_be_bytes w64 n
 unfoldable pub length_of : List ℕ → ℕ
 length_of bytes = from_be_bytes w64 bytes
 
+-- whether a whole length, a whole payload and one more byte stand behind an open gate
+abbrev pub is_whole : List ℕ → Bool
+is_whole behind = nat_le (9 + length_of (take 8 behind)) (length behind)
+
+-- the payload behind an open gate
+abbrev pub payload_of : List ℕ → List ℕ
+payload_of behind = take (length_of (take 8 behind)) (drop 8 behind)
+
 -- a record in front of others that were read
 abbrev pub with_first : List ℕ → Result (List (List ℕ)) ℕ → Result (List (List ℕ)) ℕ
 with_first payload (Ok records) = Ok (payload ∷ records)
 with_first payload (Err place) = Err place
 
--- The payloads of the records that begin at `place`, or the place of the first gate that is damaged: an open one that no
--- whole length, no whole payload or no further byte follows. The first `skip` bytes belong to the record before.
+-- The payloads of the records from `place` on, or the place of the first gate that is damaged: an open one with no whole
+-- record and one more byte behind it. The first `skip` bytes belong to the record before.
 abbrev pub records_from : ℕ → ℕ → List ℕ → Result (List (List ℕ)) ℕ
 records_from place skip [] = Err place
-records_from place (suc skip) (byte ∷ rest) = records_from (suc place) skip rest
-records_from place zero (gate ∷ rest) =
-    if gate == 1 then
-    if nat_le (9 + length_of (take 8 rest)) (length rest) then
-    with_first (take (length_of (take 8 rest)) (drop 8 rest)) (records_from (suc place) (8 + length_of (take 8 rest)) rest)
-    else Err place
-    else Ok []
+records_from place (suc skip) (byte ∷ behind) = records_from (suc place) skip behind
+records_from place zero (gate ∷ behind) =
+    if gate == 1 then (if is_whole behind then with_first (payload_of behind) (records_from (suc place) (8 + length_of (take 8 behind)) behind) else Err place) else Ok []
 
--- the payloads of the records of an image, or the place where it is damaged
+-- the payloads of the records of an image, or the place where it is damaged: 0 where it doesn't begin as a store
 unfoldable pub records_of : List ℕ → Result (List (List ℕ)) ℕ
 records_of image = if bytes_eq (take 8 image) magic then records_from 8 0 (drop 8 image) else Err 0
 
@@ -41,7 +45,7 @@ abbrev pub spelling_of : List (List ℕ) → List ℕ
 spelling_of [] = []
 spelling_of (payload ∷ payloads) = 1 ∷ length_bytes (length payload) ++ payload ++ spelling_of payloads
 
--- the records with one more
+-- the records with one more, last
 abbrev pub with_last : List ℕ → Result (List (List ℕ)) ℕ → Result (List (List ℕ)) ℕ
 with_last payload (Ok records) = Ok (records ++ payload ∷ [])
 with_last payload (Err place) = Err place

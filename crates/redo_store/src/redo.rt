@@ -41,8 +41,7 @@ impl Redo {
         ensures cause { Caused 2 (IsErrOf result RedoFault.Stopped) (D.state disk.old) (D.state disk.new) }
         ensures whole { (place : ℕ) → IsErrOf result (RedoFault.Damaged place) → ⊥ }
     {
-        disk.write_at(0, b"TGSTORE1\0")?;
-        disk.sync()?;
+        write_durably(disk, 0, b"TGSTORE1\0")?;
         Ok(())
     }
 
@@ -85,7 +84,10 @@ impl Redo {
         // For want of memory it changes no record.
         ensures refused { IsErrOf result RedoFault.NoMemory → records_of (D.state disk.new).now.seen ≡ records_of (D.state disk.old).now.seen }
 
-        // After both it goes on with its disk; after Stopped it is to be opened again.
+        // Whatever it answers, a read then gives the old list of records, or this list with the payload last.
+        ensures stands { IsOldOrNew (D.state disk.old).now.seen payload.now (D.state disk.new).now.seen }
+
+        // After Ok and NoMemory it goes on with its disk; after Stopped it is to be opened again.
         ensures ready { (IsErrOf result RedoFault.Stopped → ⊥) → CanAppend self.new (D.state disk.new) }
         ensures stopped { IsErrOf result RedoFault.Stopped → IsFalse (is_live self.new) }
 

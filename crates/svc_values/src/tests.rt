@@ -6,19 +6,6 @@ fn name(alloc: Global, text: &str) -> Result<Name, Fail> {
     Ok(Name::new(alloc, text)?)
 }
 
-fn column(alloc: Global, text: &str) -> Result<Column, Fail> {
-    Ok(Column {
-        name: name(alloc, text)?,
-        kind: Kind::Int,
-    })
-}
-
-fn count(alloc: Global) -> Result<Statement, Fail> {
-    Ok(Statement::Count {
-        table: name(alloc, "t")?,
-    })
-}
-
 #[test]
 fn names_keep_to_their_letters(rt: HostRuntime) {
     for text in ["a", "a_9", "z234567890123456"] {
@@ -66,24 +53,31 @@ fn a_row_takes_eight_values(rt: HostRuntime) -> Result<(), Fail> {
     Ok(())
 }
 
+/// Columns of integers with these names.
+fn columns(alloc: Global, names: &[&str]) -> Result<Columns, Fail> {
+    let mut columns = Columns::new(alloc);
+    for text in names {
+        columns.push(Column {
+            name: name(alloc, text)?,
+            kind: Kind::Int,
+        })?;
+    }
+    Ok(columns)
+}
+
+/// A table with these columns.
+fn declared(alloc: Global, names: &[&str]) -> Result<Result<Schema, SchemaFault>, Fail> {
+    let columns = columns(alloc, names)?;
+    Ok(Schema::new(name(alloc, "t")?, columns))
+}
+
 #[test]
 fn tables_have_columns_of_different_names(rt: HostRuntime) -> Result<(), Fail> {
-    let none = Schema::new(name(rt.alloc(), "t")?, Columns::new(rt.alloc()));
+    let none = declared(rt.alloc(), &[])?;
     assert!(rt; matches!(none, Err(SchemaFault::Empty)));
-    let mut twice = Columns::new(rt.alloc());
-    twice.push(column(rt.alloc(), "a")?)?;
-    twice.push(column(rt.alloc(), "b")?)?;
-    twice.push(column(rt.alloc(), "a")?)?;
-    assert!(rt;
-        matches!(
-            Schema::new(name(rt.alloc(), "t")?, twice),
-            Err(SchemaFault::SameName)
-        )
-    );
-    let mut columns = Columns::new(rt.alloc());
-    columns.push(column(rt.alloc(), "a")?)?;
-    columns.push(column(rt.alloc(), "b")?)?;
-    let schema = Schema::new(name(rt.alloc(), "t")?, columns)?;
+    let twice = declared(rt.alloc(), &["a", "b", "a"])?;
+    assert!(rt; matches!(twice, Err(SchemaFault::SameName)));
+    let schema = declared(rt.alloc(), &["a", "b"])??;
     let mut row = Row::new(rt.alloc());
     row.push(Value::Int(1))?;
     assert!(rt; !schema.fits(&row));
@@ -92,44 +86,65 @@ fn tables_have_columns_of_different_names(rt: HostRuntime) -> Result<(), Fail> {
     Ok(())
 }
 
+fn eight_statements(alloc: Global) -> Result<Statements, Fail> {
+    let mut statements = Statements::new(alloc);
+    for _ in 0..8 {
+        statements.push(Statement::Count {
+            table: name(alloc, "t")?,
+        })?;
+    }
+    Ok(statements)
+}
+
 #[test]
 fn work_calls_have_one_to_eight_parts(rt: HostRuntime) -> Result<(), Fail> {
     let nothing = Call::work(Statements::new(rt.alloc()), false);
     assert!(rt; matches!(nothing, Err(CallFault::Empty)));
-    let lone = Call::work(Statements::new(rt.alloc()), true)?;
-    assert!(rt; lone.is_lone_commit() && lone.has_commit() && lone.is_made());
-    let mut statements = Statements::new(rt.alloc());
-    for _ in 0..8 {
-        statements.push(count(rt.alloc())?)?;
-    }
-    let overfull = Call::work(statements.copy(rt.alloc())?, true);
+    let overfull = Call::work(eight_statements(rt.alloc())?, true);
     assert!(rt; matches!(overfull, Err(CallFault::TooMany)));
-    let call = Call::work(statements, false)?;
+    let call = Call::work(eight_statements(rt.alloc())?, false)?;
     assert!(rt; call.is_made() && !call.has_commit() && !call.is_lone_commit());
     Ok(())
 }
 
 #[test]
-fn settings_are_in_order_of_name(rt: HostRuntime) -> Result<(), Fail> {
-    let mut settings = Settings::new(rt.alloc());
-    settings.put(name(rt.alloc(), "b")?, Value::Int(1))?;
-    settings.put(name(rt.alloc(), "a")?, Value::Int(2))?;
-    settings.put(name(rt.alloc(), "b")?, Value::Int(3))?;
-    assert_eq!(rt; settings.len(), 2);
-    assert!(rt; settings.get(&name(rt.alloc(), "b")?) == Some(&Value::Int(3)));
-    assert!(rt; settings.get(&name(rt.alloc(), "c")?).is_none());
-    let mut in_order = settings.as_map().iter();
-    assert!(rt; matches!(in_order.next(), Some((first, Value::Int(2))) if first.as_str() == "a"));
-    assert!(rt; matches!(in_order.next(), Some((second, Value::Int(3))) if second.as_str() == "b"));
-    assert!(rt; in_order.next().is_none());
-    let mut by_last = Settings::new(rt.alloc());
-    for (text, number) in [("a", 2), ("b", 3)] {
-        let next = name(rt.alloc(), text)?;
-        assert!(rt; by_last.can_put_last(&next));
-        by_last.put_last(next, Value::Int(number))?;
+fn a_commit_may_stand_alone(rt: HostRuntime) -> Result<(), Fail> {
+    let call = Call::work(Statements::new(rt.alloc()), true)?;
+    assert!(rt; call.is_made() && call.has_commit() && call.is_lone_commit());
+    Ok(())
+}
+
+/// The settings after these puts.
+fn settings(alloc: Global, puts: &[(&str, i64)]) -> Result<Settings, Fail> {
+    let mut settings = Settings::new(alloc);
+    for (text, number) in puts {
+        settings.put(name(alloc, text)?, Value::Int(*number))?;
     }
-    assert!(rt; !by_last.can_put_last(&name(rt.alloc(), "b")?));
-    assert!(rt; by_last == settings);
+    Ok(settings)
+}
+
+#[test]
+fn settings_keep_the_last_value(rt: HostRuntime) -> Result<(), Fail> {
+    let settings = settings(rt.alloc(), &[("b", 1), ("a", 2), ("b", 3)])?;
+    assert_eq!(rt; settings.len(), 2);
+    let set = name(rt.alloc(), "b")?;
+    assert!(rt; settings.get(&set) == Some(&Value::Int(3)));
+    assert!(rt; !settings.can_put_last(&set));
+    let unset = name(rt.alloc(), "c")?;
+    assert!(rt; settings.get(&unset).is_none());
+    assert!(rt; settings.can_put_last(&unset));
+    Ok(())
+}
+
+#[test]
+fn settings_are_in_order_of_name(rt: HostRuntime) -> Result<(), Fail> {
+    let mut rising = Settings::new(rt.alloc());
+    rising.put_last(name(rt.alloc(), "a")?, Value::Int(2))?;
+    rising.put(name(rt.alloc(), "b")?, Value::Int(3))?;
+    assert!(rt; rising == settings(rt.alloc(), &[("b", 3), ("a", 2)])?);
+    let mut names = rising.as_map().keys();
+    assert!(rt; matches!(names.next(), Some(first) if first.as_str() == "a"));
+    assert!(rt; matches!(names.next(), Some(second) if second.as_str() == "b"));
     Ok(())
 }
 
@@ -166,78 +181,117 @@ fn identifiers_end_at_two_to_the_63(rt: HostRuntime) {
     );
 }
 
-#[test]
-fn copies_are_equal(rt: HostRuntime) -> Result<(), Fail> {
-    let mut settings = Settings::new(rt.alloc());
-    settings.put(
-        name(rt.alloc(), "a")?,
-        Value::Bytes(Octets::new(rt.alloc(), b"\x00\xff")?),
-    )?;
-    let mut row = Row::new(rt.alloc());
-    row.push(Value::Text(Text::new(rt.alloc(), "text")?))?;
-    let mut rows = Rows::new(rt.alloc());
-    rows.push(row.copy(rt.alloc())?)?;
-    let mut answers = Answers::new(rt.alloc());
-    answers.push(Answer::Rows(rows))?;
-    answers.push(Answer::Refused(StatementFault::NoTable))?;
-    let mut draws = Draws::new(rt.alloc());
+/// Whether a copy is made, and is equal.
+fn copies<T: TryCopy + PartialEq + Drop>(alloc: Global, value: T) -> Result<bool, Fail> {
+    let copy = value.copy(alloc)?;
+    Ok(copy == value)
+}
+
+fn draws(alloc: Global) -> Result<Draws, Fail> {
+    let mut draws = Draws::new(alloc);
     draws.push(Draw::Seq {
-        name: name(rt.alloc(), "s")?,
+        name: name(alloc, "s")?,
         value: -1,
     })?;
     draws.push(Draw::Id { id: [7; 16] })?;
-    let mut statements = Statements::new(rt.alloc());
-    statements.push(Statement::Update {
-        table: name(rt.alloc(), "t")?,
-        key: Operand::Var(name(rt.alloc(), "a")?),
-        column: name(rt.alloc(), "c")?,
+    Ok(draws)
+}
+
+fn row(alloc: Global) -> Result<Row, Fail> {
+    let mut row = Row::new(alloc);
+    row.push(Value::Text(Text::new(alloc, "text")?))?;
+    row.push(Value::Bytes(Octets::new(alloc, b"\x00\xff")?))?;
+    Ok(row)
+}
+
+fn answers(alloc: Global) -> Result<Answers, Fail> {
+    let mut rows = Rows::new(alloc);
+    rows.push(row(alloc)?)?;
+    let mut answers = Answers::new(alloc);
+    answers.push(Answer::Rows(rows))?;
+    Ok(answers)
+}
+
+fn update(alloc: Global) -> Result<Statement, Fail> {
+    Ok(Statement::Update {
+        table: name(alloc, "t")?,
+        key: Operand::Lit(Value::Int(1)),
+        column: name(alloc, "c")?,
         change: Change::Plus(Operand::Draw(DrawKind::Clock)),
-    })?;
-    let call = Call::work(statements, true)?;
-    let up = Up::Call {
+    })
+}
+
+fn call(alloc: Global) -> Result<Call, Fail> {
+    let mut statements = Statements::new(alloc);
+    statements.push(update(alloc)?)?;
+    Ok(Call::work(statements, true)?)
+}
+
+const LTXID: Ltxid = Ltxid {
+    incarnation: 1,
+    session: 2,
+    number: 3,
+};
+
+fn up(alloc: Global) -> Result<Up, Fail> {
+    Ok(Up::Call {
         replay: true,
-        kept: draws.copy(rt.alloc())?,
-        call: call.copy(rt.alloc())?,
-    };
-    assert!(rt; up.copy(rt.alloc())? == up);
-    let ltxid = Ltxid {
-        incarnation: 1,
-        session: 2,
-        number: 3,
-    };
-    let down = Down::Reply {
-        answers: answers.copy(rt.alloc())?,
-        draws: draws.copy(rt.alloc())?,
-        ltxid,
-    };
-    assert!(rt; down.copy(rt.alloc())? == down);
-    let mut pieces = Pieces::new(rt.alloc());
+        kept: draws(alloc)?,
+        call: call(alloc)?,
+    })
+}
+
+fn down(alloc: Global) -> Result<Down, Fail> {
+    Ok(Down::Reply {
+        answers: answers(alloc)?,
+        draws: draws(alloc)?,
+        ltxid: LTXID,
+    })
+}
+
+fn pieces(alloc: Global) -> Result<Pieces, Fail> {
+    let mut pieces = Pieces::new(alloc);
     pieces.push(Piece {
-        call,
-        answers,
-        draws,
+        call: call(alloc)?,
+        answers: answers(alloc)?,
+        draws: draws(alloc)?,
     })?;
-    let mut writes = Writes::new(rt.alloc());
+    Ok(pieces)
+}
+
+fn writes(alloc: Global) -> Result<Writes, Fail> {
+    let mut writes = Writes::new(alloc);
     writes.push(Write {
-        table: name(rt.alloc(), "t")?,
+        table: name(alloc, "t")?,
         key: Value::Int(1),
-        row: Some(row),
+        row: Some(row(alloc)?),
     })?;
-    let entry = Entry {
-        ltxid,
+    Ok(writes)
+}
+
+fn entry(alloc: Global) -> Result<Entry, Fail> {
+    Ok(Entry {
+        ltxid: LTXID,
         completed: false,
-        settings,
-        pieces,
-        writes,
-    };
-    assert!(rt; entry.copy(rt.alloc())? == entry);
-    let mut columns = Columns::new(rt.alloc());
-    columns.push(column(rt.alloc(), "a")?)?;
-    let mut schemas = Schemas::new(rt.alloc());
-    schemas.push(Schema::new(name(rt.alloc(), "t")?, columns)?)?;
-    let mut sequences = Names::new(rt.alloc());
-    sequences.push(name(rt.alloc(), "s")?)?;
-    let shape = Shape { schemas, sequences };
-    assert!(rt; shape.copy(rt.alloc())? == shape);
+        settings: settings(alloc, &[("a", 1), ("b", 2)])?,
+        pieces: pieces(alloc)?,
+        writes: writes(alloc)?,
+    })
+}
+
+fn shape(alloc: Global) -> Result<Shape, Fail> {
+    let mut schemas = Schemas::new(alloc);
+    schemas.push(declared(alloc, &["a", "b"])??)?;
+    let mut sequences = Names::new(alloc);
+    sequences.push(name(alloc, "s")?)?;
+    Ok(Shape { schemas, sequences })
+}
+
+#[test]
+fn copies_are_equal(rt: HostRuntime) -> Result<(), Fail> {
+    assert!(rt; copies(rt.alloc(), up(rt.alloc())?)?);
+    assert!(rt; copies(rt.alloc(), down(rt.alloc())?)?);
+    assert!(rt; copies(rt.alloc(), entry(rt.alloc())?)?);
+    assert!(rt; copies(rt.alloc(), shape(rt.alloc())?)?);
     Ok(())
 }

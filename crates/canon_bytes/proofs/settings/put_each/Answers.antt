@@ -19,8 +19,7 @@ loop-name-preserved c =
     let i = c.loop-name.invariant in
     let name = c.in-Some.name.now in
     let value = c.in-Some.value.now in
-    let last : List (List ℕ × Value) = (name, value) ∷ [] in
-    (
+    let last : List (List ℕ × Value) = (name, value) ∷ [] in (
       i.0 ++ last,
       append_assoc i.0 last c.next.new.self ∙ ap (λ (r : List (List ℕ × Value)). i.0 ++ r) (sym c.in-Some.ensures.steps) ∙ i.1,
       c.in_ok-put-2.ensures.written ∙ ap (λ (o : List ℕ). o ++ spell_value value) (c.in_ok-put.ensures.written ∙ ap (λ (o : List ℕ). o ++ spell_bytes name) i.2) ∙ written-push c.args.out.now.items i.0 name value,

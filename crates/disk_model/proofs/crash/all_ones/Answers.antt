@@ -7,17 +7,17 @@ use Rattle.disk_model.proofs.crash.all_ones.Goals as goal
 
 pub fill_ones-requires : goal.fill_ones-requires
 fill_ones-requires c =
-    let v = c.loop-w.invariant in
-    let s = unwind c.args.log.now.items c.args.bytes.now.items c.loop-w.log.items c.pop.new.self.items c.in-Some.w c.in-Some.ensures.items c.if-w.false v.unwound in
+    let v = c.loop-write.invariant in
+    let s = unwind c.args.log.now.items c.args.bytes.now.items c.loop-write.log.items c.pop.new.self.items c.in-Some.write c.in-Some.ensures.items c.if-write.false v.unwound in
     omega (arith, s.0.within, v.unwound.shorter, v.long)
 
-pub loop-w-preserved : goal.loop-w-preserved
-loop-w-preserved c =
-    let w = c.in-Some.w in
-    let v = c.loop-w.invariant in
-    let s = unwind c.args.log.now.items c.args.bytes.now.items c.loop-w.log.items c.pop.new.self.items w c.in-Some.ensures.items c.if-w.false v.unwound in
+pub loop-write-preserved : goal.loop-write-preserved
+loop-write-preserved c =
+    let w = c.in-Some.write in
+    let v = c.loop-write.invariant in
+    let s = unwind c.args.log.now.items c.args.bytes.now.items c.loop-write.log.items c.pop.new.self.items w c.in-Some.ensures.items c.if-write.false v.unwound in
     let f = c.fill_ones.ensures in
-    let e : ranges_of [] c.loop-w.log.items ≡ (w.at, w.len) ∷ ranges_of [] c.pop.new.self.items = ap (ranges_of []) c.in-Some.ensures.items ∙ ranges_push w c.if-w.false c.pop.new.self.items [] in
+    let e : ranges_of [] c.loop-write.log.items ≡ (w.at, w.len) ∷ ranges_of [] c.pop.new.self.items = ap (ranges_of []) c.in-Some.ensures.items ∙ ranges_push w c.if-write.false c.pop.new.self.items [] in
     let within = λ (k : ℕ) (h : InRanges ((w.at, w.len) ∷ ranges_of [] c.pop.new.self.items) k). v.subset k (subst (λ (r : List (ℕ × ℕ)). InRanges r k) (sym e) h) in
     record {
       unwound = s.1;
@@ -33,10 +33,10 @@ loop-w-preserved c =
       same = λ k out. f.outside k (λ h. out (within k (inl h))) ∙ v.same k out;
     }
 
-pub returns-then-w : goal.returns-then-w
-returns-then-w c =
-    let v = c.loop-w.invariant in
-    let none : ranges_of [] c.loop-w.log.items ≡ [] = ap (ranges_of []) c.in-Some.ensures.items ∙ ranges_snoc c.in-Some.w c.if-w.true c.pop.new.self.items [] in
+pub returns-then-write : goal.returns-then-write
+returns-then-write c =
+    let v = c.loop-write.invariant in
+    let none : ranges_of [] c.loop-write.log.items ≡ [] = ap (ranges_of []) c.in-Some.ensures.items ∙ ranges_snoc c.in-Some.write c.if-write.true c.pop.new.self.items [] in
     record {
       long = v.long;
       written = λ k h. ⊎_elim (λ is. is) (λ left. absurd (subst (λ (r : List (ℕ × ℕ)). InRanges r k) none left)) (v.written k h);

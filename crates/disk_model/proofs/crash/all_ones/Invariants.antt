@@ -5,11 +5,11 @@ use Rattle.disk_model.specs.Log.{ranges_of}
 use Rattle.disk_model.proofs.Past.{Unwound}
 use Rattle.disk_model.proofs.crash.all_ones.Given as goal
 
-abbrev pub decreases-loop-w : goal.decreases-loop-w
-decreases-loop-w l = vec_len l.log
+abbrev pub decreases-loop-write : goal.decreases-loop-write
+decreases-loop-write l = vec_len l.log
 
-abbrev pub invariant-loop-w : goal.invariant-loop-w
-invariant-loop-w l = record {
+abbrev pub invariant-loop-write : goal.invariant-loop-write
+invariant-loop-write l = record {
   unwound : Unwound l.fn.log.items l.fn.bytes.items l.log.items;
   long : length l.bytes.items ≡ length l.fn.bytes.items;
   subset : (k : ℕ) → InRanges (ranges_of [] l.log.items) k → InRanges (ranges_of [] l.fn.log.items) k;

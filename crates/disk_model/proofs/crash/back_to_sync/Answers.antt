@@ -5,25 +5,25 @@ use Rattle.disk_model.proofs.Past.{first_bytes-push, synced_push, log_snoc, sync
 use Rattle.disk_model.proofs.crash.back_to_sync.Goals as goal
 
 pub undo-requires : goal.undo-requires
-undo-requires c = (log_snoc c.in-Some.w c.loop-w.bytes.items c.pop.new.self.items (subst (λ (l : List Written). IsLog l c.loop-w.bytes.items) c.in-Some.ensures.items c.loop-w.invariant.fits)).0
+undo-requires c = (log_snoc c.in-Some.write c.loop-write.bytes.items c.pop.new.self.items (subst (λ (l : List Written). IsLog l c.loop-write.bytes.items) c.in-Some.ensures.items c.loop-write.invariant.fits)).0
 
-pub loop-w-preserved : goal.loop-w-preserved
-loop-w-preserved c =
-    let w = c.in-Some.w in
-    let bytes = c.loop-w.bytes.items in
+pub loop-write-preserved : goal.loop-write-preserved
+loop-write-preserved c =
+    let w = c.in-Some.write in
+    let bytes = c.loop-write.bytes.items in
     let log = c.pop.new.self.items in
     let first = first_bytes c.args.log.now.items c.args.bytes.now.items in
     let is = c.undo.ensures in
-    let v = c.loop-w.invariant in
+    let v = c.loop-write.invariant in
     let rest = (log_snoc w bytes log (subst (λ (l : List Written). IsLog l bytes) c.in-Some.ensures.items v.fits)).1 in
     record {
       same_first = ap (first_bytes log) is ∙ sym (first_bytes-push w (bytes_before w bytes) bytes refl log) ∙ ap (λ (l : List Written). first_bytes l bytes) (sym c.in-Some.ensures.items) ∙ v.same_first;
-      same_synced = ap (synced_of first log) is ∙ sym (synced_push w (bytes_before w bytes) bytes refl c.if-w.false log first) ∙ ap (λ (l : List Written). synced_of first l bytes) (sym c.in-Some.ensures.items) ∙ v.same_synced;
+      same_synced = ap (synced_of first log) is ∙ sym (synced_push w (bytes_before w bytes) bytes refl c.if-write.false log first) ∙ ap (λ (l : List Written). synced_of first l bytes) (sym c.in-Some.ensures.items) ∙ v.same_synced;
       fits = subst (IsLog log) (sym is) rest;
     }
 
-pub returns-then-w : goal.returns-then-w
-returns-then-w c =
+pub returns-then-write : goal.returns-then-write
+returns-then-write c =
     let first = first_bytes c.args.log.now.items c.args.bytes.now.items in
-    let bytes = c.loop-w.bytes.items in
-    sym (synced_snoc c.in-Some.w bytes c.if-w.true c.pop.new.self.items first) ∙ ap (λ (l : List Written). synced_of first l bytes) (sym c.in-Some.ensures.items) ∙ c.loop-w.invariant.same_synced
+    let bytes = c.loop-write.bytes.items in
+    sym (synced_snoc c.in-Some.write bytes c.if-write.true c.pop.new.self.items first) ∙ ap (λ (l : List Written). synced_of first l bytes) (sym c.in-Some.ensures.items) ∙ c.loop-write.invariant.same_synced

@@ -2,11 +2,11 @@ use Rattle.std.proofs.Common.{◌≡◌, vec_len}
 use Rattle.disk_model.specs.Log.{first_bytes, synced_of, IsLog}
 use Rattle.disk_model.proofs.crash.back_to_sync.Given as goal
 
-abbrev pub decreases-loop-w : goal.decreases-loop-w
-decreases-loop-w l = vec_len l.log
+abbrev pub decreases-loop-write : goal.decreases-loop-write
+decreases-loop-write l = vec_len l.log
 
-abbrev pub invariant-loop-w : goal.invariant-loop-w
-invariant-loop-w l =
+abbrev pub invariant-loop-write : goal.invariant-loop-write
+invariant-loop-write l =
     let first = first_bytes l.fn.log.items l.fn.bytes.items in
     record {
       same_first : first_bytes l.log.items l.bytes.items ≡ first;

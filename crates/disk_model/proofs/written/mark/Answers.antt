@@ -1,11 +1,11 @@
 use Rattle.std.proofs.Common.{◌≡◌, ℕ, zero, suc, ◌-◌, List, [], ◌∷◌, length, get_or, set, ap, arith}
 use Rattle.disk_model.specs.declared.written.Written.{Written}
-use Rattle.disk_model.specs.Log.{marked, with_sync}
+use Rattle.disk_model.specs.Log.{synced_write, with_sync}
 use Rattle.disk_model.proofs.written.mark.Goals as goal
 
-at_last : (log : List Written) (k : ℕ) (x : Written) → length log ≡ suc k → x ≡ get_or log k x → set log k (marked x) ≡ with_sync log
+at_last : (log : List Written) (k : ℕ) (x : Written) → length log ≡ suc k → x ≡ get_or log k x → set log k (synced_write x) ≡ with_sync log
 at_last [] k x long is = absurd (omega (arith, long))
-at_last (w ∷ []) zero x long is = ap (λ (y : Written). marked y ∷ []) is
+at_last (w ∷ []) zero x long is = ap (λ (y : Written). synced_write y ∷ []) is
 at_last (w ∷ []) (suc k) x long is = absurd (omega (arith, long))
 at_last (w ∷ y ∷ log) zero x long is = absurd (omega (arith, long))
 at_last (w ∷ y ∷ log) (suc k) x long is = ap (λ (l : List Written). w ∷ l) (at_last (y ∷ log) k x (omega (arith, long)) is)

@@ -6,7 +6,7 @@ use Rattle.disk_model.specs.declared.disk.DiskFault.{DiskFault}
 use Rattle.redo_store.specs.Records.{records_of}
 use Rattle.redo_store.specs.Store.{IsStore}
 use Rattle.redo_store.proofs.Gates.{gate_open, added}
-use Rattle.redo_store.proofs.Appending.{fault_cases, old_or_new_since, body_written, kept, still_store, gate_written}
+use Rattle.redo_store.proofs.Appending.{fault_cases, old_or_new_since, old_or_new_now, body_written, kept, still_store, gate_written}
 use Rattle.redo_store.proofs.redo.Redo.append.Goals as goal
 
 pub returns-in-Err-clause-any_moment : goal.returns-in-Err-clause-any_moment
@@ -16,6 +16,10 @@ returns-in-Err-clause-any_moment g c =
 pub returns-in-Err-clause-since : goal.returns-in-Err-clause-since
 returns-in-Err-clause-since g c =
     old_or_new_since (g.D.Disk.state c.args.disk.now) (g.D.Disk.state c.write_durably.new.disk) c.args.payload.now c.requires.settled (returns-in-Err-clause-any_moment g c)
+
+pub returns-in-Err-clause-stands : goal.returns-in-Err-clause-stands
+returns-in-Err-clause-stands g c =
+    old_or_new_now (g.D.Disk.state c.args.disk.now) (g.D.Disk.state c.write_durably.new.disk) c.args.payload.now c.requires.settled (returns-in-Err-clause-any_moment g c) (g.met.D.Disk.reads_now c.write_durably.new.disk)
 
 pub returns-in-Err-write_durably-clause-refused : goal.returns-in-Err-write_durably-clause-refused
 returns-in-Err-write_durably-clause-refused g c no_memory =
@@ -55,6 +59,10 @@ pub returns-in-Err-write_durably-clause-since : goal.returns-in-Err-write_durabl
 returns-in-Err-write_durably-clause-since g c =
     old_or_new_since (g.D.Disk.state c.args.disk.now) (g.D.Disk.state c.write_durably-2.new.disk) c.args.payload.now c.requires.settled (returns-in-Err-write_durably-clause-any_moment g c)
 
+pub returns-in-Err-write_durably-clause-stands : goal.returns-in-Err-write_durably-clause-stands
+returns-in-Err-write_durably-clause-stands g c =
+    old_or_new_now (g.D.Disk.state c.args.disk.now) (g.D.Disk.state c.write_durably-2.new.disk) c.args.payload.now c.requires.settled (returns-in-Err-write_durably-clause-any_moment g c) (g.met.D.Disk.reads_now c.write_durably-2.new.disk)
+
 pub returns-clause-added : goal.returns-clause-added
 returns-clause-added g c =
     let s = g.D.Disk.state c.args.disk.now in
@@ -81,3 +89,7 @@ returns-clause-any_moment g c =
 pub returns-clause-since : goal.returns-clause-since
 returns-clause-since g c =
     old_or_new_since (g.D.Disk.state c.args.disk.now) (g.D.Disk.state c.write_durably-2.new.disk) c.args.payload.now c.requires.settled (returns-clause-any_moment g c)
+
+pub returns-clause-stands : goal.returns-clause-stands
+returns-clause-stands g c =
+    old_or_new_now (g.D.Disk.state c.args.disk.now) (g.D.Disk.state c.write_durably-2.new.disk) c.args.payload.now c.requires.settled (returns-clause-any_moment g c) (g.met.D.Disk.reads_now c.write_durably-2.new.disk)

@@ -1,5 +1,6 @@
-use Rattle.std.proofs.Common.{◌≡◌, ◌++◌, ◌∷◌, [], ◌∙◌, ap, arith, Ok}
-use Rattle.disk_model.specs.Moment.{Moment, with_bytes}
+use Rattle.std.proofs.Common.{◌≡◌, ◌++◌, ◌∷◌, [], ◌<◌, ℕ, List, length, sym, ◌∙◌, ap, arith, Ok}
+use Rattle.std.proofs.lemmas.Grind.{same_number_lists}
+use Rattle.disk_model.specs.Moment.{with_bytes}
 use Rattle.redo_store.specs.Records.{magic, records_of}
 use Rattle.redo_store.proofs.Grammar.{read_image}
 use Rattle.redo_store.proofs.redo.Redo.create.Goals as goal
@@ -8,5 +9,4 @@ no_records : records_of (magic ++ 0 ∷ []) ≡ Ok []
 no_records = read_image [] 0 [] (λ k d lt. absurd (omega (arith, lt))) (λ e. omega (arith, e))
 
 pub returns-clause-empty : goal.returns-clause-empty
-returns-clause-empty g c =
-    ap records_of (c.sync.ensures.seen ∙ ap (λ (m : Moment). m.seen) c.in_ok-write_at.ensures.written ∙ ap (with_bytes 0 (magic ++ 0 ∷ [])) c.requires) ∙ no_records
+returns-clause-empty g c = ap records_of (c.in_ok-write_durably.ensures.written ∙ ap (with_bytes 0 (magic ++ 0 ∷ [])) c.requires) ∙ no_records

@@ -1,0 +1,10 @@
+//! The recorder: the calls of a request that a replay repeats.
+#![tactic(auto)]
+
+mod recorded;
+mod recorder;
+#[cfg(test)]
+mod tests;
+
+pub use recorded::{NoteFault, Recorded, Seen};
+pub use recorder::{Recorder, follows_notes};

@@ -1,0 +1,161 @@
+//! Writing of JSON values.
+ghost use Rattle.std.specs.Prelude.{◌≡◌, IfOk, OnOk, OnErr, map, false};
+ghost use Rattle.serde_json.specs.View.{view, members_view};
+ghost use Rattle.serde_json.specs.Written.{has_float, members_have_float};
+
+use serde_json::{Map, Value, push, put};
+use std::alloc::{AllocError, Global};
+
+/// A JSON value with no number but whole ones, so that its text is known. It is built from the inside
+/// out, and each part is moved to its place.
+#[derive(Drop)]
+pub struct Written {
+    pub value: Value,
+    pub ghost no_float: { has_float (view value) ≡ false },
+}
+
+/// Writes a `T` as a JSON value. The writer is a unit struct, or holds a setting.
+pub trait Writer<T> {
+    ghost use Rattle.serde_json.specs.Data.{Data};
+
+    ghost writes: { Self → T → Data };
+
+    /// What the item is written as.
+    fn write(&self, alloc: Global, item: &T) -> Result<Written, AllocError>
+        ensures { IfOk result (λ w. view w.value ≡ writes self.now item.now) };
+}
+
+impl Written {
+    ghost use Rattle.hex.specs.Hex.{encode_lower};
+    ghost use Rattle.serde_json.specs.Written.{compact_text};
+    ghost use Rattle.json_form.specs.Writing.{text as text_lem, whole as whole_lem, integer as integer_lem, flag as flag_lem, null as null_lem, list, list_by};
+
+    pub fn null() -> Written
+        ensures { view result.value ≡ null_lem }
+    {
+        Written { value: Value::Null }
+    }
+
+    pub fn flag(flag: bool) -> Written
+        ensures { view result.value ≡ flag_lem flag }
+    {
+        Written {
+            value: Value::Bool(flag),
+        }
+    }
+
+    pub fn whole(number: u64) -> Written
+        ensures { view result.value ≡ whole_lem number }
+    {
+        Written {
+            value: Value::from(number),
+        }
+    }
+
+    /// A whole number with a sign.
+    pub fn integer(number: i64) -> Written
+        ensures { view result.value ≡ integer_lem number }
+    {
+        Written {
+            value: Value::from(number),
+        }
+    }
+
+    pub fn text(alloc: Global, text: &str) -> Result<Written, AllocError>
+        ensures { IfOk result (λ w. view w.value ≡ text_lem text.now) }
+    {
+        let value = Value::try_from_str(alloc, text)?;
+        Ok(Written { value })
+    }
+
+    /// Octets as a text of two hexadecimal digits each, in lower case.
+    pub fn octets(alloc: Global, octets: &[u8]) -> Result<Written, AllocError>
+        ensures { IfOk result (λ w. view w.value ≡ text_lem (encode_lower octets.now)) }
+    {
+        let text = hex::encode(alloc, octets)?;
+        Ok(Written {
+            value: Value::String(text),
+        })
+    }
+
+    /// The array of these values.
+    pub fn array<const N: usize>(alloc: Global, values: [Written; N]) -> Result<Written, AllocError>
+        ensures { IfOk result (λ w. view w.value ≡ list (map (λ one. view one.value) values.entry)) }
+    {
+        let mut items = Vec::new(alloc);
+        for one in Vec::from_array(alloc, values)? {
+            let Written { value } = one;
+            push(&mut items, value)?;
+        }
+        Ok(Written {
+            value: Value::Array(items),
+        })
+    }
+
+    /// The array of what each item is written as.
+    pub fn array_of<T, W: Writer<T>>(
+        alloc: Global,
+        items: &[T],
+        writer: &W,
+    ) -> Result<Written, AllocError>
+        ensures { IfOk result (λ w. view w.value ≡ list_by (W.Writer.writes writer.now) items.now) }
+    {
+        let mut values = Vec::new(alloc);
+        for item in items {
+            let Written { value } = writer.write(alloc, item)?;
+            push(&mut values, value)?;
+        }
+        Ok(Written {
+            value: Value::Array(values),
+        })
+    }
+
+    /// The value's compact text (RFC 8259): no white space, and the members of each object in the
+    /// order of their names' bytes. The cost is linear.
+    pub fn to_bytes(&self, alloc: Global) -> Result<Vec<u8>, AllocError>
+        ensures { IfOk result (λ v. v.items ≡ compact_text (view self.now.value)) }
+    {
+        self.value.to_vec(alloc)
+    }
+}
+
+/// An object that is being written.
+#[derive(Drop)]
+pub struct ObjectWriter {
+    pub map: Map<String, Value>,
+    pub ghost no_float: { members_have_float (members_view map.entries) ≡ false },
+}
+
+impl ObjectWriter {
+    ghost use Rattle.serde_json.specs.Data.{object, no_members, put as with_member};
+
+    pub fn new(alloc: Global) -> ObjectWriter
+        ensures { members_view result.map.entries ≡ no_members }
+    {
+        ObjectWriter {
+            map: Map::new(alloc),
+        }
+    }
+
+    /// Puts a member at its place in the order of the names' bytes. Of two members of one name the later
+    /// one stands. The cost is logarithmic in the number of members.
+    pub fn put(&mut self, alloc: Global, name: &str, member: Written) -> Result<(), AllocError>
+        ensures ok { OnOk result (members_view self.new.map.entries
+            ≡ with_member name.now (view member.value) (members_view self.old.map.entries)) }
+        ensures err { OnErr result (self.new.map.entries ≡ self.old.map.entries) }
+    {
+        let Written { value } = member;
+        put(&mut self.map, alloc, name, value)?;
+        Ok(())
+    }
+
+    /// The object of these members. It takes no memory.
+    pub fn written(self) -> Written
+        ensures { view result.value ≡ object (members_view self.map.entries) }
+    {
+        let ObjectWriter { map } = self;
+        Written {
+            value: Value::Object(map),
+        }
+    }
+}

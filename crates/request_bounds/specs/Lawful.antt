@@ -1,0 +1,45 @@
+-- The rules keep the law.
+use Rattle.std.proofs.Common.{◌≡◌, Bool, true, false, if◌then◌else◌, refl, inl, inr}
+use Rattle.request_bounds.specs.declared.rule.Why.TheVariants as why
+use Rattle.request_bounds.specs.declared.rule.After.TheVariants as after
+use Rattle.request_bounds.specs.Replies.{ends_decided}
+use Rattle.request_bounds.specs.Rules.{off_rules, static_rules, dynamic_rules}
+use Rattle.request_bounds.specs.Law.{IsLawful}
+
+pub off_lawful : IsLawful off_rules
+off_lawful = record {
+  purges = λ answers purge. absurd (let none : ⊥ = cc in none);
+  stops = inl (λ call. refl);
+  keeps = λ never answers ends. absurd (let none : ⊥ = cc in none);
+}
+
+-- what the static rule does after answers that are decided, or not
+static_purge : (ends : Bool) → (if ends then after.Purge else after.Record) ≡ after.Purge → ends ≡ true
+static_purge true is = refl
+static_purge false is = absurd (let none : ⊥ = cc in none)
+
+static_record : (ends : Bool) → ends ≡ true → (if ends then after.Purge else after.Record) ≡ after.Record → ⊥
+static_record true e is = let none : ⊥ = cc in none
+static_record false e is = let none : ⊥ = cc in none
+
+pub static_lawful : IsLawful static_rules
+static_lawful = record {
+  purges = λ answers purge. (static_purge (ends_decided answers) purge, inl (λ name value index. refl));
+  stops = inr (λ line index. refl, λ answers ends. static_record (ends_decided answers) ends);
+  keeps = λ never answers ends. absurd (let none : ⊥ = cc in none);
+}
+
+dynamic_purge : (ends : Bool) → (if ends then after.Stop why.AfterCommit else after.Record) ≡ after.Purge → ⊥
+dynamic_purge true is = let none : ⊥ = cc in none
+dynamic_purge false is = let none : ⊥ = cc in none
+
+dynamic_record : (ends : Bool) → ends ≡ true → (if ends then after.Stop why.AfterCommit else after.Record) ≡ after.Record → ⊥
+dynamic_record true e is = let none : ⊥ = cc in none
+dynamic_record false e is = let none : ⊥ = cc in none
+
+pub dynamic_lawful : IsLawful dynamic_rules
+dynamic_lawful = record {
+  purges = λ answers purge. absurd (dynamic_purge (ends_decided answers) purge);
+  stops = inr (λ line index. refl, λ answers ends. dynamic_record (ends_decided answers) ends);
+  keeps = λ never answers ends. absurd (let none : ⊥ = cc in none);
+}

@@ -1,0 +1,118 @@
+//! The rules of a service without replay, with static and with dynamic session state.
+ghost use Rattle.std.specs.Prelude.{◌≡◌};
+ghost use Rattle.request_bounds.specs.Rules.{stopped_at, off_rules, static_rules, dynamic_rules};
+ghost use Rattle.request_bounds.specs.Replies.{ends_decided};
+ghost use Rattle.request_bounds.specs.Lawful.{off_lawful, static_lawful, dynamic_lawful};
+
+use crate::bound::BoundRule;
+use crate::rule::{After, Why};
+use svc_values::{Answer, Call, ends_committed, ends_conflict};
+
+/// No replay at all.
+#[derive(Clone, Copy, Debug, PartialEq, Eq)]
+pub struct OffRule;
+
+/// Static session state: recording begins anew after each transaction, and a call that changes a
+/// setting ends the protection.
+#[derive(Clone, Copy, Debug, PartialEq, Eq)]
+pub struct StaticRule;
+
+/// Dynamic session state: the first transaction of a request that is decided ends its protection.
+#[derive(Clone, Copy, Debug, PartialEq, Eq)]
+pub struct DynamicRule;
+
+/// Whether a commit was reached and decided: the last answer is `Committed` or `Conflict`.
+fn ends_decided(answers: &[Answer]) -> bool
+    ensures { result ≡ ends_decided answers.now }
+{
+    ends_committed(answers) || ends_conflict(answers)
+}
+
+/// The reason that a command gives under each rule that replays: what alters the service is not
+/// repeated, and whoever asks not to be replayed is not.
+fn stopped_at(call: &Call, index: u64) -> Option<Why>
+    ensures { result ≡ stopped_at call.now index }
+{
+    match call {
+        Call::Alter { .. } => Some(Why::Restricted(index)),
+        Call::Disable => Some(Why::Asked(index)),
+        Call::Work { .. } | Call::Set { .. } | Call::Rollback => None,
+    }
+}
+
+impl BoundRule for OffRule {
+    ghost submit = { λ _. off_rules.submit };
+
+    ghost reply = { λ _. off_rules.reply };
+
+    ghost keeps = { λ _. off_rules.keeps };
+
+    ghost lawful = { λ _. off_lawful };
+
+    fn on_submit(&self, _call: &Call, _index: u64) -> Option<Why> {
+        Some(Why::Off)
+    }
+
+    fn on_reply(&self, _answers: &[Answer]) -> After {
+        After::Record
+    }
+
+    fn keeps_settings(&self) -> bool {
+        false
+    }
+}
+
+impl BoundRule for StaticRule {
+    ghost submit = { λ _. static_rules.submit };
+
+    ghost reply = { λ _. static_rules.reply };
+
+    ghost keeps = { λ _. static_rules.keeps };
+
+    ghost lawful = { λ _. static_lawful };
+
+    fn on_submit(&self, call: &Call, index: u64) -> Option<Why> {
+        match call {
+            Call::Set { .. } => Some(Why::Settings(index)),
+            _ => stopped_at(call, index),
+        }
+    }
+
+    fn on_reply(&self, answers: &[Answer]) -> After {
+        if ends_decided(answers) {
+            After::Purge
+        } else {
+            After::Record
+        }
+    }
+
+    fn keeps_settings(&self) -> bool {
+        false
+    }
+}
+
+impl BoundRule for DynamicRule {
+    ghost submit = { λ _. dynamic_rules.submit };
+
+    ghost reply = { λ _. dynamic_rules.reply };
+
+    ghost keeps = { λ _. dynamic_rules.keeps };
+
+    ghost lawful = { λ _. dynamic_lawful };
+
+    fn on_submit(&self, call: &Call, index: u64) -> Option<Why> {
+        stopped_at(call, index)
+    }
+
+    fn on_reply(&self, answers: &[Answer]) -> After {
+        if ends_decided(answers) {
+            After::Stop(Why::AfterCommit)
+        } else {
+            After::Record
+        }
+    }
+
+    fn keeps_settings(&self) -> bool {
+        false
+    }
+}
