@@ -24,7 +24,7 @@ pub use draw::{Draw, DrawKind, Draws};
 pub use ending::{ends_committed, ends_conflict, ends_transaction};
 pub use entry::{Entry, Ltxid, Piece, Pieces, Write, Writes};
 pub use frame::{Ahead, Down, Up};
-pub use list::{Limited, ListFault, Listed};
+pub use list::{Limited, ListFault, Listed, copies};
 pub use memory::{NoMemory, TryCopy};
 pub use schema::{Column, Columns, Names, Schema, SchemaFault, Schemas, Shape};
 pub use settings::Settings;
