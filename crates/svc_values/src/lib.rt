@@ -26,7 +26,7 @@ pub use entry::{Entry, Ltxid, Piece, Pieces, Write, Writes};
 pub use frame::{Ahead, Down, Up};
 pub use list::{Limited, ListFault, Listed, copies};
 pub use memory::{NoMemory, TryCopy};
-pub use schema::{Column, Columns, Names, Schema, SchemaFault, Schemas, Shape};
+pub use schema::{Column, Columns, Names, Schema, SchemaFault, Schemas, Shape, values_fit};
 pub use settings::Settings;
 pub use statement::{Change, Operand, Operands, Statement, Statements, Test};
 pub use text::{Name, NameFault, Octets, Text, TextFault};

@@ -68,7 +68,7 @@ fn are_distinct(columns: &[Column]) -> bool
 }
 
 /// Whether there is one value for each column, of its kind.
-fn values_fit(columns: &[Column], values: &[Value]) -> bool
+pub fn values_fit(columns: &[Column], values: &[Value]) -> bool
     ensures { result ≡ row_fits columns.now values.now }
 {
     match columns {
