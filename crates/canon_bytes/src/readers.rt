@@ -1,10 +1,4 @@
-//! The public readers. Each reads a first value and gives its length beside it.
-//!
-//! A refusal names the first byte at fault in reading order. `Short`: a byte is missing. `BadTag`: a
-//! tag, a flag or a code is none. `BadText`: a text is not UTF-8. `BadPart`, at the first byte of the
-//! part: a name is none; names of settings do not rise; a number of bytes or of items is past the
-//! limit, which is judged before they are read; a part of an identifier is above 2^63; or a work call
-//! is none that `Call::work` makes. Each reader is linear in the bytes that it reads.
+//! The public readers.
 ghost use Rattle.std.specs.Prelude.{◌≡◌, ◌++◌, List, ℕ, ℤ, Ok, length, IfOk, Bool};
 ghost use Rattle.svc_values.specs.declared.answer.Answer.{Answer};
 ghost use Rattle.svc_values.specs.declared.call.Call.{Call};
@@ -40,7 +34,8 @@ use svc_values::{
     Operand, Operands, Piece, Row, Rows, Settings, Statement, Statements, Test, Text, Value, Write,
 };
 
-/// Reads a number.
+/// Reads the unsigned number in front and gives its length in bytes beside it, or the first fault
+/// in reading order. Linear in the bytes read.
 pub fn take_u64(alloc: Global, bytes: &[u8]) -> Result<(u64, usize), CanonFault>
     ensures exact { GivesFirst u64_at bytes.now result }
     ensures found { IfOk result (λ x. Spells spell_u64 FitsU64 bytes.now x.0 x.1) }
@@ -49,7 +44,8 @@ pub fn take_u64(alloc: Global, bytes: &[u8]) -> Result<(u64, usize), CanonFault>
     take_first(alloc, bytes)
 }
 
-/// Reads a number.
+/// Reads the signed number in front and gives its length in bytes beside it, or the first fault in
+/// reading order. Linear in the bytes read.
 pub fn take_i64(alloc: Global, bytes: &[u8]) -> Result<(i64, usize), CanonFault>
     ensures exact { GivesFirst i64_at bytes.now result }
     ensures found { IfOk result (λ x. Spells spell_i64 FitsI64 bytes.now x.0 x.1) }
@@ -58,7 +54,8 @@ pub fn take_i64(alloc: Global, bytes: &[u8]) -> Result<(i64, usize), CanonFault>
     take_first(alloc, bytes)
 }
 
-/// Reads a flag.
+/// Reads the flag in front and gives its length in bytes beside it, or the first fault in reading
+/// order. Linear in the bytes read.
 pub fn take_bool(alloc: Global, bytes: &[u8]) -> Result<(bool, usize), CanonFault>
     ensures exact { GivesFirst bool_at bytes.now result }
     ensures found { IfOk result (λ x. Spells spell_bool FitsBool bytes.now x.0 x.1) }
@@ -67,7 +64,8 @@ pub fn take_bool(alloc: Global, bytes: &[u8]) -> Result<(bool, usize), CanonFaul
     take_first(alloc, bytes)
 }
 
-/// Reads a name.
+/// Reads the name in front and gives its length in bytes beside it, or the first fault in reading
+/// order. Linear in the bytes read.
 pub fn take_name(alloc: Global, bytes: &[u8]) -> Result<(Name, usize), CanonFault>
     ensures exact { GivesFirst name_at bytes.now result }
     ensures found { IfOk result (λ x. Spells spell_bytes FitsName bytes.now x.0 x.1) }
@@ -76,7 +74,8 @@ pub fn take_name(alloc: Global, bytes: &[u8]) -> Result<(Name, usize), CanonFaul
     take_first(alloc, bytes)
 }
 
-/// Reads a text.
+/// Reads the text in front and gives its length in bytes beside it, or the first fault in reading
+/// order. Linear in the bytes read.
 pub fn take_text(alloc: Global, bytes: &[u8]) -> Result<(Text, usize), CanonFault>
     ensures exact { GivesFirst text_at bytes.now result }
     ensures found { IfOk result (λ x. Spells spell_bytes FitsText bytes.now x.0 x.1) }
@@ -85,7 +84,8 @@ pub fn take_text(alloc: Global, bytes: &[u8]) -> Result<(Text, usize), CanonFaul
     take_first(alloc, bytes)
 }
 
-/// Reads a row of octets.
+/// Reads the string of octets in front and gives its length in bytes beside it, or the first fault
+/// in reading order. Linear in the bytes read.
 pub fn take_octets(alloc: Global, bytes: &[u8]) -> Result<(Octets, usize), CanonFault>
     ensures exact { GivesFirst octets_at bytes.now result }
     ensures found { IfOk result (λ x. Spells spell_bytes FitsOctets bytes.now x.0 x.1) }
@@ -94,7 +94,8 @@ pub fn take_octets(alloc: Global, bytes: &[u8]) -> Result<(Octets, usize), Canon
     take_first(alloc, bytes)
 }
 
-/// Reads a kind.
+/// Reads the kind in front and gives its length in bytes beside it, or the first fault in reading
+/// order. Linear in the bytes read.
 pub fn take_kind(alloc: Global, bytes: &[u8]) -> Result<(Kind, usize), CanonFault>
     ensures exact { GivesFirst kind_at bytes.now result }
     ensures found { IfOk result (λ x. Spells spell_kind FitsKind bytes.now x.0 x.1) }
@@ -103,7 +104,8 @@ pub fn take_kind(alloc: Global, bytes: &[u8]) -> Result<(Kind, usize), CanonFaul
     take_first(alloc, bytes)
 }
 
-/// Reads a value.
+/// Reads the value in front and gives its length in bytes beside it, or the first fault in reading
+/// order. Linear in the bytes read.
 pub fn take_value(alloc: Global, bytes: &[u8]) -> Result<(Value, usize), CanonFault>
     ensures exact { GivesFirst value_at bytes.now result }
     ensures found { IfOk result (λ x. Spells spell_value FitsValue bytes.now x.0 x.1) }
@@ -112,7 +114,8 @@ pub fn take_value(alloc: Global, bytes: &[u8]) -> Result<(Value, usize), CanonFa
     take_first(alloc, bytes)
 }
 
-/// Reads a row.
+/// Reads the row in front and gives its length in bytes beside it, or the first fault in reading
+/// order. Linear in the bytes read.
 pub fn take_row(alloc: Global, bytes: &[u8]) -> Result<(Row, usize), CanonFault>
     ensures exact { GivesFirst row_at bytes.now result }
     ensures found { IfOk result (λ x. Spells spell_row FitsRow bytes.now x.0 x.1) }
@@ -121,7 +124,8 @@ pub fn take_row(alloc: Global, bytes: &[u8]) -> Result<(Row, usize), CanonFault>
     take_first(alloc, bytes)
 }
 
-/// Reads a list of rows.
+/// Reads the list of rows in front and gives its length in bytes beside it, or the first fault in
+/// reading order. Linear in the bytes read.
 pub fn take_rows(alloc: Global, bytes: &[u8]) -> Result<(Rows, usize), CanonFault>
     ensures exact { GivesFirst rows_at bytes.now result }
     ensures found { IfOk result (λ x. Spells spell_rows FitsRows bytes.now x.0 x.1) }
@@ -130,7 +134,8 @@ pub fn take_rows(alloc: Global, bytes: &[u8]) -> Result<(Rows, usize), CanonFaul
     take_first(alloc, bytes)
 }
 
-/// Reads an answer.
+/// Reads the answer in front and gives its length in bytes beside it, or the first fault in reading
+/// order. Linear in the bytes read.
 pub fn take_answer(alloc: Global, bytes: &[u8]) -> Result<(Answer, usize), CanonFault>
     ensures exact { GivesFirst answer_at bytes.now result }
     ensures found { IfOk result (λ x. Spells spell_answer FitsAnswer bytes.now x.0 x.1) }
@@ -139,7 +144,8 @@ pub fn take_answer(alloc: Global, bytes: &[u8]) -> Result<(Answer, usize), Canon
     take_first(alloc, bytes)
 }
 
-/// Reads a list of answers.
+/// Reads the list of answers in front and gives its length in bytes beside it, or the first fault
+/// in reading order. Linear in the bytes read.
 pub fn take_answers(alloc: Global, bytes: &[u8]) -> Result<(Answers, usize), CanonFault>
     ensures exact { GivesFirst answers_at bytes.now result }
     ensures found { IfOk result (λ x. Spells spell_answers FitsAnswers bytes.now x.0 x.1) }
@@ -148,7 +154,8 @@ pub fn take_answers(alloc: Global, bytes: &[u8]) -> Result<(Answers, usize), Can
     take_first(alloc, bytes)
 }
 
-/// Reads a kind of draw.
+/// Reads the kind of draw in front and gives its length in bytes beside it, or the first fault in
+/// reading order. Linear in the bytes read.
 pub fn take_draw_kind(alloc: Global, bytes: &[u8]) -> Result<(DrawKind, usize), CanonFault>
     ensures exact { GivesFirst draw_kind_at bytes.now result }
     ensures found { IfOk result (λ x. Spells spell_draw_kind FitsDrawKind bytes.now x.0 x.1) }
@@ -157,7 +164,8 @@ pub fn take_draw_kind(alloc: Global, bytes: &[u8]) -> Result<(DrawKind, usize), 
     take_first(alloc, bytes)
 }
 
-/// Reads a draw.
+/// Reads the draw in front and gives its length in bytes beside it, or the first fault in reading
+/// order. Linear in the bytes read.
 pub fn take_draw(alloc: Global, bytes: &[u8]) -> Result<(Draw, usize), CanonFault>
     ensures exact { GivesFirst draw_at bytes.now result }
     ensures found { IfOk result (λ x. Spells spell_draw FitsDraw bytes.now x.0 x.1) }
@@ -166,7 +174,8 @@ pub fn take_draw(alloc: Global, bytes: &[u8]) -> Result<(Draw, usize), CanonFaul
     take_first(alloc, bytes)
 }
 
-/// Reads a list of draws.
+/// Reads the list of draws in front and gives its length in bytes beside it, or the first fault in
+/// reading order. Linear in the bytes read.
 pub fn take_draws(alloc: Global, bytes: &[u8]) -> Result<(Draws, usize), CanonFault>
     ensures exact { GivesFirst draws_at bytes.now result }
     ensures found { IfOk result (λ x. Spells spell_draws FitsDraws bytes.now x.0 x.1) }
@@ -175,7 +184,8 @@ pub fn take_draws(alloc: Global, bytes: &[u8]) -> Result<(Draws, usize), CanonFa
     take_first(alloc, bytes)
 }
 
-/// Reads an operand.
+/// Reads the operand in front and gives its length in bytes beside it, or the first fault in
+/// reading order. Linear in the bytes read.
 pub fn take_operand(alloc: Global, bytes: &[u8]) -> Result<(Operand, usize), CanonFault>
     ensures exact { GivesFirst operand_at bytes.now result }
     ensures found { IfOk result (λ x. Spells spell_operand FitsOperand bytes.now x.0 x.1) }
@@ -184,7 +194,8 @@ pub fn take_operand(alloc: Global, bytes: &[u8]) -> Result<(Operand, usize), Can
     take_first(alloc, bytes)
 }
 
-/// Reads a list of operands.
+/// Reads the list of operands in front and gives its length in bytes beside it, or the first fault
+/// in reading order. Linear in the bytes read.
 pub fn take_operands(alloc: Global, bytes: &[u8]) -> Result<(Operands, usize), CanonFault>
     ensures exact { GivesFirst operands_at bytes.now result }
     ensures found { IfOk result (λ x. Spells spell_operands FitsOperands bytes.now x.0 x.1) }
@@ -193,7 +204,8 @@ pub fn take_operands(alloc: Global, bytes: &[u8]) -> Result<(Operands, usize), C
     take_first(alloc, bytes)
 }
 
-/// Reads a change.
+/// Reads the change in front and gives its length in bytes beside it, or the first fault in reading
+/// order. Linear in the bytes read.
 pub fn take_change(alloc: Global, bytes: &[u8]) -> Result<(Change, usize), CanonFault>
     ensures exact { GivesFirst change_at bytes.now result }
     ensures found { IfOk result (λ x. Spells spell_change FitsChange bytes.now x.0 x.1) }
@@ -202,7 +214,8 @@ pub fn take_change(alloc: Global, bytes: &[u8]) -> Result<(Change, usize), Canon
     take_first(alloc, bytes)
 }
 
-/// Reads a test.
+/// Reads the test in front and gives its length in bytes beside it, or the first fault in reading
+/// order. Linear in the bytes read.
 pub fn take_test(alloc: Global, bytes: &[u8]) -> Result<(Test, usize), CanonFault>
     ensures exact { GivesFirst test_at bytes.now result }
     ensures found { IfOk result (λ x. Spells spell_test FitsTest bytes.now x.0 x.1) }
@@ -211,7 +224,8 @@ pub fn take_test(alloc: Global, bytes: &[u8]) -> Result<(Test, usize), CanonFaul
     take_first(alloc, bytes)
 }
 
-/// Reads a statement.
+/// Reads the statement in front and gives its length in bytes beside it, or the first fault in
+/// reading order. Linear in the bytes read.
 pub fn take_statement(alloc: Global, bytes: &[u8]) -> Result<(Statement, usize), CanonFault>
     ensures exact { GivesFirst statement_at bytes.now result }
     ensures found { IfOk result (λ x. Spells spell_statement FitsStatement bytes.now x.0 x.1) }
@@ -220,7 +234,8 @@ pub fn take_statement(alloc: Global, bytes: &[u8]) -> Result<(Statement, usize),
     take_first(alloc, bytes)
 }
 
-/// Reads a list of statements.
+/// Reads the list of statements in front and gives its length in bytes beside it, or the first
+/// fault in reading order. Linear in the bytes read.
 pub fn take_statements(alloc: Global, bytes: &[u8]) -> Result<(Statements, usize), CanonFault>
     ensures exact { GivesFirst statements_at bytes.now result }
     ensures found { IfOk result (λ x. Spells spell_statements FitsStatements bytes.now x.0 x.1) }
@@ -229,7 +244,8 @@ pub fn take_statements(alloc: Global, bytes: &[u8]) -> Result<(Statements, usize
     take_first(alloc, bytes)
 }
 
-/// Reads a call.
+/// Reads the call in front and gives its length in bytes beside it, or the first fault in reading
+/// order. Linear in the bytes read.
 pub fn take_call(alloc: Global, bytes: &[u8]) -> Result<(Call, usize), CanonFault>
     ensures exact { GivesFirst call_at bytes.now result }
     ensures found { IfOk result (λ x. Spells spell_call FitsCall bytes.now x.0 x.1) }
@@ -238,7 +254,8 @@ pub fn take_call(alloc: Global, bytes: &[u8]) -> Result<(Call, usize), CanonFaul
     take_first(alloc, bytes)
 }
 
-/// Reads a map of settings.
+/// Reads the map of settings in front and gives its length in bytes beside it, or the first fault
+/// in reading order. Linear in the bytes read.
 pub fn take_settings(alloc: Global, bytes: &[u8]) -> Result<(Settings, usize), CanonFault>
     ensures exact { GivesFirst settings_at bytes.now result }
     ensures found { IfOk result (λ x. Spells spell_settings FitsSettings bytes.now x.0 x.1) }
@@ -247,7 +264,8 @@ pub fn take_settings(alloc: Global, bytes: &[u8]) -> Result<(Settings, usize), C
     take_first(alloc, bytes)
 }
 
-/// Reads an identifier.
+/// Reads the identifier in front and gives its length in bytes beside it, or the first fault in
+/// reading order. Linear in the bytes read.
 pub fn take_ltxid(alloc: Global, bytes: &[u8]) -> Result<(Ltxid, usize), CanonFault>
     ensures exact { GivesFirst ltxid_at bytes.now result }
     ensures found { IfOk result (λ x. Spells spell_ltxid FitsLtxid bytes.now x.0 x.1) }
@@ -256,7 +274,8 @@ pub fn take_ltxid(alloc: Global, bytes: &[u8]) -> Result<(Ltxid, usize), CanonFa
     take_first(alloc, bytes)
 }
 
-/// Reads a piece.
+/// Reads the piece in front and gives its length in bytes beside it, or the first fault in reading
+/// order. Linear in the bytes read.
 pub fn take_piece(alloc: Global, bytes: &[u8]) -> Result<(Piece, usize), CanonFault>
     ensures exact { GivesFirst piece_at bytes.now result }
     ensures found { IfOk result (λ x. Spells spell_piece FitsPiece bytes.now x.0 x.1) }
@@ -265,7 +284,8 @@ pub fn take_piece(alloc: Global, bytes: &[u8]) -> Result<(Piece, usize), CanonFa
     take_first(alloc, bytes)
 }
 
-/// Reads a write.
+/// Reads the write in front and gives its length in bytes beside it, or the first fault in reading
+/// order. Linear in the bytes read.
 pub fn take_write(alloc: Global, bytes: &[u8]) -> Result<(Write, usize), CanonFault>
     ensures exact { GivesFirst write_at bytes.now result }
     ensures found { IfOk result (λ x. Spells spell_write FitsWrite bytes.now x.0 x.1) }
@@ -274,7 +294,8 @@ pub fn take_write(alloc: Global, bytes: &[u8]) -> Result<(Write, usize), CanonFa
     take_first(alloc, bytes)
 }
 
-/// Reads an entry.
+/// Reads the entry in front and gives its length in bytes beside it, or the first fault in reading
+/// order. Linear in the bytes read.
 pub fn take_entry(alloc: Global, bytes: &[u8]) -> Result<(Entry, usize), CanonFault>
     ensures exact { GivesFirst entry_at bytes.now result }
     ensures found { IfOk result (λ x. Spells spell_entry FitsEntry bytes.now x.0 x.1) }

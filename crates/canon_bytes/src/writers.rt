@@ -1,5 +1,4 @@
-//! The public writers. Each appends the one spelling of a value, and leaves `out` as it was where
-//! memory is refused. Each is linear in the spelling.
+//! The public writers.
 ghost use Rattle.std.specs.Prelude.{◌≡◌, ◌++◌, OnOk, OnErr};
 ghost use Rattle.canon_bytes.specs.AnswerBytes.{spell_rows, FitsRows, spell_answer, FitsAnswer, spell_answers, FitsAnswers};
 ghost use Rattle.canon_bytes.specs.CallBytes.{spell_call, FitsCall};
@@ -22,7 +21,8 @@ use svc_values::{
     Value, Write,
 };
 
-/// Writes a number.
+/// Appends the one spelling of an unsigned number, or leaves `out` as it was where memory is
+/// refused. Linear in the spelling.
 pub fn put_u64(alloc: Global, value: &u64, out: &mut Vec<u8>) -> Result<(), NoMemory>
     ensures written { OnOk result (out.new.items ≡ out.old.items ++ spell_u64 value.now) }
     ensures fitting { OnOk result (FitsU64 value.now) }
@@ -31,7 +31,8 @@ pub fn put_u64(alloc: Global, value: &u64, out: &mut Vec<u8>) -> Result<(), NoMe
     put_last(alloc, value, out)
 }
 
-/// Writes a number.
+/// Appends the one spelling of a signed number, or leaves `out` as it was where memory is refused.
+/// Linear in the spelling.
 pub fn put_i64(alloc: Global, value: &i64, out: &mut Vec<u8>) -> Result<(), NoMemory>
     ensures written { OnOk result (out.new.items ≡ out.old.items ++ spell_i64 value.now) }
     ensures fitting { OnOk result (FitsI64 value.now) }
@@ -40,7 +41,8 @@ pub fn put_i64(alloc: Global, value: &i64, out: &mut Vec<u8>) -> Result<(), NoMe
     put_last(alloc, value, out)
 }
 
-/// Writes a flag.
+/// Appends the one spelling of a flag, or leaves `out` as it was where memory is refused. Linear in
+/// the spelling.
 pub fn put_bool(alloc: Global, value: &bool, out: &mut Vec<u8>) -> Result<(), NoMemory>
     ensures written { OnOk result (out.new.items ≡ out.old.items ++ spell_bool value.now) }
     ensures fitting { OnOk result (FitsBool value.now) }
@@ -49,7 +51,8 @@ pub fn put_bool(alloc: Global, value: &bool, out: &mut Vec<u8>) -> Result<(), No
     put_last(alloc, value, out)
 }
 
-/// Writes a name.
+/// Appends the one spelling of a name, or leaves `out` as it was where memory is refused. Linear in
+/// the spelling.
 pub fn put_name(alloc: Global, value: &Name, out: &mut Vec<u8>) -> Result<(), NoMemory>
     ensures written { OnOk result (out.new.items ≡ out.old.items ++ spell_bytes value.now) }
     ensures fitting { OnOk result (FitsName value.now) }
@@ -58,7 +61,8 @@ pub fn put_name(alloc: Global, value: &Name, out: &mut Vec<u8>) -> Result<(), No
     put_last(alloc, value, out)
 }
 
-/// Writes a text.
+/// Appends the one spelling of a text, or leaves `out` as it was where memory is refused. Linear in
+/// the spelling.
 pub fn put_text(alloc: Global, value: &Text, out: &mut Vec<u8>) -> Result<(), NoMemory>
     ensures written { OnOk result (out.new.items ≡ out.old.items ++ spell_bytes value.now) }
     ensures fitting { OnOk result (FitsText value.now) }
@@ -67,7 +71,8 @@ pub fn put_text(alloc: Global, value: &Text, out: &mut Vec<u8>) -> Result<(), No
     put_last(alloc, value, out)
 }
 
-/// Writes a row of octets.
+/// Appends the one spelling of a string of octets, or leaves `out` as it was where memory is
+/// refused. Linear in the spelling.
 pub fn put_octets(alloc: Global, value: &Octets, out: &mut Vec<u8>) -> Result<(), NoMemory>
     ensures written { OnOk result (out.new.items ≡ out.old.items ++ spell_bytes value.now) }
     ensures fitting { OnOk result (FitsOctets value.now) }
@@ -76,7 +81,8 @@ pub fn put_octets(alloc: Global, value: &Octets, out: &mut Vec<u8>) -> Result<()
     put_last(alloc, value, out)
 }
 
-/// Writes a kind.
+/// Appends the one spelling of a kind, or leaves `out` as it was where memory is refused. Linear in
+/// the spelling.
 pub fn put_kind(alloc: Global, value: &Kind, out: &mut Vec<u8>) -> Result<(), NoMemory>
     ensures written { OnOk result (out.new.items ≡ out.old.items ++ spell_kind value.now) }
     ensures fitting { OnOk result (FitsKind value.now) }
@@ -85,7 +91,8 @@ pub fn put_kind(alloc: Global, value: &Kind, out: &mut Vec<u8>) -> Result<(), No
     put_last(alloc, value, out)
 }
 
-/// Writes a value.
+/// Appends the one spelling of a value, or leaves `out` as it was where memory is refused. Linear
+/// in the spelling.
 pub fn put_value(alloc: Global, value: &Value, out: &mut Vec<u8>) -> Result<(), NoMemory>
     ensures written { OnOk result (out.new.items ≡ out.old.items ++ spell_value value.now) }
     ensures fitting { OnOk result (FitsValue value.now) }
@@ -94,7 +101,8 @@ pub fn put_value(alloc: Global, value: &Value, out: &mut Vec<u8>) -> Result<(), 
     put_last(alloc, value, out)
 }
 
-/// Writes a row.
+/// Appends the one spelling of a row, or leaves `out` as it was where memory is refused. Linear in
+/// the spelling.
 pub fn put_row(alloc: Global, value: &Row, out: &mut Vec<u8>) -> Result<(), NoMemory>
     ensures written { OnOk result (out.new.items ≡ out.old.items ++ spell_row value.now) }
     ensures fitting { OnOk result (FitsRow value.now) }
@@ -103,7 +111,8 @@ pub fn put_row(alloc: Global, value: &Row, out: &mut Vec<u8>) -> Result<(), NoMe
     put_last(alloc, value, out)
 }
 
-/// Writes a list of rows.
+/// Appends the one spelling of a list of rows, or leaves `out` as it was where memory is refused.
+/// Linear in the spelling.
 pub fn put_rows(alloc: Global, value: &Rows, out: &mut Vec<u8>) -> Result<(), NoMemory>
     ensures written { OnOk result (out.new.items ≡ out.old.items ++ spell_rows value.now) }
     ensures fitting { OnOk result (FitsRows value.now) }
@@ -112,7 +121,8 @@ pub fn put_rows(alloc: Global, value: &Rows, out: &mut Vec<u8>) -> Result<(), No
     put_last(alloc, value, out)
 }
 
-/// Writes an answer.
+/// Appends the one spelling of an answer, or leaves `out` as it was where memory is refused. Linear
+/// in the spelling.
 pub fn put_answer(alloc: Global, value: &Answer, out: &mut Vec<u8>) -> Result<(), NoMemory>
     ensures written { OnOk result (out.new.items ≡ out.old.items ++ spell_answer value.now) }
     ensures fitting { OnOk result (FitsAnswer value.now) }
@@ -121,7 +131,8 @@ pub fn put_answer(alloc: Global, value: &Answer, out: &mut Vec<u8>) -> Result<()
     put_last(alloc, value, out)
 }
 
-/// Writes a list of answers.
+/// Appends the one spelling of a list of answers, or leaves `out` as it was where memory is
+/// refused. Linear in the spelling.
 pub fn put_answers(alloc: Global, value: &Answers, out: &mut Vec<u8>) -> Result<(), NoMemory>
     ensures written { OnOk result (out.new.items ≡ out.old.items ++ spell_answers value.now) }
     ensures fitting { OnOk result (FitsAnswers value.now) }
@@ -130,7 +141,8 @@ pub fn put_answers(alloc: Global, value: &Answers, out: &mut Vec<u8>) -> Result<
     put_last(alloc, value, out)
 }
 
-/// Writes a kind of draw.
+/// Appends the one spelling of a kind of draw, or leaves `out` as it was where memory is refused.
+/// Linear in the spelling.
 pub fn put_draw_kind(alloc: Global, value: &DrawKind, out: &mut Vec<u8>) -> Result<(), NoMemory>
     ensures written { OnOk result (out.new.items ≡ out.old.items ++ spell_draw_kind value.now) }
     ensures fitting { OnOk result (FitsDrawKind value.now) }
@@ -139,7 +151,8 @@ pub fn put_draw_kind(alloc: Global, value: &DrawKind, out: &mut Vec<u8>) -> Resu
     put_last(alloc, value, out)
 }
 
-/// Writes a draw.
+/// Appends the one spelling of a draw, or leaves `out` as it was where memory is refused. Linear in
+/// the spelling.
 pub fn put_draw(alloc: Global, value: &Draw, out: &mut Vec<u8>) -> Result<(), NoMemory>
     ensures written { OnOk result (out.new.items ≡ out.old.items ++ spell_draw value.now) }
     ensures fitting { OnOk result (FitsDraw value.now) }
@@ -148,7 +161,8 @@ pub fn put_draw(alloc: Global, value: &Draw, out: &mut Vec<u8>) -> Result<(), No
     put_last(alloc, value, out)
 }
 
-/// Writes a list of draws.
+/// Appends the one spelling of a list of draws, or leaves `out` as it was where memory is refused.
+/// Linear in the spelling.
 pub fn put_draws(alloc: Global, value: &Draws, out: &mut Vec<u8>) -> Result<(), NoMemory>
     ensures written { OnOk result (out.new.items ≡ out.old.items ++ spell_draws value.now) }
     ensures fitting { OnOk result (FitsDraws value.now) }
@@ -157,7 +171,8 @@ pub fn put_draws(alloc: Global, value: &Draws, out: &mut Vec<u8>) -> Result<(), 
     put_last(alloc, value, out)
 }
 
-/// Writes an operand.
+/// Appends the one spelling of an operand, or leaves `out` as it was where memory is refused.
+/// Linear in the spelling.
 pub fn put_operand(alloc: Global, value: &Operand, out: &mut Vec<u8>) -> Result<(), NoMemory>
     ensures written { OnOk result (out.new.items ≡ out.old.items ++ spell_operand value.now) }
     ensures fitting { OnOk result (FitsOperand value.now) }
@@ -166,7 +181,8 @@ pub fn put_operand(alloc: Global, value: &Operand, out: &mut Vec<u8>) -> Result<
     put_last(alloc, value, out)
 }
 
-/// Writes a list of operands.
+/// Appends the one spelling of a list of operands, or leaves `out` as it was where memory is
+/// refused. Linear in the spelling.
 pub fn put_operands(alloc: Global, value: &Operands, out: &mut Vec<u8>) -> Result<(), NoMemory>
     ensures written { OnOk result (out.new.items ≡ out.old.items ++ spell_operands value.now) }
     ensures fitting { OnOk result (FitsOperands value.now) }
@@ -175,7 +191,8 @@ pub fn put_operands(alloc: Global, value: &Operands, out: &mut Vec<u8>) -> Resul
     put_last(alloc, value, out)
 }
 
-/// Writes a change.
+/// Appends the one spelling of a change, or leaves `out` as it was where memory is refused. Linear
+/// in the spelling.
 pub fn put_change(alloc: Global, value: &Change, out: &mut Vec<u8>) -> Result<(), NoMemory>
     ensures written { OnOk result (out.new.items ≡ out.old.items ++ spell_change value.now) }
     ensures fitting { OnOk result (FitsChange value.now) }
@@ -184,7 +201,8 @@ pub fn put_change(alloc: Global, value: &Change, out: &mut Vec<u8>) -> Result<()
     put_last(alloc, value, out)
 }
 
-/// Writes a test.
+/// Appends the one spelling of a test, or leaves `out` as it was where memory is refused. Linear in
+/// the spelling.
 pub fn put_test(alloc: Global, value: &Test, out: &mut Vec<u8>) -> Result<(), NoMemory>
     ensures written { OnOk result (out.new.items ≡ out.old.items ++ spell_test value.now) }
     ensures fitting { OnOk result (FitsTest value.now) }
@@ -193,7 +211,8 @@ pub fn put_test(alloc: Global, value: &Test, out: &mut Vec<u8>) -> Result<(), No
     put_last(alloc, value, out)
 }
 
-/// Writes a statement.
+/// Appends the one spelling of a statement, or leaves `out` as it was where memory is refused.
+/// Linear in the spelling.
 pub fn put_statement(alloc: Global, value: &Statement, out: &mut Vec<u8>) -> Result<(), NoMemory>
     ensures written { OnOk result (out.new.items ≡ out.old.items ++ spell_statement value.now) }
     ensures fitting { OnOk result (FitsStatement value.now) }
@@ -202,7 +221,8 @@ pub fn put_statement(alloc: Global, value: &Statement, out: &mut Vec<u8>) -> Res
     put_last(alloc, value, out)
 }
 
-/// Writes a list of statements.
+/// Appends the one spelling of a list of statements, or leaves `out` as it was where memory is
+/// refused. Linear in the spelling.
 pub fn put_statements(alloc: Global, value: &Statements, out: &mut Vec<u8>) -> Result<(), NoMemory>
     ensures written { OnOk result (out.new.items ≡ out.old.items ++ spell_statements value.now) }
     ensures fitting { OnOk result (FitsStatements value.now) }
@@ -211,7 +231,8 @@ pub fn put_statements(alloc: Global, value: &Statements, out: &mut Vec<u8>) -> R
     put_last(alloc, value, out)
 }
 
-/// Writes a call.
+/// Appends the one spelling of a call, or leaves `out` as it was where memory is refused. Linear in
+/// the spelling. A work call must be one that `Call::work` makes.
 pub fn put_call(alloc: Global, value: &Call, out: &mut Vec<u8>) -> Result<(), NoMemory>
     requires { IsMade value.now }
     ensures written { OnOk result (out.new.items ≡ out.old.items ++ spell_call value.now) }
@@ -221,7 +242,8 @@ pub fn put_call(alloc: Global, value: &Call, out: &mut Vec<u8>) -> Result<(), No
     put_made_last(alloc, value, out)
 }
 
-/// Writes a map of settings.
+/// Appends the one spelling of a map of settings, or leaves `out` as it was where memory is
+/// refused. Linear in the spelling.
 pub fn put_settings(alloc: Global, value: &Settings, out: &mut Vec<u8>) -> Result<(), NoMemory>
     ensures written { OnOk result (out.new.items ≡ out.old.items ++ spell_settings value.now) }
     ensures fitting { OnOk result (FitsSettings value.now) }
@@ -230,7 +252,8 @@ pub fn put_settings(alloc: Global, value: &Settings, out: &mut Vec<u8>) -> Resul
     put_last(alloc, value, out)
 }
 
-/// Writes an identifier.
+/// Appends the one spelling of an identifier, or leaves `out` as it was where memory is refused.
+/// Linear in the spelling. The parts must be at most 2^63.
 pub fn put_ltxid(alloc: Global, value: &Ltxid, out: &mut Vec<u8>) -> Result<(), NoMemory>
     requires { IsLtxid value.now }
     ensures written { OnOk result (out.new.items ≡ out.old.items ++ spell_ltxid value.now) }
@@ -240,7 +263,8 @@ pub fn put_ltxid(alloc: Global, value: &Ltxid, out: &mut Vec<u8>) -> Result<(), 
     put_made_last(alloc, value, out)
 }
 
-/// Writes a piece.
+/// Appends the one spelling of a piece, or leaves `out` as it was where memory is refused. Linear
+/// in the spelling. A work call must be one that `Call::work` makes.
 pub fn put_piece(alloc: Global, value: &Piece, out: &mut Vec<u8>) -> Result<(), NoMemory>
     requires { IsMadePiece value.now }
     ensures written { OnOk result (out.new.items ≡ out.old.items ++ spell_piece value.now) }
@@ -250,7 +274,8 @@ pub fn put_piece(alloc: Global, value: &Piece, out: &mut Vec<u8>) -> Result<(), 
     put_made_last(alloc, value, out)
 }
 
-/// Writes a write.
+/// Appends the one spelling of a write, or leaves `out` as it was where memory is refused. Linear
+/// in the spelling.
 pub fn put_write(alloc: Global, value: &Write, out: &mut Vec<u8>) -> Result<(), NoMemory>
     ensures written { OnOk result (out.new.items ≡ out.old.items ++ spell_write value.now) }
     ensures fitting { OnOk result (FitsWrite value.now) }
@@ -259,7 +284,9 @@ pub fn put_write(alloc: Global, value: &Write, out: &mut Vec<u8>) -> Result<(), 
     put_last(alloc, value, out)
 }
 
-/// Writes an entry.
+/// Appends the one spelling of an entry, or leaves `out` as it was where memory is refused. Linear
+/// in the spelling. The parts of the identifier must be at most 2^63, and the work calls such as
+/// `Call::work` makes.
 pub fn put_entry(alloc: Global, value: &Entry, out: &mut Vec<u8>) -> Result<(), NoMemory>
     requires { IsMadeEntry value.now }
     ensures written { OnOk result (out.new.items ≡ out.old.items ++ spell_entry value.now) }

@@ -1,3 +1,13 @@
+pub mod CallItems
 mod Moves
+pub mod Readings
+pub mod DistinctKeys
+pub mod ReadTables
+pub mod ReadCalls
+pub mod ReadDocuments
+mod ValueEquality
 mod NoDraws
 mod SerialRun
+mod Literals
+mod RowOrder
+mod Reports

@@ -2,21 +2,17 @@
 use Rattle.std.proofs.Common.{◌≡◌, ℕ, List, [], ◌∷◌, ◌++◌, Bool, true, false, Option, Some, None, Result, Ok, Err, if◌then◌else◌, refl, sym, subst, ap}
 use Rattle.svc_values.specs.declared.value.Value.{Value}
 use Rattle.svc_values.specs.declared.schema.Shape.{Shape}
-use Rattle.svc_values.specs.declared.draw.DrawKind.{DrawKind}
-use Rattle.svc_values.specs.declared.draw.DrawKind.TheVariants as kind
 use Rattle.svc_values.specs.declared.draw.Draw.{Draw}
 use Rattle.svc_values.specs.declared.statement.Operand.{Operand}
-use Rattle.svc_values.specs.declared.statement.Operand.TheVariants as operand
 use Rattle.svc_values.specs.declared.statement.Statement.{Statement}
 use Rattle.svc_values.specs.declared.call.Call.{Call}
 use Rattle.svc_values.specs.declared.call.Call.TheVariants as call
 use Rattle.svc_values.specs.declared.answer.StatementFault.{StatementFault}
-use Rattle.svc_values.specs.SettingsList.{setting_of}
 use Rattle.stmt_meaning.specs.declared.tables.PlainRow.{PlainRow}
 use Rattle.stmt_meaning.specs.declared.plan.Plan.{Plan}
 use Rattle.stmt_meaning.specs.Tables.{with_writes}
-use Rattle.stmt_meaning.specs.Operands.{Read, ◌>>=◌, take_draw, value_of_draw, value_of, values_of, is_name_of}
-use Rattle.stmt_meaning.specs.Plans.{Target, plan_at, plan_of, plan_for, target_of, operands_of}
+use Rattle.stmt_meaning.specs.Operands.{Read, ◌>>=◌, Wanted, Known, Drawn, wanted, taken, value_of, values_of}
+use Rattle.stmt_meaning.specs.Plans.{Aim, plan_at, plan_of, plan_for, aim_of, operands_of}
 use Rattle.stmt_meaning.specs.Meaning.{OneDone, AllDone, Meant, done_at, mean1, is_refusal, ended_by, after_first, and_on, statements_done, worked, mean}
 use Rattle.continuity_run.specs.Headline.{settings_after}
 
@@ -30,20 +26,13 @@ spent_then None next h k = tt
 spent_then (Some (Err e, draws)) next h k = h
 spent_then (Some (Ok x, draws)) next h k = subst (λ d. Spent (next x d)) (sym h) (k x)
 
-
-spent_draw_by : (b : Bool) (x : Read Value) (y : Read Value) → Spent x → Spent y → Spent (if b then x else y)
-spent_draw_by true x y h k = h
-spent_draw_by false x y h k = k
-
-spent_draw : (sequences : List (List ℕ)) (asked : DrawKind) → Spent (value_of_draw sequences asked [])
-spent_draw sequences (kind.Seq name) = spent_draw_by (is_name_of sequences name) (take_draw (kind.Seq name) []) _ tt refl
-spent_draw sequences kind.Clock = tt
-spent_draw sequences kind.Id = tt
+spent_taken : (w : Result Wanted StatementFault) → Spent (taken w [])
+spent_taken (Err e) = refl
+spent_taken (Ok (Known x)) = refl
+spent_taken (Ok (Drawn asked)) = tt
 
 spent_value : (sequences : List (List ℕ)) (settings : List (List ℕ × Value)) (o : Operand) → Spent (value_of sequences settings o [])
-spent_value sequences settings (operand.Lit x) = refl
-spent_value sequences settings (operand.Var name) = refl
-spent_value sequences settings (operand.Draw asked) = spent_draw sequences asked
+spent_value sequences settings o = spent_taken (wanted sequences settings o)
 
 spent_values : (sequences : List (List ℕ)) (settings : List (List ℕ × Value)) (os : List Operand) → Spent (values_of sequences settings os [])
 spent_values sequences settings [] = refl
@@ -51,7 +40,7 @@ spent_values sequences settings (o ∷ os) =
     spent_then (value_of sequences settings o []) (λ x left. values_of sequences settings os left >>= λ xs over. Some (Ok (x ∷ xs), over)) (spent_value sequences settings o)
     (λ x. spent_then (values_of sequences settings os []) (λ xs over. Some (Ok (x ∷ xs), over)) (spent_values sequences settings os) (λ xs. refl))
 
-spent_plan : (shape : Shape) (settings : List (List ℕ × Value)) (s : Statement) (target : Result Target StatementFault) → Spent (plan_at shape settings s [] target)
+spent_plan : (shape : Shape) (settings : List (List ℕ × Value)) (s : Statement) (target : Result Aim StatementFault) → Spent (plan_at shape settings s [] target)
 spent_plan shape settings s (Err e) = refl
 spent_plan shape settings s (Ok target) =
     spent_then (values_of shape.sequences settings (operands_of s) []) (λ values left. Some (plan_for target s values, left)) (spent_values shape.sequences settings (operands_of s)) (λ values. refl)
@@ -85,7 +74,7 @@ spent_statements : (shape : Shape) (tables : List PlainRow) (settings : List (Li
 spent_statements shape tables settings [] = refl
 spent_statements shape tables settings (s ∷ ss) =
     spent_on (mean1 shape tables settings s []) (λ one. statements_done shape (with_writes tables one.writes) settings ss one.rest)
-    (spent_one tables (plan_of shape settings s []) (spent_plan shape settings s (target_of shape.schemas s)))
+    (spent_one tables (plan_of shape settings s []) (spent_plan shape settings s (aim_of shape.schemas s)))
     (λ one left. subst (λ d. SpentAll (statements_done shape (with_writes tables one.writes) settings ss d)) (sym left) (spent_statements shape (with_writes tables one.writes) settings ss))
 
 -- a call that was handed no draw leaves none, and the settings are those after it

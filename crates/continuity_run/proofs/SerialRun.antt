@@ -1,19 +1,21 @@
 -- Each step of a run keeps its entries serial.
 use Rattle.std.proofs.Common.{◌≡◌, ℕ, ◌+◌, List, [], ◌∷◌, ◌++◌, length, Bool, true, false, Option, Some, None, if◌then◌else◌, refl, sym, ap, ◌∙◌, subst, append_assoc, append-nil, length-append}
-use Rattle.std.specs.Prelude.{option_and_then, MatchBool}
+use Rattle.std.specs.Prelude.{option_and_then, MatchBool, map}
+use Rattle.std.proofs.lemmas.List.{map_push}
 use Rattle.std.specs.Option.{option_map}
 use Rattle.svc_values.specs.declared.value.Value.{Value}
 use Rattle.svc_values.specs.declared.schema.Shape.{Shape}
 use Rattle.svc_values.specs.declared.call.Call.{Call}
 use Rattle.svc_values.specs.declared.entry.Piece.{Piece}
 use Rattle.svc_values.specs.declared.entry.Entry.{Entry}
+use Rattle.continuity_run.specs.declared.report.ReportEntry.{ReportEntry}
 use Rattle.svc_values.specs.Calls.{is_lone_commit}
 use Rattle.svc_values.specs.Endings.{ends_committed}
 use Rattle.stmt_meaning.specs.declared.tables.PlainRow.{PlainRow}
 use Rattle.stmt_meaning.specs.Meaning.{Meant, mean}
 use Rattle.stmt_meaning.specs.Serial.{Replays, Transaction, Serial}
 use Rattle.continuity_run.specs.declared.report.ShownCall.{ShownCall}
-use Rattle.continuity_run.specs.Run.{Run, step, run_of, after_call, committed_run, open_run, piece_of, entry_of, shown_with, identifier}
+use Rattle.continuity_run.specs.Run.{Run, step, run_of, after_call, committed_run, open_run, piece_of, entry_of, shown_with, identifier, journaled}
 use Rattle.continuity_run.specs.Headline.{ShownInTurn, shown_piece, settings_after, HasEntry, OneEntryEach}
 use Rattle.continuity_run.proofs.NoDraws.{Kept, KeptIf, kept}
 
@@ -47,7 +49,7 @@ serial_more shape a (f ∷ es) e b c h last = (h.0, (h.1.0, serial_more shape h.
 
 -- a run so far
 pub record Good (shape : Shape) (before : List PlainRow) (run : Run) : Type 0 where
-  pub serial : Serial shape before run.entries run.committed
+  pub serial : Serial shape before (map journaled run.entries) run.committed
   pub pending : Pending shape run.committed run.began run.pieces run.seen run.settings
 
 replayed : (shape : Shape) (run : Run) (c : Call) (meant : Meant) → mean shape run.seen run.settings c [] ≡ Some meant → meant.rest ≡ [] → Replays shape run.seen run.settings (piece_of c meant) meant
@@ -56,7 +58,7 @@ replayed shape run c meant is rest = record { run = is; draws = rest; answers = 
 good_after : (shape : Shape) (before : List PlainRow) (run : Run) (c : Call) (meant : Meant) → mean shape run.seen run.settings c [] ≡ Some meant → meant.rest ≡ []
     → (b : Bool) → ends_committed meant.answers ≡ b → Good shape before run → Good shape before (if b then committed_run run c meant else open_run run c meant)
 good_after shape before run c meant is rest true e g = record {
-  serial = serial_more shape before run.entries (entry_of run c meant) run.committed meant.tables g.serial (committed shape run.committed run.began run.pieces (piece_of c meant) run.seen run.settings meant g.pending (replayed shape run c meant is rest) e);
+  serial = subst (λ (es : List Entry). Serial shape before es meant.tables) (sym (map_push journaled run.entries (entry_of run c meant))) (serial_more shape before (map journaled run.entries) (journaled (entry_of run c meant)) run.committed meant.tables g.serial (committed shape run.committed run.began run.pieces (piece_of c meant) run.seen run.settings meant g.pending (replayed shape run c meant is rest) e));
   pending = (refl, refl);
 }
 good_after shape before run c meant is rest false e g = record {
@@ -70,7 +72,7 @@ pub record Goes (shape : Shape) (before : List PlainRow) (run : Run) (calls : Li
   pub more : List ShownCall
   pub shown : after.shown ≡ run.shown ++ more
   pub in_turn : ShownInTurn shape run.seen run.settings calls more
-  pub later : List Entry
+  pub later : List ReportEntry
   pub entries : after.entries ≡ run.entries ++ later
   pub each : OneEntryEach (length run.entries) run.began run.settings run.pieces calls more later
 
@@ -92,9 +94,9 @@ goes_after shape before run c cs meant is k true e after g =
       later = entry ∷ g.later;
       entries = g.entries ∙ append_assoc run.entries (entry ∷ []) g.later;
       each = subst (λ (b : Bool). MatchBool b
-        (HasEntry (length run.entries) run.began run.pieces c one (entry ∷ g.later) (λ later. OneEntryEach (length run.entries + 1) (settings_after run.settings c) (settings_after run.settings c) [] cs g.more later))
-        ((one.ltxid ≡ identifier (length run.entries)) × OneEntryEach (length run.entries) run.began (settings_after run.settings c) (run.pieces ++ shown_piece c one ∷ []) cs g.more (entry ∷ g.later)))
-        (sym e) (refl, (refl, (refl, (refl, (refl, kept_later)))));
+          (HasEntry (length run.entries) run.began run.pieces c one (entry ∷ g.later) (λ later. OneEntryEach (length run.entries + 1) (settings_after run.settings c) (settings_after run.settings c) [] cs g.more later))
+          ((one.ltxid ≡ identifier (length run.entries)) × OneEntryEach (length run.entries) run.began (settings_after run.settings c) (run.pieces ++ shown_piece c one ∷ []) cs g.more (entry ∷ g.later)))
+          (sym e) (refl, (refl, (refl, (refl, (refl, kept_later)))));
     }
 goes_after shape before run c cs meant is k false e after g =
     let one = shown_with meant (length run.entries) in
@@ -107,11 +109,10 @@ goes_after shape before run c cs meant is k false e after g =
       later = g.later;
       entries = g.entries;
       each = subst (λ (b : Bool). MatchBool b
-        (HasEntry (length run.entries) run.began run.pieces c one g.later (λ later. OneEntryEach (length run.entries + 1) (settings_after run.settings c) (settings_after run.settings c) [] cs g.more later))
-        ((one.ltxid ≡ identifier (length run.entries)) × OneEntryEach (length run.entries) run.began (settings_after run.settings c) (run.pieces ++ shown_piece c one ∷ []) cs g.more g.later))
-        (sym e) (refl, kept_later);
+          (HasEntry (length run.entries) run.began run.pieces c one g.later (λ later. OneEntryEach (length run.entries + 1) (settings_after run.settings c) (settings_after run.settings c) [] cs g.more later))
+          ((one.ltxid ≡ identifier (length run.entries)) × OneEntryEach (length run.entries) run.began (settings_after run.settings c) (run.pieces ++ shown_piece c one ∷ []) cs g.more g.later))
+          (sym e) (refl, kept_later);
     }
-
 
 goes_on : (shape : Shape) (before : List PlainRow) (run after : Run) (c : Call) (cs : List Call) (m : Option Meant) → mean shape run.seen run.settings c [] ≡ m → KeptIf run.settings c m
     → option_and_then (λ next. run_of shape next cs) (option_map (after_call run c) m) ≡ Some after → Good shape before run

@@ -1,5 +1,5 @@
 -- How calls stand in a document: an array of items, each an array that begins with a word.
-use Rattle.std.specs.Prelude.{◌≡◌, ℕ, List, [], ◌∷◌, ◌++◌, Bool, true, false, Result, Ok, Err, codes, if◌then◌else◌}
+use Rattle.std.specs.Prelude.{ℕ, List, [], ◌∷◌, ◌++◌, true, false, Result, Ok, Err, codes, if◌then◌else◌}
 use Rattle.std.specs.Str.{bytes_eq}
 use Rattle.serde_json.specs.Data.{Data}
 use Rattle.json_form.specs.declared.fault.DocCode.TheVariants.{Unknown, Rule}
@@ -7,7 +7,6 @@ use Rattle.json_form.specs.Faults.{Fault, ◌>>=◌, here, within_item}
 use Rattle.json_form.specs.Values.{text_of}
 use Rattle.json_form.specs.Arrays.{array_of, each_of, fixed, item_of}
 use Rattle.json_form.specs.Texts.{head_of, word_of}
-use Rattle.svc_values.specs.declared.value.Value.{Value}
 use Rattle.svc_values.specs.declared.statement.Operand.{Operand}
 use Rattle.svc_values.specs.declared.statement.Change.{Change}
 use Rattle.svc_values.specs.declared.statement.Change.TheVariants as change
@@ -74,9 +73,13 @@ show_of d = fixed 2 d >>= λ _. part 1 operand_of d >>= λ operand. Ok (item.Sta
 unfoldable pub set_of : Data → Result Item Fault
 set_of d = fixed 3 d >>= λ _. part 1 name_of d >>= λ name. part 2 value_of d >>= λ x. Ok (item.Set name x)
 
+-- a line of at most 64 bytes
+abbrev pub line_of : Data → Result (List ℕ) Fault
+line_of d = text_of d >>= short (λ line. line)
+
 -- ["alter",text]
 unfoldable pub alter_of : Data → Result Item Fault
-alter_of d = fixed 2 d >>= λ _. part 1 (λ inner. text_of inner >>= short (λ line. line)) d >>= λ line. Ok (item.Alter line)
+alter_of d = fixed 2 d >>= λ _. part 1 line_of d >>= λ line. Ok (item.Alter line)
 
 -- ["disable"], ["rollback"] and ["commit"]
 abbrev pub alone_of : Item → Data → Result Item Fault

@@ -19,13 +19,17 @@ abbrev pub is_command : List (String Global) → Bool
 is_command (word ∷ []) = bytes_eq (string_bytes word) (codes "run")
 is_command _ = false
 
--- The bytes are a document, and the text is that of a report which says of the document what the headline says.
-pub record IsAnswer (bytes text : List ℕ) : Type 0 where
-  pub document : Document
-  pub accepted : document_at bytes ≡ Ok document
+-- The text is that of a report which says of the document what the headline says.
+pub record IsReported (document : Document) (text : List ℕ) : Type 0 where
   pub report : Report
   pub headline : Headline document report
   pub written : text ≡ compact_text (report_of report)
+
+-- The bytes are a document, and the text is that of its report.
+pub record IsAnswer (bytes text : List ℕ) : Type 0 where
+  pub document : Document
+  pub accepted : document_at bytes ≡ Ok document
+  pub reported : IsReported document text
 
 -- where the source tells what is left, what was read is judged as all of that is
 abbrev pub IsJudged : Option (List ℕ) → List ℕ → Type 0

@@ -1,11 +1,11 @@
 -- How a document stands in bytes, and the first fault of bytes that are none.
-use Rattle.std.specs.Prelude.{◌≡◌, ℕ, ◌==◌, ◌&&◌, ◌||◌, List, [], ◌∷◌, length, map, Bool, true, false, Option, Some, None, Result, Ok, Err, codes, ⊤, if◌then◌else◌}
+use Rattle.std.specs.Prelude.{ℕ, List, [], ◌∷◌, length, Bool, true, false, Result, Ok, Err, codes, ⊤, if◌then◌else◌}
 use Rattle.std.specs.List.{list_all}
 use Rattle.std.specs.Str.{bytes_eq}
 use Rattle.serde_json.specs.Data.{Data, Items}
 use Rattle.json_form.specs.declared.fault.DocCode.{DocCode}
-use Rattle.json_form.specs.declared.fault.DocCode.TheVariants.{TooLong, NotJson, WrongKind, Missing, Unknown, Limit, Duplicate, Rule, BadImage, NotBuilt}
-use Rattle.json_form.specs.Faults.{Fault, ◌>>=◌, here, within, within_item}
+use Rattle.json_form.specs.declared.fault.DocCode.TheVariants.{TooLong, NotJson, WrongKind, NotBuilt}
+use Rattle.json_form.specs.Faults.{Fault, ◌>>=◌, here, within}
 use Rattle.json_form.specs.Values.{items_of}
 use Rattle.json_form.specs.Objects.{object_with, required, optional}
 use Rattle.json_form.specs.Arrays.{each_after, each_of, array_of, distinct, fresh, fixed}
@@ -22,7 +22,7 @@ use Rattle.svc_values.specs.declared.call.Call.TheVariants as call
 use Rattle.svc_values.specs.Kinds.{row_fits}
 use Rattle.svc_values.specs.Same.{same_value}
 use Rattle.stmt_meaning.specs.Plans.{operands_of}
-use Rattle.stmt_meaning.specs.Effects.{key_of}
+use Rattle.stmt_meaning.specs.Plans.{key_of}
 use Rattle.continuity_run.specs.declared.document.Request.{Request}
 use Rattle.continuity_run.specs.declared.document.Client.{Client}
 use Rattle.continuity_run.specs.declared.document.DocTable.{DocTable}
@@ -49,9 +49,13 @@ field_of taken (first ∷ before) d = value_of d
 abbrev pub fitting : List Column → List Value → Result (List Value) Fault
 fitting columns row = if row_fits columns row then Ok row else Err (here WrongKind)
 
+-- the items of an array of exactly n
+abbrev pub fixed_items : ℕ → Data → Result Items Fault
+fixed_items n d = fixed n d >>= λ _. items_of d
+
 -- as many values as there are columns, in order, and then their kinds
 unfoldable pub row_of : List Column → (Value → Bool) → Data → Result (List Value) Fault
-row_of columns taken d = fixed (length columns) d >>= λ _. items_of d >>= λ ds. each_after (field_of taken) [] ds >>= fitting columns
+row_of columns taken d = fixed_items (length columns) d >>= λ ds. each_after (field_of taken) [] ds >>= fitting columns
 
 abbrev pub rows_of : List Column → Data → Result (List (List Value)) Fault
 rows_of columns d = array_of 0 10000 (distinct same_value key_of (row_of columns)) d
@@ -74,9 +78,12 @@ abbrev pub is_literal : Operand → Bool
 is_literal (operand.Lit x) = true
 is_literal _ = false
 
+unfoldable pub has_literals : Statement → Bool
+has_literals s = list_all is_literal (operands_of s)
+
 -- statements with literal operands, and commits
 abbrev pub is_built : Call → Bool
-is_built (call.Work statements commit) = list_all (λ s. list_all is_literal (operands_of s)) statements
+is_built (call.Work statements commit) = list_all has_literals statements
 is_built _ = false
 
 abbrev pub if_built : Call → Result Call Fault
@@ -114,15 +121,19 @@ abbrev pub limit : ℕ
 limit = 8388608
 
 -- A fault that is no want of JSON is told as a form that is not built, without its place.
-abbrev pub narrowed_code : DocCode → List ℕ → Fault
-narrowed_code TooLong path = here TooLong
-narrowed_code NotJson path = here NotJson
-narrowed_code _ path = here NotBuilt
+abbrev pub narrowed_code : DocCode → DocCode
+narrowed_code TooLong = TooLong
+narrowed_code NotJson = NotJson
+narrowed_code _ = NotBuilt
 
 abbrev pub narrowed : {A : Type 0} → Result A Fault → Result A Fault
 narrowed (Ok x) = Ok x
-narrowed (Err fault) = Err (narrowed_code fault.code fault.path)
+narrowed (Err fault) = Err (here (narrowed_code fault.code))
+
+-- the document that the bytes are, or the first fault and its place
+abbrev pub placed_document_at : List ℕ → Result Document Fault
+placed_document_at bytes = json_at limit bytes >>= document_of
 
 -- the document that the bytes are, or why they are none
 abbrev pub document_at : List ℕ → Result Document Fault
-document_at bytes = narrowed (json_at limit bytes >>= document_of)
+document_at bytes = narrowed (placed_document_at bytes)

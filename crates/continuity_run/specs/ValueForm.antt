@@ -1,11 +1,11 @@
 -- How names, values and operands stand in a document.
-use Rattle.std.specs.Prelude.{◌≡◌, ℕ, ℤ, List, [], ◌∷◌, length, Bool, nat_le, Option, Some, None, Result, Ok, Err, codes, if◌then◌else◌}
+use Rattle.std.specs.Prelude.{ℕ, List, [], ◌∷◌, length, Bool, nat_le, Option, Some, None, Result, Ok, Err, codes, if◌then◌else◌}
 use Rattle.serde_json.specs.Data.{Data, Num, Members, no_members, member}
 use Rattle.std.specs.Str.{bytes_eq}
 use Rattle.serde_json.specs.Find.{as_str, as_number, as_object}
 use Rattle.json_form.specs.declared.fault.DocCode.TheVariants.{Unknown, Limit}
 use Rattle.json_form.specs.Faults.{Fault, ◌>>=◌, here, within}
-use Rattle.json_form.specs.Values.{integer_of, text_of, members_of}
+use Rattle.json_form.specs.Values.{integer_of, text_of}
 use Rattle.json_form.specs.Objects.{object_with, required}
 use Rattle.json_form.specs.Texts.{octets_of, word_of}
 use Rattle.svc_values.specs.declared.value.Value.{Value}

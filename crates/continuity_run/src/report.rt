@@ -1,7 +1,7 @@
 //! The report of a run.
 
 use crate::document::DocRows;
-use svc_values::{Answers, Draws, Entry, Listed, Ltxid, Name};
+use svc_values::{Answers, Draws, Listed, Ltxid, Name, Pieces, Settings};
 
 /// A call's answers and draws, and the identifier that the client holds after it.
 #[derive(Drop)]
@@ -24,6 +24,17 @@ pub type Transcript = Listed<RequestReport>;
 
 pub type Transcripts = Listed<Transcript>;
 
+/// A committed transaction as the report shows it: the journal's entry without its writes.
+#[derive(Drop)]
+pub struct ReportEntry {
+    pub ltxid: Ltxid,
+    pub completed: bool,
+    pub settings: Settings,
+    pub pieces: Pieces,
+}
+
+pub type ReportEntries = Listed<ReportEntry>;
+
 /// A table's rows at the end, in order of key.
 #[derive(Drop)]
 pub struct ReportTable {
@@ -37,6 +48,6 @@ pub type ReportTables = Listed<ReportTable>;
 #[derive(Drop)]
 pub struct Report {
     pub clients: Transcripts,
-    pub entries: Listed<Entry>,
+    pub entries: ReportEntries,
     pub tables: ReportTables,
 }

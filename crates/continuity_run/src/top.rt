@@ -3,15 +3,18 @@ ghost use Rattle.std.specs.Prelude.{◌≡◌, ◌↔◌, false, Err, IfOk, IfEr
 ghost use Rattle.json_form.specs.Faults.{Fails};
 ghost use Rattle.continuity_run.specs.Causes.{Rose};
 ghost use Rattle.continuity_run.specs.DocumentForm.{document_at};
-ghost use Rattle.continuity_run.specs.Clauses.{is_command as is_command_lem, IsAnswer, IsDone, IsCut, IsRead, IsRefused, Writes, WritesFront, IfDocument, IsBefore, IsReply};
+ghost use Rattle.continuity_run.specs.Documents.{IsDocument};
+ghost use Rattle.continuity_run.specs.Clauses.{is_command as is_command_lem, IsAnswer, IsReported, IsDone, IsCut, IsRead, IsRefused, Writes, WritesFront, IfDocument, IsBefore, IsReply};
 
+use crate::document::Document;
 use crate::outside::{Sink, Source};
-use crate::reading::{LIMIT, read_document};
+use crate::reading::{DOCUMENT_LIMIT, read_document};
 use crate::run::run_document;
 use crate::whole::{ReadError, read_to_limit, write_whole};
 use crate::writing::report_bytes;
 use json_form::{DocCode, DocFault, Pointer};
 use std::alloc::Global;
+use svc_values::NoMemory;
 
 /// How a run ended. The numbers 0 to 5 are the program's exit status, in this order.
 #[derive(Debug, Drop)]
@@ -58,22 +61,33 @@ fn is_command(words: &[String]) -> bool
     }
 }
 
+/// The text of the document's report.
+fn report_text(alloc: Global, document: &Document) -> Result<Vec<u8>, NoMemory>
+    requires { IsDocument document.now }
+    ensures { IfOk result (λ text. IsReported document.now text.items) }
+{
+    let report = run_document(alloc, document)?;
+    let text = report_bytes(alloc, &report)?;
+    Ok(text)
+}
+
 /// The text of the report of the document that the bytes are.
 fn answer(alloc: Global, bytes: &[u8]) -> Result<Vec<u8>, DocFault>
     ensures answered { IfOk result (λ text. IsAnswer bytes.now text.items) }
     ensures refused { IfErr result (λ e. Fails e (document_at bytes.now)) }
 {
     let document = read_document(alloc, bytes)?;
-    let report = run_document(alloc, document)?;
-    let text = report_bytes(alloc, &report)?;
-    Ok(text)
+    match report_text(alloc, &document) {
+        Ok(text) => Ok(text),
+        Err(NoMemory) => Err(DocFault::NoMemory),
+    }
 }
 
 fn read_input<S: Source>(alloc: Global, source: &mut S) -> Result<Vec<u8>, ReadError>
     ensures read { IfOk result (λ bytes. IsRead (S.left source.old) (S.left source.new) bytes.items) }
     ensures failed { IsErrOf result ReadError.Failed → Rose (S.faults source.old) (S.faults source.new) }
 {
-    read_to_limit(alloc, source, LIMIT)
+    read_to_limit(alloc, source, DOCUMENT_LIMIT)
 }
 
 /// Judges the bytes, and writes the report.

@@ -1,9 +1,9 @@
 -- What a crash may leave after a write to a disk with nothing pending.
-use Rattle.std.proofs.Common.{◌≡◌, ◌⊎◌, ℕ, ◌+◌, ◌<◌, ◌≤◌, max, List, length, get_or, take, drop, set, inl, inr, ⊎_elim, refl, sym, ◌∙◌, ap, subst, arith, length-take, length-drop, length-set, get_or-set_same, get_or-set_other}
+use Rattle.std.proofs.Common.{◌≡◌, ℕ, ◌+◌, ◌<◌, ◌≤◌, max, List, length, get_or, take, drop, set, ⊎_elim, refl, sym, ◌∙◌, ap, subst, arith, length-take, length-drop, length-set, get_or-set_same, get_or-set_other}
 use Rattle.std.specs.Prelude.{Result, Ok, Err, OnOk, OnErr}
 use Rattle.std.proofs.lemmas.List.{get_or-take, get_or-drop}
 use Rattle.std.proofs.lemmas.Grind.{common_steps, same_number_lists}
-use Rattle.std.proofs.lemmas.Bool.{cases_eq, cases_lt}
+use Rattle.std.proofs.lemmas.Bool.{cases_eq}
 use Rattle.disk_model.specs.Moment.{Moment, MayLeave, Torn, InRanges, next_moment, with_bytes}
 use Rattle.disk_model.specs.Disk.{DiskState, IsSettled}
 use Rattle.disk_model.specs.Kept.{cases_outside}

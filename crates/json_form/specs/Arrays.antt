@@ -29,6 +29,7 @@ distinct same key read ds = each_after (λ before. read (is_key same (map key be
 abbrev pub fresh : {K : Type 0} → (K → Bool) → K → Result ⊤ Fault
 fresh taken key = if taken key then Err (here Duplicate) else Ok tt
 
+-- the items, if there are low to high of them
 abbrev pub in_count : ℕ → ℕ → Items → Result Items Fault
 in_count low high ds = if nat_le low (items_len ds) && nat_le (items_len ds) high then Ok ds else Err (here Limit)
 

@@ -3,6 +3,7 @@ use Rattle.std.specs.Prelude.{ℕ}
 use Rattle.json_form.specs.declared.fault.DocCode.{DocCode}
 use Rattle.json_form.specs.declared.fault.DocCode.TheVariants.{TooLong, NotJson, WrongKind, Missing, Unknown, Limit, Duplicate, Rule, BadImage, NotBuilt}
 
+-- the number of a code
 abbrev pub number_of : DocCode → ℕ
 number_of TooLong = 1
 number_of NotJson = 2

@@ -24,6 +24,7 @@ here c = record { code = c; path = [] }
 abbrev pub under : List ℕ → Fault → Fault
 under step f = record { code = f.code; path = 47 ∷ step ++ f.path }
 
+-- a reading, seen from one step further up
 abbrev pub within_step : {A : Type 0} → List ℕ → Result A Fault → Result A Fault
 within_step step (Ok x) = Ok x
 within_step step (Err f) = Err (under step f)

@@ -9,6 +9,7 @@ use Rattle.json_form.specs.Faults.{Fault, ◌>>=◌, here, under, within}
 use Rattle.json_form.specs.Pointers.{escaped}
 use Rattle.json_form.specs.Values.{members_of}
 
+-- a name that is one of those named
 abbrev pub is_among : List (List ℕ) → List ℕ → Bool
 is_among names name = list_any (λ n. bytes_eq n name) names
 
@@ -21,6 +22,7 @@ known names (member name d ms) = if is_among names name then known names ms else
 abbrev pub object_with : List (List ℕ) → Data → Result ⊤ Fault
 object_with names d = members_of d >>= known names
 
+-- the member with this name, if it is there
 abbrev pub present : List ℕ → Option Data → Result Data Fault
 present name None = Err (under (escaped name) (here Missing))
 present name (Some d) = Ok d
@@ -29,6 +31,7 @@ present name (Some d) = Ok d
 abbrev pub required : List ℕ → Data → Result Data Fault
 required name d = present name (get name d)
 
+-- what the member is read as, or what stands for it where it is missing
 abbrev pub read_or : {A : Type 0} → List ℕ → A → (Data → Result A Fault) → Option Data → Result A Fault
 read_or name otherwise read None = Ok otherwise
 read_or name otherwise read (Some d) = within name (read d)

@@ -19,6 +19,7 @@ chosen (pair ∷ pairs) word = if bytes_eq pair.0 word then Ok pair.1 else chose
 abbrev pub word_of : {A : Type 0} → List (List ℕ × A) → Data → Result A Fault
 word_of pairs d = text_of d >>= chosen pairs
 
+-- the word, if there is one
 abbrev pub named : Option (List ℕ) → Result (List ℕ) Fault
 named None = Err (here Unknown)
 named (Some word) = Ok word
@@ -27,6 +28,7 @@ named (Some word) = Ok word
 abbrev pub head_of : Data → Result (List ℕ) Fault
 head_of d = items_of d >>= λ _. named (option_and_then as_str (at 0 d))
 
+-- what the digits spell
 abbrev pub octets_or_fault : Result (List ℕ) FromHexError → Result (List ℕ) Fault
 octets_or_fault (Ok bytes) = Ok bytes
 octets_or_fault (Err e) = Err (here BadImage)
@@ -35,9 +37,11 @@ octets_or_fault (Err e) = Err (here BadImage)
 abbrev pub octets_of : Data → Result (List ℕ) Fault
 octets_of d = text_of d >>= λ text. octets_or_fault (decode_of text)
 
+-- bytes that are UTF-8
 abbrev pub utf8_of : List ℕ → Result (List ℕ) Fault
 utf8_of bytes = if is_utf8 bytes then Ok bytes else Err (here NotJson)
 
+-- a reading as JSON, if there is one
 abbrev pub json_or_fault : Option Data → Result Data Fault
 json_or_fault None = Err (here NotJson)
 json_or_fault (Some d) = Ok d

@@ -10,15 +10,19 @@ abbrev pub expected : {A : Type 0} → Option A → Result A Fault
 expected None = Err (here WrongKind)
 expected (Some x) = Ok x
 
+-- the members of an object
 abbrev pub members_of : Data → Result Members Fault
 members_of d = expected (as_object d)
 
+-- the items of an array
 abbrev pub items_of : Data → Result Items Fault
 items_of d = expected (as_array d)
 
+-- the bytes of a text
 abbrev pub text_of : Data → Result (List ℕ) Fault
 text_of d = expected (as_str d)
 
+-- a bool
 abbrev pub bool_of : Data → Result Bool Fault
 bool_of d = expected (as_bool d)
 
@@ -26,6 +30,7 @@ bool_of d = expected (as_bool d)
 abbrev pub number_of : Data → Result ℤ Fault
 number_of d = expected (option_and_then as_integer (as_number d))
 
+-- the whole number, if it is from low to high
 abbrev pub in_limits : ℕ → ℕ → ℤ → Result ℕ Fault
 in_limits low high (pos n) = if nat_le low n && nat_le n high then Ok n else Err (here Limit)
 in_limits low high (negsuc n) = Err (here Limit)

@@ -4,18 +4,23 @@ use Rattle.serde_json.specs.Data.{Data, null as json_null, boolean, number, unsi
 use Rattle.serde_json.specs.Find.{of_integer}
 use Rattle.serde_json.specs.View.{items_of}
 
+-- a text of these bytes
 abbrev pub text : List ℕ → Data
 text bytes = string bytes
 
+-- a whole number
 abbrev pub whole : ℕ → Data
 whole n = number (unsigned n)
 
+-- a whole number with a sign
 abbrev pub integer : ℤ → Data
 integer z = number (of_integer z)
 
+-- null
 abbrev pub null : Data
 null = json_null
 
+-- a bool
 abbrev pub flag : Bool → Data
 flag b = boolean b
 

@@ -54,8 +54,10 @@ impl DocCode {
 /// Why nothing was read: the first fault and the place of the value at fault, or no memory.
 #[derive(Debug, Drop, Error)]
 pub enum DocFault {
+    /// Memory was refused.
     #[error("out of memory")]
     NoMemory,
+    /// The first fault, and the pointer to the value at fault.
     #[error("{code} at \"{path}\"")]
     At { code: DocCode, path: Pointer },
 }

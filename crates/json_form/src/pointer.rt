@@ -44,6 +44,7 @@ impl Pointer {
         })
     }
 
+    /// The pointer's text.
     pub fn as_str(&self) -> &str
         ensures { result.now ≡ self.now }
     {

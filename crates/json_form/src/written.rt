@@ -30,12 +30,14 @@ impl Written {
     ghost use Rattle.serde_json.specs.Written.{compact_text};
     ghost use Rattle.json_form.specs.Writing.{text as text_lem, whole as whole_lem, integer as integer_lem, flag as flag_lem, null as null_lem, list, list_by};
 
+    /// The value `null`.
     pub fn null() -> Written
         ensures { view result.value ≡ null_lem }
     {
         Written { value: Value::Null }
     }
 
+    /// A bool.
     pub fn flag(flag: bool) -> Written
         ensures { view result.value ≡ flag_lem flag }
     {
@@ -44,6 +46,7 @@ impl Written {
         }
     }
 
+    /// A whole number without a sign.
     pub fn whole(number: u64) -> Written
         ensures { view result.value ≡ whole_lem number }
     {
@@ -61,6 +64,7 @@ impl Written {
         }
     }
 
+    /// A text. Its bytes are copied.
     pub fn text(alloc: Global, text: &str) -> Result<Written, AllocError>
         ensures { IfOk result (λ w. view w.value ≡ text_lem text.now) }
     {
@@ -92,7 +96,7 @@ impl Written {
         })
     }
 
-    /// The array of what each item is written as.
+    /// The array of what each item is written as. The cost is that of the items.
     pub fn array_of<T, W: Writer<T>>(
         alloc: Global,
         items: &[T],
@@ -129,6 +133,7 @@ pub struct ObjectWriter {
 impl ObjectWriter {
     ghost use Rattle.serde_json.specs.Data.{object, no_members, put as with_member};
 
+    /// An object without members.
     pub fn new(alloc: Global) -> ObjectWriter
         ensures { members_view result.map.entries ≡ no_members }
     {

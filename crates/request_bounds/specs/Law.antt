@@ -1,6 +1,7 @@
 -- What each rule has to keep, so that a replay never repeats what was committed.
 use Rattle.std.specs.Prelude.{◌≡◌, ◌≢◌, ◌⊎◌, ℕ, IsTrue, IsSome, List}
 use Rattle.svc_values.specs.declared.answer.Answer.{Answer}
+use Rattle.svc_values.specs.declared.value.Value.{Value}
 use Rattle.svc_values.specs.declared.call.Call.{Call}
 use Rattle.svc_values.specs.declared.call.Call.TheVariants as call
 use Rattle.request_bounds.specs.declared.rule.After.TheVariants as after
@@ -9,7 +10,7 @@ use Rattle.request_bounds.specs.Rules.{Rules}
 
 -- the rule stops at each set, or keeps the settings
 abbrev pub HoldsSettings : Rules → Type 0
-HoldsSettings rules = ((name : List ℕ) (value : _) (index : ℕ) → IsSome (rules.submit (call.Set name value) index)) ⊎ IsTrue rules.keeps
+HoldsSettings rules = ((name : List ℕ) (value : Value) (index : ℕ) → IsSome (rules.submit (call.Set name value) index)) ⊎ IsTrue rules.keeps
 
 -- a purge comes only where the answers end with Committed or Conflict, and then the settings are held
 abbrev pub PurgesDecided : Rules → Type 0

@@ -4,10 +4,12 @@ use Rattle.std.specs.List.{list_all}
 use Rattle.svc_values.specs.declared.value.Value.{Value}
 use Rattle.svc_values.specs.declared.schema.Column.{Column}
 use Rattle.svc_values.specs.declared.schema.Schema.{Schema}
+use Rattle.svc_values.specs.declared.schema.Shape.{Shape}
 use Rattle.svc_values.specs.declared.entry.Write.{Write}
 use Rattle.svc_values.specs.Kinds.{row_fits}
 use Rattle.svc_values.specs.Same.{same_value}
 use Rattle.stmt_meaning.specs.declared.tables.PlainRow.{PlainRow}
+use Rattle.stmt_meaning.specs.Tables.{AreTables}
 use Rattle.stmt_meaning.specs.Plans.{schema_of, key_fits, key_of}
 
 -- the row has a value of its kind for each column, and its key first
@@ -30,3 +32,8 @@ write_fits schemas write = has_fit (schema_of schemas write.table) write.key wri
 
 abbrev pub writes_fit : List Schema → List Write → Bool
 writes_fit schemas writes = list_all (write_fits schemas) writes
+
+-- tables of this shape: in order, and each row fits
+pub record IsBase (shape : Shape) (tables : List PlainRow) : Type 0 where
+  pub ordered : AreTables tables
+  pub fitting : tables_fit shape.schemas tables ≡ true

@@ -1,10 +1,14 @@
 pub mod Answers
 pub mod Effects
 pub mod Fitting
+pub mod Laws
 pub mod Meaning
 pub mod Operands
 pub mod Plans
 pub mod Rerun
+pub mod Scans
 pub mod Seen
 pub mod Serial
+pub mod SerialTest
+pub mod Stops
 pub mod Tables

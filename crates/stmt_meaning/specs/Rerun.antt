@@ -1,11 +1,11 @@
 -- Transactions that were run call by call, each call on what was committed at its moment.
-use Rattle.std.specs.Prelude.{◌≡◌, ℕ, List, [], ◌∷◌, ◌++◌, All}
+use Rattle.std.specs.Prelude.{◌≡◌, ℕ, List, [], ◌∷◌, ◌++◌}
 use Rattle.svc_values.specs.declared.value.Value.{Value}
 use Rattle.svc_values.specs.declared.schema.Shape.{Shape}
 use Rattle.svc_values.specs.declared.entry.Piece.{Piece}
 use Rattle.svc_values.specs.declared.entry.Write.{Write}
 use Rattle.stmt_meaning.specs.declared.tables.PlainRow.{PlainRow}
-use Rattle.stmt_meaning.specs.Tables.{rows_at, with_writes, AreTables}
+use Rattle.stmt_meaning.specs.Tables.{with_writes, AreTables, AgreeAt}
 use Rattle.stmt_meaning.specs.Meaning.{Meant}
 use Rattle.stmt_meaning.specs.Serial.{Replays}
 
@@ -26,7 +26,7 @@ abbrev pub Unchanged : Shape → List (List ℕ × Value) → List Write → Lis
 Unchanged shape settings own [] now = Unit {0}
 Unchanged shape settings own (moment ∷ moments) now =
     (meant : Meant) → Replays shape (with_writes moment.committed own) settings moment.piece meant →
-    All (λ place. rows_at moment.committed place ≡ rows_at now place) meant.reads × Unchanged shape meant.settings (own ++ meant.writes) moments now
+    AgreeAt moment.committed now meant.reads × Unchanged shape meant.settings (own ++ meant.writes) moments now
 
 -- all at one moment
 abbrev pub at_once : List PlainRow → List Moment → List Moment
@@ -36,3 +36,7 @@ at_once now (moment ∷ moments) = record { committed = now; piece = moment.piec
 abbrev pub AreOrdered : List Moment → Type 0
 AreOrdered [] = Unit {0}
 AreOrdered (moment ∷ moments) = AreTables moment.committed × AreOrdered moments
+
+abbrev pub pieces_of : List Moment → List Piece
+pieces_of [] = []
+pieces_of (moment ∷ moments) = moment.piece ∷ pieces_of moments

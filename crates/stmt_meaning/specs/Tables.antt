@@ -60,3 +60,8 @@ AreTables (row ∷ rest) = ComesFirst row rest × AreTables rest
 abbrev pub in_order : List PlainRow → List PlainRow
 in_order [] = []
 in_order (row ∷ rest) = put_row row (in_order rest)
+
+-- two tables have the same rows at each of these places
+abbrev pub AgreeAt : List PlainRow → List PlainRow → List Place → Type 0
+AgreeAt a b [] = Unit {0}
+AgreeAt a b (at ∷ places) = (rows_at a at ≡ rows_at b at) × AgreeAt a b places

@@ -30,7 +30,7 @@ impl From<NoMemory> for PlanFault {
 }
 
 /// Whether the column at this place is of this kind.
-fn is_column_kind(columns: &[Column], at: usize, kind: Kind) -> bool
+pub fn is_column_kind(columns: &[Column], at: usize, kind: Kind) -> bool
     ensures { result ≡ is_column_kind_lem columns.now at kind }
 {
     match columns.get(at) {

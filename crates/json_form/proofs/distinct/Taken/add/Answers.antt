@@ -1,4 +1,4 @@
-use Rattle.std.proofs.Common.{◌≡◌, ◌||◌, List, ap, ◌∙◌, sym}
+use Rattle.std.proofs.Common.{◌||◌, List, ap, ◌∙◌}
 use Rattle.json_form.specs.Arrays.{is_key}
 use Rattle.json_form.proofs.Keys.{has_added}
 use Rattle.json_form.proofs.distinct.Taken.add.Goals as goal

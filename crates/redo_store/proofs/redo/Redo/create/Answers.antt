@@ -1,5 +1,4 @@
-use Rattle.std.proofs.Common.{◌≡◌, ◌++◌, ◌∷◌, [], ◌<◌, ℕ, List, length, sym, ◌∙◌, ap, arith, Ok}
-use Rattle.std.proofs.lemmas.Grind.{same_number_lists}
+use Rattle.std.proofs.Common.{◌≡◌, ◌++◌, ◌∷◌, [], ◌∙◌, ap, arith, Ok}
 use Rattle.disk_model.specs.Moment.{with_bytes}
 use Rattle.redo_store.specs.Records.{magic, records_of}
 use Rattle.redo_store.proofs.Grammar.{read_image}

@@ -1,0 +1,12 @@
+use Rattle.std.proofs.Common.{◌≡◌, drop, length, []}
+use Rattle.serde_json.specs.View.{items_view}
+use Rattle.json_form.specs.Arrays.{each_after, is_key}
+use Rattle.svc_values.specs.contracts.value.ValuePartialEq.TheImpl.{eq-value}
+use Rattle.continuity_run.specs.DocumentForm.{field_of}
+use Rattle.continuity_run.proofs.reading.table.fields_from.Given as goal
+
+abbrev pub invariant-loop-value : goal.invariant-loop-value
+invariant-loop-value l = record {
+  so_far : each_after (field_of (is_key eq-value.it l.taken)) l.found.items (items_view (drop l.value-index l.values)) ≡ each_after (field_of (is_key eq-value.it l.taken)) [] (items_view l.values);
+  count : length l.found.items ≡ l.value-index;
+}

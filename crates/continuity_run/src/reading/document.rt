@@ -1,0 +1,123 @@
+//! Readers of scripts and of the document.
+ghost use Rattle.std.specs.Prelude.{◌≡◌, IfOk};
+ghost use Rattle.serde_json.specs.View.{view};
+ghost use Rattle.json_form.specs.Faults.{Gives};
+ghost use Rattle.continuity_run.specs.DocumentForm.{tables_of, request_of, client_of, event_of, no_event, document_of, narrowed_code as narrowed_code_lem, placed_document_at, document_at};
+ghost use Rattle.continuity_run.specs.Documents.{IsDocument};
+
+use crate::document::{Client, DocTables, Document, Request};
+use crate::reading::call::CallReader;
+use crate::reading::table::TableReader;
+use json_form::{
+    DocCode, DocFault, Reader, array_at, array_from, distinct_or_none, json_from, object_with,
+    optional, required,
+};
+use serde_json::Value as Json;
+use std::alloc::Global;
+use svc_values::Listed;
+
+/// The greatest length of a document in bytes: 8 MiB.
+pub const DOCUMENT_LIMIT: usize = 8_388_608;
+
+struct RequestReader;
+
+impl Reader<Request> for RequestReader {
+    ghost reads = { λ s. request_of };
+
+    #[tactic(auto, unfolding(crate::specs::DocumentForm::request_of))]
+    fn read(&self, alloc: Global, value: &Json) -> Result<Request, DocFault> {
+        object_with(alloc, value, &["calls"])?;
+        let calls = required(alloc, value, "calls")?;
+        let calls = array_at(alloc, "calls", calls, 1, 1024, &CallReader)?;
+        Ok(Request {
+            calls: Listed::from_vec(calls),
+        })
+    }
+}
+
+struct ClientReader;
+
+impl Reader<Client> for ClientReader {
+    ghost reads = { λ s. client_of };
+
+    #[tactic(auto, unfolding(crate::specs::DocumentForm::client_of))]
+    fn read(&self, alloc: Global, value: &Json) -> Result<Client, DocFault> {
+        object_with(alloc, value, &["requests"])?;
+        let requests = required(alloc, value, "requests")?;
+        let requests = array_at(alloc, "requests", requests, 0, 1, &RequestReader)?;
+        Ok(Client {
+            requests: Listed::from_vec(requests),
+        })
+    }
+}
+
+/// Reads an event of a schedule. None is built.
+struct EventReader;
+
+impl Reader<()> for EventReader {
+    ghost reads = { λ s. event_of };
+
+    fn read(&self, alloc: Global, _value: &Json) -> Result<(), DocFault> {
+        Err(DocFault::here(alloc, DocCode::NotBuilt))
+    }
+}
+
+/// Reads a schedule without events.
+#[derive(Drop)]
+struct ScheduleReader;
+
+impl Reader<()> for ScheduleReader {
+    ghost reads = { λ s. no_event };
+
+    fn read(&self, alloc: Global, value: &Json) -> Result<(), DocFault> {
+        array_from(alloc, value, 0, 100_000, &EventReader)?;
+        Ok(())
+    }
+}
+
+#[tactic(auto, unfolding(crate::specs::DocumentForm::document_of))]
+fn document_from(alloc: Global, value: &Json) -> Result<Document, DocFault>
+    ensures { Gives result (document_of (view value.now)) }
+{
+    object_with(alloc, value, &["tables", "clients", "schedule"])?;
+    let clients = required(alloc, value, "clients")?;
+    let tables = distinct_or_none(alloc, value, "tables", 0, 32, &TableReader)?;
+    let clients = array_at(alloc, "clients", clients, 0, 1, &ClientReader)?;
+    optional(alloc, value, "schedule", &ScheduleReader, ())?;
+    Ok(Document {
+        tables: Listed::from_vec(tables),
+        clients: Listed::from_vec(clients),
+    })
+}
+
+/// The document, or the first fault and its place.
+fn document_or_fault(alloc: Global, bytes: &[u8]) -> Result<Document, DocFault>
+    ensures { Gives result (placed_document_at bytes.now) }
+{
+    let value = json_from(alloc, bytes, DOCUMENT_LIMIT)?;
+    document_from(alloc, &value)
+}
+
+/// The document that the bytes spell as JSON (RFC 8259), of at most 8 MiB. A fault that is no want of
+/// JSON is told as a form that is not built, without its place. The cost is linear in the number of
+/// bytes, but for the n log n comparisons of the keys of each table's n rows.
+pub fn read_document(alloc: Global, bytes: &[u8]) -> Result<Document, DocFault>
+    ensures read { Gives result (document_at bytes.now) }
+    ensures document { IfOk result IsDocument }
+{
+    match document_or_fault(alloc, bytes) {
+        Ok(document) => Ok(document),
+        Err(DocFault::NoMemory) => Err(DocFault::NoMemory),
+        Err(DocFault::At { code, .. }) => Err(DocFault::here(alloc, narrowed_code(code))),
+    }
+}
+
+/// The code that is told for a fault.
+fn narrowed_code(code: DocCode) -> DocCode
+    ensures { result ≡ narrowed_code_lem code }
+{
+    match code {
+        DocCode::TooLong | DocCode::NotJson => code,
+        _ => DocCode::NotBuilt,
+    }
+}

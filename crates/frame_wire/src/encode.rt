@@ -1,0 +1,45 @@
+//! Frames, written whole.
+ghost use Rattle.std.specs.Prelude.{◌≡◌, ◌<◌, ◌^◌, length, OnOk, IfOk};
+ghost use Rattle.canon_bytes.specs.TextBytes.{spell_bytes};
+ghost use Rattle.canon_bytes.specs.UpBytes.{spell_up, up_frame, FitsUp, IsMadeUp};
+ghost use Rattle.canon_bytes.specs.DownBytes.{spell_down, down_frame, FitsDown, IsMadeDown};
+
+use canon_bytes::PutMade;
+use std::alloc::Global;
+use svc_values::{Down, NoMemory, Up};
+
+/// The number of the payload's bytes, and the payload.
+#[tactic(auto, unfolding(canon_bytes::specs::TextBytes::spell_bytes, canon_bytes::specs::Numbers::spell_u64))]
+fn encode<F: PutMade>(alloc: Global, frame: &F) -> Result<Vec<u8>, NoMemory>
+    requires { F.made frame.now }
+    ensures whole { IfOk result (λ bytes. bytes.items ≡ spell_bytes (F.spelling frame.now)) }
+    ensures fitting { OnOk result (F.fits frame.now) }
+    ensures short { OnOk result (length (F.spelling frame.now) < 2 ^ 64) }
+{
+    let mut payload = Vec::new(alloc);
+    frame.put_made(&mut payload)?;
+    let mut bytes = Vec::with_capacity(alloc, 8 + payload.len())?;
+    bytes.extend_from_slice(&(payload.len() as u64).to_be_bytes())?;
+    bytes.extend_from_slice(&payload)?;
+    Ok(bytes)
+}
+
+/// The bytes of a frame to the server. Linear in them.
+pub fn encode_up(alloc: Global, frame: &Up) -> Result<Vec<u8>, NoMemory>
+    requires { IsMadeUp frame.now }
+    ensures whole { IfOk result (λ bytes. bytes.items ≡ up_frame frame.now) }
+    ensures fitting { OnOk result (FitsUp frame.now) }
+    ensures short { OnOk result (length (spell_up frame.now) < 2 ^ 64) }
+{
+    encode(alloc, frame)
+}
+
+/// The bytes of a frame to the client. Linear in them.
+pub fn encode_down(alloc: Global, frame: &Down) -> Result<Vec<u8>, NoMemory>
+    requires { IsMadeDown frame.now }
+    ensures whole { IfOk result (λ bytes. bytes.items ≡ down_frame frame.now) }
+    ensures fitting { OnOk result (FitsDown frame.now) }
+    ensures short { OnOk result (length (spell_down frame.now) < 2 ^ 64) }
+{
+    encode(alloc, frame)
+}

@@ -1,0 +1,19 @@
+//! Frames on the wire, written whole and read from bytes that arrive in pieces.
+//!
+//! A frame is its payload's length as a `u64`, most significant byte first, and the payload: a tag
+//! byte and the fields in canonical bytes, and nothing more.
+#![tactic(auto)]
+
+mod encode;
+mod feed;
+mod feeds;
+mod law;
+
+pub use encode::{encode_down, encode_up};
+pub use feed::FrameFault;
+pub use feeds::{DownFeed, UpFeed};
+pub use law::any_cut;
+pub use svc_values::{Ahead, Down, Up};
+
+#[cfg(test)]
+mod tests;

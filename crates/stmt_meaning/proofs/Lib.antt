@@ -1,0 +1,15 @@
+pub mod Adjacent
+pub mod Local
+pub mod MeanLocal
+pub mod PlanFits
+pub mod PutRow
+pub mod ReadValues
+pub mod RowOrder
+pub mod ScanLaws
+pub mod Reruns
+pub mod SerialSteps
+pub mod SerialTests
+pub mod TableScans
+pub mod TablesFit
+pub mod Working
+pub mod Writes

@@ -1,0 +1,79 @@
+//! Whether rows and writes fit what is declared, and stand in order.
+ghost use Rattle.std.specs.Prelude.{◌≡◌, ◌↔◌, IsTrue, Some};
+ghost use Rattle.stmt_meaning.specs.Fitting.{has_fit, is_row_of as is_row_of_lem, tables_fit as tables_fit_lem, write_fits as write_fits_lem};
+ghost use Rattle.stmt_meaning.specs.Plans.{key_of, schema_of as schema_of_lem};
+ghost use Rattle.svc_values.specs.Same.{same_value};
+ghost use Rattle.stmt_meaning.specs.Tables.{AreTables};
+
+use crate::planning::is_column_kind;
+use crate::tables::PlainRow;
+use crate::target::schema_of;
+use crate::written::comes_before;
+use svc_values::{Row, Schema, Shape, Value, Write};
+
+/// Whether the row has this key first. An empty row has 0.
+fn has_key(row: &Row, key: &Value) -> bool
+    ensures { result ≡ same_value (key_of row.now) key.now }
+{
+    match row.get(0) {
+        None => *key == Value::Int(0),
+        Some(first) => *first == *key,
+    }
+}
+
+/// Whether the row has a value of its kind for each column, and this key first.
+fn is_row_of(schema: &Schema, key: &Value, row: &Row) -> bool
+    ensures { result ≡ is_row_of_lem (Some schema.now) key.now row.now }
+{
+    schema.fits(row) && has_key(row, key)
+}
+
+/// Whether the row's table is declared, and it is a row of it with its key first.
+fn row_fits(schemas: &[Schema], one: &PlainRow) -> bool
+    ensures { result ≡ is_row_of_lem (schema_of_lem schemas.now one.now.table) one.now.key one.now.row }
+{
+    match schema_of(schemas, &one.table) {
+        None => false,
+        Some(schema) => is_row_of(schema, &one.key, &one.row),
+    }
+}
+
+/// Whether each row stands in a declared table, fits its columns and has its key first. Linear in the
+/// rows, for each of at most 32 tables.
+pub fn tables_fit(shape: &Shape, rows: &[PlainRow]) -> bool
+    ensures { result ≡ tables_fit_lem shape.now.schemas rows.now }
+{
+    let schemas = shape.schemas.as_slice();
+    rows.iter().all(|one| row_fits(schemas, one))
+}
+
+/// Whether a write names a declared table and a key of its first column's kind, and its row, if it has
+/// one, is a row of that table and key.
+pub fn write_fits(shape: &Shape, write: &Write) -> bool
+    ensures { result ≡ write_fits_lem shape.now.schemas write.now }
+{
+    let Some(schema) = schema_of(shape.schemas.as_slice(), &write.table) else {
+        return false;
+    };
+    match &write.row {
+        None => is_column_kind(schema.columns.as_slice(), 0, write.key.kind()),
+        Some(row) => is_row_of(schema, &write.key, row),
+    }
+}
+
+/// Whether rows stand in the order of table and key, none twice. Linear in the rows.
+pub fn are_tables(rows: &[PlainRow]) -> bool
+    ensures { IsTrue result ↔ AreTables rows.now }
+{
+    let [first, rest @ ..] = rows else {
+        return true;
+    };
+    let mut before = first;
+    for row in rest {
+        if !comes_before(before, row) {
+            return false;
+        }
+        before = row;
+    }
+    true
+}

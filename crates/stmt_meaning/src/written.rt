@@ -1,0 +1,78 @@
+//! Plain tables after a write.
+ghost use Rattle.std.specs.Prelude.{◌≡◌, OnOk, position, option_to_list};
+ghost use Rattle.stmt_meaning.specs.Tables.{is_at, comes_before as comes_before_lem, put_row as put_row_lem, with_write, with_writes, without};
+
+use crate::tables::{Place, PlainRow};
+use std::cmp::Ordering;
+use svc_values::{Name, NoMemory, Value, Write};
+
+/// By table, and in a table by key.
+pub fn comes_before(a: &PlainRow, b: &PlainRow) -> bool
+    ensures { result ≡ comes_before_lem a.now b.now }
+{
+    match a.table.cmp(&b.table) {
+        Ordering::Less => true,
+        Ordering::Equal => a.key.cmp(&b.key) == Ordering::Less,
+        Ordering::Greater => false,
+    }
+}
+
+/// Where the first row stands that comes after this one.
+fn first_after(rows: &[PlainRow], row: &PlainRow) -> Option<usize>
+    ensures { result ≡ position (λ other. comes_before_lem row.now other) rows.now }
+{
+    rows.iter().position(|other| comes_before(row, other))
+}
+
+/// Whether the row is the one of this table and key.
+pub fn stands_at(row: &PlainRow, table: &Name, key: &Value) -> bool
+    ensures { result ≡ is_at (Place.Row table.now key.now) row.now }
+{
+    row.table == *table && row.key == *key
+}
+
+/// Whether the row is in the table.
+pub fn stands_in(row: &PlainRow, table: &Name) -> bool
+    ensures { result ≡ is_at (Place.Table table.now) row.now }
+{
+    row.table == *table
+}
+
+/// Takes away the row of a table and key, if it is there.
+fn remove_row(rows: &mut Vec<PlainRow>, table: &Name, key: &Value)
+    ensures { rows.new.items ≡ without rows.old.items table.now key.now }
+{
+    rows.retain(|row| !stands_at(row, table, key));
+}
+
+/// Puts the row in before the first that it comes before.
+fn put_row(rows: &mut Vec<PlainRow>, row: PlainRow) -> Result<(), NoMemory>
+    ensures { OnOk result (rows.new.items ≡ put_row_lem row rows.old.items) }
+{
+    let at = first_after(rows.as_slice(), &row).unwrap_or(rows.len());
+    rows.insert(at, row)?;
+    Ok(())
+}
+
+/// Does a write: its row goes in the place of the one with its table and key, if any, or that one is
+/// taken away. Linear in the rows. Where memory ran out the rows are of no more use.
+pub fn put_write(rows: &mut Vec<PlainRow>, write: Write) -> Result<(), NoMemory>
+    ensures { OnOk result (rows.new.items ≡ with_write rows.old.items write) }
+{
+    let Write { table, key, row } = write;
+    remove_row(rows, &table, &key);
+    match row {
+        None => Ok(()),
+        Some(row) => put_row(rows, PlainRow { table, key, row }),
+    }
+}
+
+/// Does the write of a statement, if it has one.
+pub fn put_write_if_any(rows: &mut Vec<PlainRow>, write: Option<Write>) -> Result<(), NoMemory>
+    ensures { OnOk result (rows.new.items ≡ with_writes rows.old.items (option_to_list write)) }
+{
+    match write {
+        None => Ok(()),
+        Some(write) => put_write(rows, write),
+    }
+}
