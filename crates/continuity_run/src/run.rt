@@ -11,13 +11,15 @@ ghost use Rattle.continuity_run.specs.Run.{step as step_lem, run_of, start_run, 
 
 use crate::document::{Client, Document, Request};
 use crate::report::{
-    Report, ReportEntries, ReportEntry, RequestReport, ShownCall, ShownCalls, Transcript, Transcripts,
+    Report, ReportEntries, ReportEntry, RequestReport, ShownCall, ShownCalls, Transcript,
+    Transcripts,
 };
 use crate::start::{shape_of, start_of, tables_at};
 use std::alloc::Global;
 use stmt_meaning::{PlainFault, PlainRun, PlainTables, plain_call};
 use svc_values::{
-    Answers, Call, Draws, Listed, Ltxid, NoMemory, Piece, Pieces, Settings, Shape, TryCopy, ends_committed,
+    Answers, Call, Draws, Listed, Ltxid, NoMemory, Piece, Pieces, Settings, Shape, TryCopy,
+    ends_committed,
 };
 
 /// A run so far: the committed tables, those that the session sees, its settings now and at the start
@@ -123,10 +125,7 @@ fn after_other(
         mut shown,
     } = progress;
     put_last(&mut pieces, piece)?;
-    put_last(
-        &mut shown,
-        shown_with(alloc, answers, entries.len() as u64),
-    )?;
+    put_last(&mut shown, shown_with(alloc, answers, entries.len() as u64))?;
     Ok(Progress {
         committed,
         seen: tables,
@@ -187,12 +186,7 @@ fn after_commit(
 
 /// One call more.
 #[tactic(auto, unfolding(crate::specs::Run::step))]
-fn step(
-    alloc: Global,
-    shape: &Shape,
-    progress: Progress,
-    call: &Call,
-) -> Result<Progress, NoMemory>
+fn step(alloc: Global, shape: &Shape, progress: Progress, call: &Call) -> Result<Progress, NoMemory>
     requires { IsTrue (is_built call.now) }
     ensures { IfOk result (λ after. step_lem shape.now (run_seen progress) call.now ≡ Some (run_seen after)) }
 {

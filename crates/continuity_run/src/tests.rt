@@ -40,6 +40,9 @@ fn a_second_insert_is_refused_and_stands_as_a_piece(rt: HostRuntime) -> Result<(
 fn no_client_gives_an_empty_report(rt: HostRuntime) -> Result<(), Fail> {
     let Run { status, held } = run(rt.alloc(), &["run"], r#"{"clients":[]}"#, [0, 0, 0])?;
     assert_eq!(rt; status.number(), 0);
-    assert_eq!(rt; held.as_slice(), br#"{"clients":[],"entries":[],"tables":[]}"#.as_slice());
+    assert_eq!(rt;
+        held.as_slice(),
+        br#"{"clients":[],"entries":[],"tables":[]}"#.as_slice()
+    );
     Ok(())
 }

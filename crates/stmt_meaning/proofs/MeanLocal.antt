@@ -97,7 +97,7 @@ module _ (shape : Shape) (settings : List (List ℕ × Value)) where
   statements-same a b [] draws done in_a in_b is all = is
   statements-same a b (first ∷ rest) draws done in_a in_b is all =
       step_same a b first rest draws done (λ one more goes agree. statements-same (with_writes a one.writes) (with_writes b one.writes) rest one.rest more (AreTables-with_writes a one.writes in_a) (AreTables-with_writes b one.writes in_b) goes agree) in_a in_b
-        (mean1 shape a settings first draws) refl is all
+      (mean1 shape a settings first draws) refl is all
 
 -- ---- calls
 

@@ -45,8 +45,8 @@ module _ (shape : Shape) (tables : List PlainRow) (settings : List (List ℕ × 
       reads = so_far.reads ++ one.reads;
       written = ap (λ t. with_writes t one.writes) so_far.written ∙ sym (with_writes-append tables so_far.writes one.writes);
       whole = so_far.whole ∙ ap (λ o. joined answers so_far.writes so_far.reads (and_on o (λ o. statements_done shape (with_writes rows o.writes) settings left o.rest))) means
-        ∙ ap (λ b. joined answers so_far.writes so_far.reads (cond b (Some (record { answers = one.answer ∷ []; writes = []; reads = one.reads; rest = one.rest; refused = true })) (after_first one (statements_done shape (with_writes rows one.writes) settings left one.rest)))) kept
-        ∙ joined_more answers so_far.writes so_far.reads one (statements_done shape (with_writes rows one.writes) settings left one.rest);
+          ∙ ap (λ b. joined answers so_far.writes so_far.reads (cond b (Some (record { answers = one.answer ∷ []; writes = []; reads = one.reads; rest = one.rest; refused = true })) (after_first one (statements_done shape (with_writes rows one.writes) settings left one.rest)))) kept
+          ∙ joined_more answers so_far.writes so_far.reads one (statements_done shape (with_writes rows one.writes) settings left one.rest);
     }
 
     -- a refusal ends them
@@ -80,7 +80,7 @@ module _ (shape : Shape) (tables : List PlainRow) (settings : List (List ℕ × 
         let one : OneDone = record { answer = effect.answer; writes = option_to_list effect.write; reads = reads; rest = left } in
         let here : mean1 shape rows settings statement draws ≡ Some one = ap (λ r. mean1 shape r settings statement draws) (sym same) ∙ means in
         subst (λ a. SoFar a after (drop (i + 1) statements) left) (sym grown) (subst (λ r. SoFar (answers ++ effect.answer ∷ []) r (drop (i + 1) statements) left) (sym written)
-          (goes_on answers rows statement (drop (i + 1) statements) draws one (at_next answers rows statements i statement draws lt is so_far) here kept))
+        (goes_on answers rows statement (drop (i + 1) statements) draws one (at_next answers rows statements i statement draws lt is so_far) here kept))
 
     pub step_ends : (effect : Effect) (left whole : List Draw) (used : ℕ) → left ≡ drop used whole → used ≤ length whole → IsDone (mean1 shape seen settings statement draws) effect left → is_refusal effect.answer ≡ true → (more : List Answer) (after : List PlainRow) → more ≡ answers ++ effect.answer ∷ []
         → DidAll total tables whole more after used true
@@ -107,8 +107,8 @@ pub begins : (shape : Shape) (tables : List PlainRow) (settings : List (List ℕ
     → SoFar shape tables settings (statements_done shape tables settings statements draws) answers rows statements draws
 begins shape tables settings statements draws answers rows none same =
     subst (λ a. SoFar shape tables settings (statements_done shape tables settings statements draws) a rows statements draws) (sym none)
-      (subst (λ r. SoFar shape tables settings (statements_done shape tables settings statements draws) [] r statements draws) (sym same)
-        (record { writes = []; reads = []; written = refl; whole = joined_nothing (statements_done shape tables settings statements draws) }))
+    (subst (λ r. SoFar shape tables settings (statements_done shape tables settings statements draws) [] r statements draws) (sym same)
+    (record { writes = []; reads = []; written = refl; whole = joined_nothing (statements_done shape tables settings statements draws) }))
 
 used_all : (draws : List Draw) (used : ℕ) (rest : List Draw) → rest ≡ drop used draws → used ≤ length draws → used + length rest ≡ length draws
 used_all draws used rest is within = let n = length-drop used draws in let m = ap length is in omega arith

@@ -5,7 +5,9 @@ ghost use Rattle.stmt_meaning.specs.Meaning.{is_refusal as is_refusal_lem};
 
 use crate::plan::RowWork;
 use std::alloc::Global;
-use svc_values::{Answer, Name, NoMemory, Row, Rows, StatementFault, TryCopy, Value, Write, copies};
+use svc_values::{
+    Answer, Name, NoMemory, Row, Rows, StatementFault, TryCopy, Value, Write, copies,
+};
 
 /// An answer and the write that goes with it, if any.
 #[derive(PartialEq, Eq, Drop)]

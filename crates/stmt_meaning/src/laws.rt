@@ -4,8 +4,7 @@ ghost use Rattle.stmt_meaning.specs.Laws.{WritesAreLocal, WritesKeepOrder, Write
 /// What stands at a place after writes depends on what stood there alone.
 pub fn writes_are_local()
     ensures { WritesAreLocal }
-{
-}
+{}
 
 /// Writes keep the order of tables. A row that is written stands at its table and key, one that is
 /// taken away does not, and every other place is as it was.
@@ -14,29 +13,25 @@ pub fn writes_are_kept()
     ensures stand { WritesStand }
     ensures other { WritesTouchNoOther }
     ensures parts { WritesGoOn }
-{
-}
+{}
 
 /// Which draws a statement asks for depends on no row.
 pub fn draws_look_at_no_row()
     ensures { DrawsLookAtNoRow }
-{
-}
+{}
 
 /// A call leaves the tables with its writes, in order and fitting what is declared of them.
 pub fn calls_leave_writes()
     ensures writes { CallsLeaveWrites }
     ensures tables { CallsKeepTables }
-{
-}
+{}
 
 /// A serial run goes on by one entry, leaves one list of tables, and is told by a test.
 pub fn serial_goes_on()
     ensures next { SerialGoesOn }
     ensures one { SerialLeavesOne }
     ensures tested { SerialIsTested }
-{
-}
+{}
 
 /// Where no place that a transaction read has another value now, running its pieces now gives the same
 /// answers and leaves the tables of now with its writes: it may commit as if it ran now.
@@ -44,5 +39,4 @@ pub fn unchanged_runs_same()
     ensures same { UnchangedRunSame }
     ensures whole { UnchangedRunWhole }
     ensures serial { UnchangedIsSerial }
-{
-}
+{}

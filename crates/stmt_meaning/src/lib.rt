@@ -18,11 +18,11 @@ pub use effect::{Effect, is_refusal, number_at, row_effect, shown};
 pub use fitting::{are_tables, tables_fit, write_fits};
 pub use operand::{Wanted, drawn_value, is_of_kind, operand_at, resolve};
 pub use plain::{PlainFault, PlainRun, plain_call};
-pub use planning::{PlanFault, plan_for};
 pub use plan::{Plan, RowWork, TableWork};
+pub use planning::{PlanFault, plan_for};
+pub use reading::{Stop, plan_of};
 pub use scan::Scan;
 pub use tables::{Place, PlainRow, PlainTables};
-pub use reading::{Stop, plan_of};
 pub use target::{Target, schema_of, target_of};
 pub use written::{put_write, put_write_if_any, stands_at, stands_in};
 

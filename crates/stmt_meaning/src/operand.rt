@@ -6,7 +6,8 @@ ghost use Rattle.stmt_meaning.specs.Seen.{wanted_seen};
 
 use std::alloc::Global;
 use svc_values::{
-    Change, Draw, DrawKind, Name, NoMemory, Octets, Operand, Settings, Statement, StatementFault, Value,
+    Change, Draw, DrawKind, Name, NoMemory, Octets, Operand, Settings, Statement, StatementFault,
+    Value,
 };
 
 /// What an operand stands for: a value that is there, or one that is to be drawn.

@@ -17,7 +17,8 @@ use crate::tables::{Place, PlainRow, PlainTables};
 use crate::written::{put_write_if_any, stands_at, stands_in};
 use std::alloc::{AllocFailed, Global};
 use svc_values::{
-    Answer, Answers, Call, Draw, Name, NoMemory, Row, Settings, Shape, Statement, TryCopy, Value, copies,
+    Answer, Answers, Call, Draw, Name, NoMemory, Row, Settings, Shape, Statement, TryCopy, Value,
+    copies,
 };
 use thiserror::Error;
 

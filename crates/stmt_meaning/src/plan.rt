@@ -33,7 +33,9 @@ pub enum TableWork {
     /// The number of rows.
     Count,
     /// The sum of an integer column.
-    Sum { column: usize },
+    Sum {
+        column: usize,
+    },
 }
 
 /// A statement whose names were found and whose operands have the kinds of its columns. No row was
@@ -45,8 +47,13 @@ pub enum Plan {
         key: Value,
         work: RowWork,
     },
-    InTable { table: Name, work: TableWork },
-    Show { value: Value },
+    InTable {
+        table: Name,
+        work: TableWork,
+    },
+    Show {
+        value: Value,
+    },
 }
 
 impl Plan {

@@ -9,7 +9,10 @@ ghost use Rattle.stmt_meaning.specs.declared.planning.PlanFault.TheVariants as p
 use crate::plan::{Plan, RowWork, TableWork};
 use crate::target::Target;
 use std::alloc::Global;
-use svc_values::{Change, Column, Kind, Name, NoMemory, Row, Statement, StatementFault, Test, TryCopy, Value, values_fit};
+use svc_values::{
+    Change, Column, Kind, Name, NoMemory, Row, Statement, StatementFault, Test, TryCopy, Value,
+    values_fit,
+};
 use thiserror::Error;
 
 /// Why there is no plan.
@@ -126,7 +129,11 @@ fn select_plan(
             let value = than.copy(alloc)?;
             Ok(Plan::InTable {
                 table: table.copy(alloc)?,
-                work: TableWork::Select { column, test, value },
+                work: TableWork::Select {
+                    column,
+                    test,
+                    value,
+                },
             })
         }
         _ => Err(PlanFault::Refused(StatementFault::KindDiffers)),

@@ -13,7 +13,8 @@ use crate::planning::{PlanFault, plan_for};
 use crate::target::target_of;
 use std::alloc::{AllocFailed, Global};
 use svc_values::{
-    Draw, DrawKind, Name, NoMemory, Operand, Row, Settings, Shape, Statement, StatementFault, TryCopy, Value,
+    Draw, DrawKind, Name, NoMemory, Operand, Row, Settings, Shape, Statement, StatementFault,
+    TryCopy, Value,
 };
 
 /// Why a statement comes to no plan.
@@ -116,9 +117,7 @@ fn values_of(
 {
     let mut values = Vec::new(alloc);
     while let Some(operand) = operand_at(statement, values.len()) {
-        values.push(value_of(
-            alloc, sequences, settings, operand, draws, used,
-        )?)?;
+        values.push(value_of(alloc, sequences, settings, operand, draws, used)?)?;
     }
     Ok(Row::from_vec(values))
 }

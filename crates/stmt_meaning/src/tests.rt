@@ -2,8 +2,9 @@ use super::*;
 use std::alloc::Global;
 use std::test::Fail;
 use svc_values::{
-    Answer, Call, Change, Column, Columns, Draw, DrawKind, Kind, Name, Names, Operand, Operands, Row,
-    Schema, Schemas, Settings, Shape, Statement, StatementFault, Statements, Test, Text, Value,
+    Answer, Call, Change, Column, Columns, Draw, DrawKind, Kind, Name, Names, Operand, Operands,
+    Row, Schema, Schemas, Settings, Shape, Statement, StatementFault, Statements, Test, Text,
+    Value,
 };
 
 fn name(alloc: Global, text: &str) -> Result<Name, Fail> {
@@ -165,7 +166,10 @@ fn an_insert_is_checked_in_order(rt: HostRuntime) -> Result<(), Fail> {
     let statement = insert(alloc, "acc", int(1), text(alloc, "a")?)?;
     assert_eq!(rt; fault(alloc, statement)?, Some(StatementFault::KindDiffers));
     let statement = insert(alloc, "acc", int(1), int(5))?;
-    assert_eq!(rt; fault(alloc, statement)?, Some(StatementFault::DuplicateKey));
+    assert_eq!(rt;
+        fault(alloc, statement)?,
+        Some(StatementFault::DuplicateKey)
+    );
     let statement = insert(alloc, "acc", int(3), int(5))?;
     assert_eq!(rt; fault(alloc, statement)?, None);
     Ok(())

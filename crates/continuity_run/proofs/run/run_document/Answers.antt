@@ -22,5 +22,5 @@ returns c =
     let shaped = subst (λ (shape : Shape). run_of shape (start_run c.in_ok-tables.tables) c.calls_of-calls.result.now ≡ Some after) c.in_ok-shape.ensures c.in_ok-progress.ensures in
     let done = subst (λ (calls : List Call). run_of (shape_of document) (start_run c.in_ok-tables.tables) calls ≡ Some after) script shaped in
     headline document c.in_ok-tables.tables after c.in_ok-tables.ensures done
-      (record { clients = c.in_ok-transcripts_of.field-0; entries = c.in_ok-progress.progress.entries; tables = c.in_ok-tables-2.tables })
-      (c.in_ok-transcripts_of.ensures ∙ ap (λ clients. transcripts_of clients c.in_ok-progress.progress.shown) c.as_slice-2.ensures) refl c.in_ok-tables-2.ensures
+    (record { clients = c.in_ok-transcripts_of.field-0; entries = c.in_ok-progress.progress.entries; tables = c.in_ok-tables-2.tables })
+    (c.in_ok-transcripts_of.ensures ∙ ap (λ clients. transcripts_of clients c.in_ok-progress.progress.shown) c.as_slice-2.ensures) refl c.in_ok-tables-2.ensures

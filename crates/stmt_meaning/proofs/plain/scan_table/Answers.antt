@@ -9,7 +9,7 @@ loop-row-preserved c =
     let at = place.Table c.args.table.now in
     let lt : c.loop-row.row-index < length c.args.rows.now = omega arith in
     elim c.if-stands_in.branch [
-      then-stands_in+in_ok-scan+else-is_settled w ↦ w.scan-is ∙ (w.in_ok-scan.ensures ∙ scan_more at c.args.work c.args.rows.now c.loop-row.row-index c.row-item.result c.loop-row.scan lt c.row-item.is (sym c.stands_in.ensures ∙ w.if-stands_in.true) c.loop-row.invariant)
+      | then-stands_in+in_ok-scan+else-is_settled w ↦ w.scan-is ∙ (w.in_ok-scan.ensures ∙ scan_more at c.args.work c.args.rows.now c.loop-row.row-index c.row-item.result c.loop-row.scan lt c.row-item.is (sym c.stands_in.ensures ∙ w.if-stands_in.true) c.loop-row.invariant)
       | else-stands_in w ↦ w.scan-is ∙ scan_same at c.args.work c.args.rows.now c.loop-row.row-index c.row-item.result c.loop-row.scan lt c.row-item.is (sym c.stands_in.ensures ∙ w.if-stands_in.false) c.loop-row.invariant
     ]
 
