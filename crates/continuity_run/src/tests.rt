@@ -9,12 +9,13 @@ const SHOWN_REFUSED: &str =
     r#"{"clients":[[{"calls":[[[{"done":1}],[],[1,1,0]],[[{"refused":4}],[],[1,1,0]],[["committed"],[],[1,1,1]]],"failed":null}]],"entries":[{"completed":true,"ltxid":[1,1,0],"pieces":[[[["insert","t",[1,"a"]]],[{"done":1}],[]],[[["insert","t",[1,"a"]]],[{"refused":4}],[]],[[["commit"]],["committed"],[]]],"settings":[]}],"tables":[["t",[[1,"a"]]]]}"#;
 
 /// What a run answered, and what its sink holds.
-struct Run {
+#[derive(Drop)]
+struct Outcome {
     status: Status,
     held: Vec<u8>,
 }
 
-fn run(alloc: Global, words: &[&str], text: &str, fail: [u64; 3]) -> Result<Run, Fail> {
+fn run(alloc: Global, words: &[&str], text: &str, fail: [u64; 3]) -> Result<Outcome, Fail> {
     let mut owned = Vec::new(alloc);
     for word in words {
         owned.push(String::from_str(alloc, word)?)?;
@@ -25,12 +26,12 @@ fn run(alloc: Global, words: &[&str], text: &str, fail: [u64; 3]) -> Result<Run,
     let mut sink = MemSink::new(alloc, [write].to_vec(alloc)?, [nothing].to_vec(alloc)?, 5);
     let status = continuity(alloc, owned.as_slice(), &mut source, &mut sink);
     let held = sink.bytes().to_vec(alloc)?;
-    Ok(Run { status, held })
+    Ok(Outcome { status, held })
 }
 
 #[test]
 fn a_second_insert_is_refused_and_stands_as_a_piece(rt: HostRuntime) -> Result<(), Fail> {
-    let Run { status, held } = run(rt.alloc(), &["run"], INSERTED_TWICE, [0, 0, 0])?;
+    let Outcome { status, held } = run(rt.alloc(), &["run"], INSERTED_TWICE, [0, 0, 0])?;
     assert_eq!(rt; status.number(), 0);
     assert_eq!(rt; held.as_slice(), SHOWN_REFUSED.as_bytes());
     Ok(())
@@ -38,11 +39,50 @@ fn a_second_insert_is_refused_and_stands_as_a_piece(rt: HostRuntime) -> Result<(
 
 #[test]
 fn no_client_gives_an_empty_report(rt: HostRuntime) -> Result<(), Fail> {
-    let Run { status, held } = run(rt.alloc(), &["run"], r#"{"clients":[]}"#, [0, 0, 0])?;
+    let Outcome { status, held } = run(rt.alloc(), &["run"], r#"{"clients":[]}"#, [0, 0, 0])?;
     assert_eq!(rt; status.number(), 0);
     assert_eq!(rt;
         held.as_slice(),
         br#"{"clients":[],"entries":[],"tables":[]}"#.as_slice()
     );
+    Ok(())
+}
+
+#[test]
+fn words_reads_and_writes_that_fail_have_their_status(rt: HostRuntime) -> Result<(), Fail> {
+    let run_words = ["run"].as_slice();
+    for (words, fail, number, held_bytes) in [
+        (["fly"].as_slice(), [1, 0, 0], 2, 0),
+        ([].as_slice(), [1, 0, 0], 2, 0),
+        (["run", "now"].as_slice(), [1, 0, 0], 2, 0),
+        (run_words, [1, 0, 0], 3, 0),
+        (run_words, [3, 0, 0], 3, 0),
+        (run_words, [0, 1, 0], 4, 0),
+        (run_words, [0, 0, 1], 4, 0),
+        (run_words, [0, 3, 0], 4, 10),
+    ] {
+        let Outcome { status, held } = run(rt.alloc(), words, INSERTED_TWICE, fail)?;
+        assert_eq!(rt; status.number(), number);
+        assert_eq!(rt; held.len(), held_bytes);
+    }
+    Ok(())
+}
+
+#[test]
+fn what_is_no_document_has_its_code_and_no_path(rt: HostRuntime) -> Result<(), Fail> {
+    for (text, wanted) in [
+        (r#"{"clients":[],"schedule":[["tick"]]}"#, 10),
+        (r#"{"clients":["#, 2),
+        ("", 2),
+        (r#"{"schedule":[]}"#, 10),
+    ] {
+        let Outcome { status, held } = run(rt.alloc(), &["run"], text, [0, 0, 0])?;
+        let Status::Document { code, path } = status else {
+            return Err(Fail::from("a document"));
+        };
+        assert_eq!(rt; code.number(), wanted);
+        assert_eq!(rt; path.as_str(), "");
+        assert!(rt; held.is_empty());
+    }
     Ok(())
 }
