@@ -1,0 +1,5 @@
+pub mod Given
+pub mod Rows
+pub mod Selection
+pub mod Shelves
+pub mod Stored

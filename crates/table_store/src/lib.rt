@@ -1,0 +1,12 @@
+//! The committed tables of a service.
+#![tactic(auto)]
+
+mod row_map;
+mod select;
+mod shelves;
+mod tables;
+#[cfg(test)]
+mod tests;
+
+pub use row_map::RowMap;
+pub use tables::{TableRow, Tables};

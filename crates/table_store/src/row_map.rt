@@ -1,0 +1,117 @@
+//! The rows of one table.
+ghost use Rattle.std.specs.Prelude.{◌≡◌, None, OnOk, OnErr, IfOk, [], if◌then◌else◌};
+ghost use Rattle.std.specs.Option.{option_copied};
+ghost use Rattle.std.specs.Ordering.{is_eq};
+ghost use Rattle.svc_values.specs.Order.{value_cmp};
+ghost use Rattle.svc_values.specs.declared.value.Value.{Value as ValueSeen};
+ghost use Rattle.table_store.specs.Rows.{keyed_of, KeysRise};
+
+use std::alloc::Global;
+use std::collections::BTreeMap;
+use std::marker::Model;
+use std::rc::Rc;
+use svc_values::{NoMemory, Row, TryCopy, Value};
+
+/// The rows of one table, seen as the list of the keys and their rows in order of key. It shares its
+/// rows with those that were made of it by `share`, and none of them sees a change of another.
+#[derive(Drop)]
+pub struct RowMap {
+    rows: Rc<BTreeMap<Value, Row>>,
+    alloc: Global,
+}
+
+impl Model for RowMap {
+    ghost use Rattle.table_store.specs.Rows.{Keyed, KeysRise};
+
+    ghost Value = { Keyed };
+
+    ghost view = { λ a. a.rows.value.entries };
+
+    ghost invariant = { λ a. KeysRise a.rows.value.entries };
+}
+
+impl RowMap {
+    pub fn new(alloc: Global) -> Result<RowMap, NoMemory>
+        ensures { IfOk result (λ rows. rows ≡ []) }
+    {
+        let rows = Rc::new(alloc, BTreeMap::new(alloc))?;
+        Ok(RowMap { rows, alloc })
+    }
+
+    /// The row of a key. It takes the logarithm of the number of rows.
+    pub fn get(&self, key: &Value) -> Option<&Row>
+        ensures { option_copied result ≡ keyed_of self.now key.now }
+    {
+        self.rows.get(key)
+    }
+
+    /// The rows as a map, to be gone over.
+    pub fn as_map(&self) -> &BTreeMap<Value, Row>
+        ensures entries { result.now.entries ≡ self.now }
+        ensures rising { KeysRise self.now }
+    {
+        &self.rows
+    }
+
+    /// The same rows once more. No row is copied now; the first change of either copies them.
+    pub fn share(&self) -> Result<RowMap, NoMemory>
+        ensures { IfOk result (λ rows. rows ≡ self.now) }
+    {
+        let rows = self.rows.clone()?;
+        Ok(RowMap {
+            rows,
+            alloc: self.alloc,
+        })
+    }
+
+    /// Puts a row in the place of that of its key, if any. It takes the logarithm of the number of
+    /// rows where they are not shared, and else copies them first.
+    pub(crate) fn put(&mut self, key: Value, row: Row) -> Result<(), NoMemory>
+        ensures ok { OnOk result ((q : ValueSeen) → keyed_of self.new q ≡ (if is_eq (value_cmp key q) then Some row else keyed_of self.old q)) }
+        ensures err { OnErr result (self.new ≡ self.old) }
+        ensures rising { KeysRise self.new }
+    {
+        match Rc::get_mut(&mut self.rows) {
+            Some(rows) => {
+                rows.insert(key, row)?;
+            }
+            None => {
+                let mut rows = copied(self.alloc, &self.rows)?;
+                rows.insert(key, row)?;
+                self.rows = Rc::new(self.alloc, rows)?;
+            }
+        }
+        Ok(())
+    }
+
+    /// Takes the row of a key away, if there is one. It costs what `put` does.
+    pub(crate) fn take_away(&mut self, key: &Value) -> Result<(), NoMemory>
+        ensures ok { OnOk result ((q : ValueSeen) → keyed_of self.new q ≡ (if is_eq (value_cmp key.now q) then None else keyed_of self.old q)) }
+        ensures err { OnErr result (self.new ≡ self.old) }
+        ensures rising { KeysRise self.new }
+    {
+        match Rc::get_mut(&mut self.rows) {
+            Some(rows) => {
+                rows.remove(key);
+            }
+            None => {
+                let mut rows = copied(self.alloc, &self.rows)?;
+                rows.remove(key);
+                self.rows = Rc::new(self.alloc, rows)?;
+            }
+        }
+        Ok(())
+    }
+}
+
+/// The same rows in a map of their own.
+fn copied(alloc: Global, rows: &BTreeMap<Value, Row>) -> Result<BTreeMap<Value, Row>, NoMemory>
+    ensures same { IfOk result (λ made. made.entries ≡ rows.now.entries) }
+    ensures rising { KeysRise rows.now.entries }
+{
+    let mut made = BTreeMap::new(alloc);
+    for (key, row) in rows {
+        made.insert(key.copy(alloc)?, row.copy(alloc)?)?;
+    }
+    Ok(made)
+}

@@ -1,0 +1,239 @@
+//! The tables of a service.
+ghost use Rattle.std.specs.Prelude.{◌≡◌, IsTrue, None, OnOk, OnErr, IfOk, map};
+ghost use Rattle.std.specs.Option.{option_copied, option_map};
+ghost use Rattle.std.specs.Map.{values_of};
+ghost use Rattle.svc_values.specs.Same.{same_value};
+ghost use Rattle.stmt_meaning.specs.declared.tables.Place.TheVariants as place;
+ghost use Rattle.stmt_meaning.specs.Tables.{rows_at, with_write, with_writes, in_order};
+ghost use Rattle.stmt_meaning.specs.Plans.{schema_of as schema_of_lem, key_of as key_of_lem};
+ghost use Rattle.stmt_meaning.specs.Effects.{selected as selected_lem};
+ghost use Rattle.stmt_meaning.specs.Fitting.{is_row_of, has_fit, tables_fit, write_fits, writes_fit};
+ghost use Rattle.table_store.specs.Rows.{rows_if_any, row_if_any};
+ghost use Rattle.table_store.specs.Given.{plain};
+ghost use Rattle.table_store.specs.Selection.{at_most_32};
+ghost use Rattle.table_store.specs.Stored.{AreKept, AreApart, HasSome};
+
+use crate::row_map::RowMap;
+use crate::select::selected;
+use crate::shelves::{self, Shelves};
+use std::alloc::Global;
+use std::collections::BTreeMap;
+use std::marker::Model;
+use stmt_meaning::schema_of;
+use svc_values::{Name, NoMemory, Row, Schema, Schemas, Test, TryCopy, Value, Write, Writes};
+
+/// A row that a table begins with. Its first value is its key.
+#[derive(Drop)]
+pub struct TableRow {
+    pub table: Name,
+    pub row: Row,
+}
+
+/// The tables of a service with their rows, seen as their declarations and the list of all rows in
+/// the order of table and key.
+#[derive(Drop)]
+pub struct Tables {
+    schemas: Schemas,
+    shelves: Shelves,
+    alloc: Global,
+}
+
+impl Model for Tables {
+    ghost use Rattle.table_store.specs.Rows.{all_rows};
+    ghost use Rattle.table_store.specs.Stored.{Stored, IsStored};
+
+    ghost Value = { Stored };
+
+    ghost view = { λ a. record { schemas = a.schemas; rows = all_rows a.shelves.entries } };
+
+    ghost invariant = { λ a. IsStored a.schemas a.shelves.entries };
+}
+
+impl Tables {
+    /// Tables with these rows. It takes n log n for n rows, and no row is copied.
+    pub fn new(alloc: Global, schemas: Schemas, mut rows: Vec<TableRow>) -> Result<Tables, NoMemory>
+        requires fitting { IsTrue (tables_fit schemas (plain rows.items)) }
+        requires apart { AreApart (plain rows.items) }
+        ensures made { IfOk result (λ tables. tables ≡ record { schemas = schemas; rows = in_order (plain rows.items) }) }
+        ensures kept { IfOk result (λ tables. AreKept tables) }
+    {
+        let mut tables = Tables {
+            schemas,
+            shelves: BTreeMap::new(alloc),
+            alloc,
+        };
+        'filled: while let Some(one) = rows.pop() {
+            let TableRow { table, row } = one;
+            let key = key_of(alloc, &row)?;
+            tables.put(&table, key, row)?;
+        }
+        Ok(tables)
+    }
+
+    /// The declaration of a table, `None` exactly where there is no such table. Linear in the tables,
+    /// which are at most 32. It takes no memory.
+    pub fn schema(&self, table: &Name) -> Option<&Schema>
+        ensures { option_copied result ≡ schema_of_lem self.now.schemas table.now }
+    {
+        schema_of(self.schemas.as_slice(), table)
+    }
+
+    /// The declarations in the order in which they were given.
+    pub fn schemas(&self) -> &Schemas
+        ensures schemas { result.now ≡ self.now.schemas }
+        ensures kept { AreKept self.now }
+    {
+        &self.schemas
+    }
+
+    /// Whether a write names a table, a key of its first column's kind, and a row of that key that
+    /// fits its columns, if it has a row.
+    pub fn fits(&self, write: &Write) -> bool
+        ensures { result ≡ write_fits self.now.schemas write.now }
+    {
+        match self.schema(&write.table) {
+            None => false,
+            Some(schema) => write_fits_schema(schema, &write.key, &write.row),
+        }
+    }
+
+    /// The rows of a table that has had any.
+    pub fn row_map(&self, table: &Name) -> Option<&RowMap>
+        ensures rows { rows_at self.now.rows (place.Table table.now) ≡ rows_if_any table.now (option_copied result) }
+        ensures kept { AreKept self.now }
+    {
+        self.shelves.get(table)
+    }
+
+    /// The row of a key of a table, `None` exactly where none stands there. It takes the logarithm of
+    /// the number of rows, and no memory.
+    pub fn get(&self, table: &Name, key: &Value) -> Option<&Row>
+        ensures { rows_at self.now.rows (place.Row table.now key.now) ≡ row_if_any table.now key.now (option_copied result) }
+    {
+        match self.shelves.get(table) {
+            None => None,
+            Some(rows) => rows.get(key),
+        }
+    }
+
+    /// Copies of the rows of a table in order of key. Linear in the rows.
+    pub fn rows(&self, table: &Name) -> Result<Vec<Row>, NoMemory>
+        ensures { IfOk result (λ rows. rows.items ≡ map (λ one. one.row) (rows_at self.now.rows (place.Table table.now))) }
+    {
+        let Some(rows) = self.row_map(table) else {
+            return Ok(Vec::new(self.alloc));
+        };
+        copied_rows(self.alloc, rows)
+    }
+
+    /// Copies of the rows whose value in a column, told by its place from 0, meets the test, in order
+    /// of key, and `None` exactly where more than 32 do. Linear in the rows of the table.
+    pub fn select(
+        &self,
+        table: &Name,
+        column: usize,
+        test: Test,
+        value: &Value,
+    ) -> Result<Option<Vec<Row>>, NoMemory>
+        ensures { IfOk result (λ found. option_map (λ rows. rows.items) found ≡ at_most_32 (selected_lem column test value.now (map (λ one. one.row) (rows_at self.now.rows (place.Table table.now))))) }
+    {
+        match self.row_map(table) {
+            None => Ok(Some(Vec::new(self.alloc))),
+            Some(rows) => selected(self.alloc, rows, column, test, value),
+        }
+    }
+
+    /// The tables after writes, in their order. A write takes the logarithm of the number of rows,
+    /// and the first one of a table whose rows are shared copies them. After a refusal some of the
+    /// writes are in.
+    pub fn apply(&mut self, writes: &Writes) -> Result<(), NoMemory>
+        requires { IsTrue (writes_fit self.old.schemas writes.now) }
+        ensures ok { OnOk result (self.new ≡ record { schemas = self.old.schemas; rows = with_writes self.old.rows writes.now }) }
+        ensures err { OnErr result (HasSome self.old writes.now self.new) }
+        ensures kept { AreKept self.new }
+    {
+        let _ = &self.schemas;
+        for write in writes.as_slice() {
+            self.write(write)?;
+        }
+        Ok(())
+    }
+
+    fn write(&mut self, write: &Write) -> Result<(), NoMemory>
+        requires { IsTrue (write_fits self.old.schemas write.now) }
+        ensures ok { OnOk result (self.new ≡ record { schemas = self.old.schemas; rows = with_write self.old.rows write.now }) }
+        ensures err { OnErr result (self.new ≡ self.old) }
+        ensures kept { AreKept self.new }
+    {
+        match &write.row {
+            None => self.take_away(&write.table, &write.key),
+            Some(row) => {
+                let key = write.key.copy(self.alloc)?;
+                let row = row.copy(self.alloc)?;
+                self.put(&write.table, key, row)
+            }
+        }
+    }
+
+    /// Puts a row in the place of that of its key, if any.
+    fn put(&mut self, table: &Name, key: Value, row: Row) -> Result<(), NoMemory>
+        requires { IsTrue (is_row_of (schema_of_lem self.old.schemas table.now) key row) }
+        ensures ok { OnOk result (self.new ≡ record { schemas = self.old.schemas; rows = with_write self.old.rows (record { table = table.now; key = key; row = Some row }) }) }
+        ensures err { OnErr result (self.new ≡ self.old) }
+        ensures kept { AreKept self.new }
+    {
+        shelves::put(self.alloc, &mut self.shelves, table, key, row)
+    }
+
+    /// Takes the row of a key away, if there is one.
+    fn take_away(&mut self, table: &Name, key: &Value) -> Result<(), NoMemory>
+        ensures ok { OnOk result (self.new ≡ record { schemas = self.old.schemas; rows = with_write self.old.rows (record { table = table.now; key = key.now; row = None }) }) }
+        ensures err { OnErr result (self.new ≡ self.old) }
+        ensures kept { AreKept self.new }
+    {
+        shelves::take_away(&mut self.shelves, table, key)
+    }
+}
+
+fn write_fits_schema(schema: &Schema, key: &Value, row: &Option<Row>) -> bool
+    ensures { result ≡ has_fit (Some schema.now) key.now row.now }
+{
+    match row {
+        None => match schema.columns.get(0) {
+            None => false,
+            Some(column) => column.kind == key.kind(),
+        },
+        Some(row) => schema.fits(row) && is_key_of(key, row),
+    }
+}
+
+/// Whether the key is the first value of the row.
+fn is_key_of(key: &Value, row: &Row) -> bool
+    ensures { result ≡ same_value (key_of_lem row.now) key.now }
+{
+    match row.get(0) {
+        None => Value::Int(0) == *key,
+        Some(first) => *first == *key,
+    }
+}
+
+/// The first value of a row: its key. (A row has a value for each column, and a table has a column.)
+fn key_of(alloc: Global, row: &Row) -> Result<Value, NoMemory>
+    ensures { IfOk result (λ key. key ≡ key_of_lem row.now) }
+{
+    match row.get(0) {
+        None => Ok(Value::Int(0)),
+        Some(key) => key.copy(alloc),
+    }
+}
+
+/// Copies of the rows in order of key.
+fn copied_rows(alloc: Global, rows: &RowMap) -> Result<Vec<Row>, NoMemory>
+    ensures { IfOk result (λ copied. copied.items ≡ values_of rows.now) }
+{
+    let mut copied = Vec::new(alloc);
+    for row in rows.as_map().values() {
+        copied.push(row.copy(alloc)?)?;
+    }
+    Ok(copied)
+}

@@ -1,0 +1,98 @@
+use super::*;
+use std::alloc::Global;
+use std::test::Fail;
+use svc_values::{
+    Column, Columns, Kind, Name, NoMemory, Row, Schema, Schemas, Test, Value, Write, Writes,
+};
+
+/// The name of the only table.
+fn accounts(alloc: Global) -> Result<Name, Fail> {
+    Ok(Name::new(alloc, "acc")?)
+}
+
+/// The table `acc` with an integer `id` and an integer `bal`, and no row.
+fn empty(alloc: Global) -> Result<Tables, Fail> {
+    let mut columns = Columns::new(alloc);
+    for text in ["id", "bal"] {
+        let name = Name::new(alloc, text)?;
+        columns.push(Column {
+            name,
+            kind: Kind::Int,
+        })?;
+    }
+    let mut schemas = Schemas::new(alloc);
+    schemas.push(Schema::new(accounts(alloc)?, columns)?)?;
+    Ok(Tables::new(alloc, schemas, Vec::new(alloc))?)
+}
+
+/// A write of this account, or its deletion.
+fn write_of(alloc: Global, id: i64, balance: Option<i64>) -> Result<Write, Fail> {
+    let row = match balance {
+        None => None,
+        Some(balance) => {
+            let mut row = Row::new(alloc);
+            row.push(Value::Int(id))?;
+            row.push(Value::Int(balance))?;
+            Some(row)
+        }
+    };
+    Ok(Write {
+        table: accounts(alloc)?,
+        key: Value::Int(id),
+        row,
+    })
+}
+
+/// Applies the writes if they fit, and says whether they do.
+fn apply(tables: &mut Tables, writes: &Writes) -> Result<bool, NoMemory> {
+    if !writes.as_slice().iter().all(|write| tables.fits(write)) {
+        return Ok(false);
+    }
+    tables.apply(writes)?;
+    Ok(true)
+}
+
+#[test]
+fn rows_stand_by_key_and_the_last_write_counts(rt: HostRuntime) -> Result<(), Fail> {
+    let alloc = rt.alloc();
+    let mut tables = empty(alloc)?;
+    let mut writes = Writes::new(alloc);
+    for (id, balance) in [
+        (2, Some(5)),
+        (1, Some(100)),
+        (3, Some(7)),
+        (1, Some(90)),
+        (3, None),
+    ] {
+        writes.push(write_of(alloc, id, balance)?)?;
+    }
+    assert!(rt; apply(&mut tables, &writes)?);
+    let table = accounts(alloc)?;
+    let balance = tables
+        .get(&table, &Value::Int(1))
+        .and_then(|row| row.get(1));
+    assert!(rt; balance == Some(&Value::Int(90)));
+    assert!(rt; tables.get(&table, &Value::Int(3)).is_none());
+    let rows = tables.rows(&table)?;
+    assert_eq!(rt; rows.len(), 2);
+    assert!(rt; rows[0].get(0) == Some(&Value::Int(1)));
+    assert!(rt; tables.schema(&table).is_some());
+    Ok(())
+}
+
+#[test]
+fn a_select_answers_32_rows_and_no_more(rt: HostRuntime) -> Result<(), Fail> {
+    let alloc = rt.alloc();
+    let mut tables = empty(alloc)?;
+    let mut writes = Writes::new(alloc);
+    for id in 0..33 {
+        writes.push(write_of(alloc, id, Some(1))?)?;
+    }
+    assert!(rt; apply(&mut tables, &writes)?);
+    let table = accounts(alloc)?;
+    let one = Value::Int(1);
+    assert!(rt; tables.select(&table, 1, Test::Eq, &one)?.is_none());
+    let below = tables.select(&table, 0, Test::Lt, &Value::Int(32))?;
+    assert_eq!(rt; below.map(|rows| rows.len()), Some(32));
+    Ok(())
+}
