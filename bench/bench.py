@@ -1,7 +1,8 @@
 #!/usr/bin/env python3
 """Times the built programs on large inputs, each at two sizes, so that growth shows.
 
-Usage: bench/bench.py [NAME ..]   with no name, all. Run ./continuity run < examples/first.json once before.
+Usage: bench/bench.py [NAME ..]   with no name, all. Build the programs before, by `rt run` in
+crates/continuity and in crates/wire_bench.
 """
 
 import json
@@ -99,6 +100,9 @@ def program_case(name, words_list, unit):
 CASES = {
     "long": lambda: document_case("long documents", [long_document(4_000_000), long_document(8_000_000)]),
     "rows": lambda: document_case("32 tables of rows", [rows_document(32, 2_500), rows_document(32, 10_000)]),
+    "answers": lambda: program_case("wire_bench", [["answers", "100000"], ["answers", "1000000"]], "answer"),
+    "stream": lambda: program_case("wire_bench", [["stream", "1000000"], ["stream", "4000000"]], "byte"),
+    "frame": lambda: program_case("wire_bench", [["frame", "1000000"], ["frame", "4000000"]], "byte"),
     "calls": lambda: document_case("calls of one request", [calls_document(256, 10_000), calls_document(1_024, 10_000)]),
 }
 
