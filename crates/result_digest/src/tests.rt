@@ -13,16 +13,19 @@ fn a_list_of_no_answer_has_the_digest_of_eight_zero_bytes(rt: HostRuntime) -> Re
 #[test]
 fn a_read_row_has_the_digest_of_its_43_bytes(rt: HostRuntime) -> Result<(), Fail> {
     let alloc = rt.alloc();
-    let bytes = hex::decode(
-        alloc,
-        "00000000000000010200000000000000010000000000000002010000000000000001010000000000000064",
-    )?;
-    let row = Limited::from_vec(vec![in alloc; Value::Int(1), Value::Int(100)]?);
-    let answer = Answer::Rows(Limited::from_vec(vec![in alloc; row]?));
-    let wanted = sha2::Sha256::digest(bytes.as_slice());
-    let mut digesting = Digesting::new(alloc, 1);
-    digesting.add(&answer)?;
-    assert!(rt; digesting.finish() == wanted);
-    assert!(rt; digest_of(alloc, [answer].as_slice())? == wanted);
+    for (balance, last) in [(100, "64"), (90, "5a")] {
+        let text = format!(in alloc;
+            "000000000000000102000000000000000100000000000000020100000000000000010100000000000000{last}"
+        )?;
+        let bytes = hex::decode(alloc, text.as_str())?;
+        assert_eq!(rt; bytes.len(), 43);
+        let row = Limited::from_vec(vec![in alloc; Value::Int(1), Value::Int(balance)]?);
+        let answer = Answer::Rows(Limited::from_vec(vec![in alloc; row]?));
+        let wanted = sha2::Sha256::digest(bytes.as_slice());
+        let mut digesting = Digesting::new(alloc, 1);
+        digesting.add(&answer)?;
+        assert!(rt; digesting.finish() == wanted);
+        assert!(rt; digest_of(alloc, [answer].as_slice())? == wanted);
+    }
     Ok(())
 }
