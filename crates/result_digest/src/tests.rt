@@ -1,13 +1,20 @@
 use crate::{Digesting, digest_of};
 use sha2::Digest;
+use std::alloc::Global;
 use std::test::Fail;
-use svc_values::{Answer, Limited, Value};
+use svc_values::{Answer, Limited, NoMemory, Value};
 
 #[test]
 fn a_list_of_no_answer_has_the_digest_of_eight_zero_bytes(rt: HostRuntime) -> Result<(), Fail> {
     let zero = sha2::Sha256::digest([0u8; 8].as_slice());
     assert!(rt; Digesting::new(rt.alloc(), 0).finish() == zero);
     Ok(())
+}
+
+fn made_of_one(alloc: Global, answer: &Answer) -> Result<[u8; 32], NoMemory> {
+    let mut digesting = Digesting::new(alloc, 1);
+    digesting.add(answer)?;
+    Ok(digesting.finish())
 }
 
 #[test]
@@ -22,9 +29,7 @@ fn a_read_row_has_the_digest_of_its_43_bytes(rt: HostRuntime) -> Result<(), Fail
         let row = Limited::from_vec(vec![in alloc; Value::Int(1), Value::Int(balance)]?);
         let answer = Answer::Rows(Limited::from_vec(vec![in alloc; row]?));
         let wanted = sha2::Sha256::digest(bytes.as_slice());
-        let mut digesting = Digesting::new(alloc, 1);
-        digesting.add(&answer)?;
-        assert!(rt; digesting.finish() == wanted);
+        assert!(rt; made_of_one(alloc, &answer)? == wanted);
         assert!(rt; digest_of(alloc, [answer].as_slice())? == wanted);
     }
     Ok(())
