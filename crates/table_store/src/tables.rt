@@ -97,6 +97,13 @@ impl Tables {
         }
     }
 
+    /// Whether each of the writes fits, so that they may be applied. Linear in the writes.
+    pub fn all_fit(&self, writes: &Writes) -> bool
+        ensures { result ≡ writes_fit self.now.schemas writes.now }
+    {
+        writes.as_slice().iter().all(|write| self.fits(write))
+    }
+
     /// The rows of a table that has had any.
     pub fn row_map(&self, table: &Name) -> Option<&RowMap>
         ensures rows { rows_at self.now.rows (place.Table table.now) ≡ rows_if_any table.now (option_copied result) }

@@ -45,7 +45,7 @@ fn write_of(alloc: Global, id: i64, balance: Option<i64>) -> Result<Write, Fail>
 
 /// Applies the writes if they fit, and says whether they do.
 fn apply(tables: &mut Tables, writes: &Writes) -> Result<bool, NoMemory> {
-    if !writes.as_slice().iter().all(|write| tables.fits(write)) {
+    if !tables.all_fit(writes) {
         return Ok(false);
     }
     tables.apply(writes)?;
