@@ -194,6 +194,7 @@ fn members_are_written_in_order(rt: HostRuntime) -> Result<(), Fail> {
         "Sizes",
         Written::array_of(alloc, &[100, 125], &Sizes)?,
     )?;
+    image.put(alloc, "Id", Written::octets(alloc, &[0, 171])?)?;
     image.put(alloc, "IDs", Written::array(alloc, numbers)?)?;
     let bytes = image.written().to_bytes(alloc)?;
     let expected =
