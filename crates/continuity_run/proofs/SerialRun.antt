@@ -1,22 +1,25 @@
 -- Each step of a run keeps its entries serial.
 use Rattle.std.proofs.Common.{◌≡◌, ℕ, ◌+◌, List, [], ◌∷◌, ◌++◌, length, Bool, true, false, Option, Some, None, if◌then◌else◌, refl, sym, ap, ◌∙◌, subst, append_assoc, append-nil, length-append}
-use Rattle.std.specs.Prelude.{option_and_then, MatchBool, map}
-use Rattle.std.proofs.lemmas.List.{map_push}
+use Rattle.std.specs.Prelude.{option_and_then, MatchBool}
+use Rattle.std.specs.List.{flat_map}
 use Rattle.std.specs.Option.{option_map}
 use Rattle.svc_values.specs.declared.value.Value.{Value}
 use Rattle.svc_values.specs.declared.schema.Shape.{Shape}
 use Rattle.svc_values.specs.declared.call.Call.{Call}
 use Rattle.svc_values.specs.declared.entry.Piece.{Piece}
 use Rattle.svc_values.specs.declared.entry.Entry.{Entry}
-use Rattle.continuity_run.specs.declared.report.ReportEntry.{ReportEntry}
+use Rattle.svc_values.specs.declared.entry.Write.{Write}
 use Rattle.svc_values.specs.Calls.{is_lone_commit}
 use Rattle.svc_values.specs.Endings.{ends_committed}
 use Rattle.stmt_meaning.specs.declared.tables.PlainRow.{PlainRow}
 use Rattle.stmt_meaning.specs.Meaning.{Meant, mean}
+use Rattle.stmt_meaning.specs.Tables.{with_writes}
+use Rattle.stmt_meaning.proofs.MeanLocal.{mean-tables}
+use Rattle.stmt_meaning.proofs.Writes.{with_writes-append}
 use Rattle.stmt_meaning.specs.Serial.{Replays, Transaction, Serial}
 use Rattle.continuity_run.specs.declared.report.ShownCall.{ShownCall}
-use Rattle.continuity_run.specs.Run.{Run, step, run_of, after_call, committed_run, open_run, piece_of, entry_of, shown_with, identifier, journaled}
-use Rattle.continuity_run.specs.Headline.{ShownInTurn, shown_piece, settings_after, HasEntry, OneEntryEach}
+use Rattle.continuity_run.specs.Run.{Run, step, run_of, after_call, committed_run, open_run, piece_of, entry_of, shown_with, identifier}
+use Rattle.continuity_run.specs.Headline.{ShownInTurn, shown_piece, settings_after, HasEntry, OneEntryEach, writes_of}
 use Rattle.continuity_run.proofs.NoDraws.{Kept, KeptIf, kept}
 
 abbrev Settings : Type 0
@@ -49,21 +52,36 @@ serial_more shape a (f ∷ es) e b c h last = (h.0, (h.1.0, serial_more shape h.
 
 -- a run so far
 pub record Good (shape : Shape) (before : List PlainRow) (run : Run) : Type 0 where
-  pub serial : Serial shape before (map journaled run.entries) run.committed
+  pub serial : Serial shape before run.entries run.committed
   pub pending : Pending shape run.committed run.began run.pieces run.seen run.settings
+  pub stored : run.committed ≡ with_writes before (writes_of run.entries)
+  pub written : run.seen ≡ with_writes run.committed run.writes
 
 replayed : (shape : Shape) (run : Run) (c : Call) (meant : Meant) → mean shape run.seen run.settings c [] ≡ Some meant → meant.rest ≡ [] → Replays shape run.seen run.settings (piece_of c meant) meant
 replayed shape run c meant is rest = record { run = is; draws = rest; answers = refl }
 
+writes_of-push : (entries : List Entry) (entry : Entry) → writes_of (entries ++ entry ∷ []) ≡ writes_of entries ++ entry.writes
+writes_of-push [] entry = append-nil entry.writes
+writes_of-push (first ∷ entries) entry = ap (λ more. first.writes ++ more) (writes_of-push entries entry) ∙ sym (append_assoc first.writes (writes_of entries) entry.writes)
+
+-- what the session sees after a call
+seen_after : (shape : Shape) (run : Run) (c : Call) (meant : Meant) → mean shape run.seen run.settings c [] ≡ Some meant → run.seen ≡ with_writes run.committed run.writes → meant.tables ≡ with_writes run.committed (run.writes ++ meant.writes)
+seen_after shape run c meant is written =
+    mean-tables shape run.seen run.settings c [] meant is ∙ ap (λ rows. with_writes rows meant.writes) written ∙ sym (with_writes-append run.committed run.writes meant.writes)
+
 good_after : (shape : Shape) (before : List PlainRow) (run : Run) (c : Call) (meant : Meant) → mean shape run.seen run.settings c [] ≡ Some meant → meant.rest ≡ []
     → (b : Bool) → ends_committed meant.answers ≡ b → Good shape before run → Good shape before (if b then committed_run run c meant else open_run run c meant)
 good_after shape before run c meant is rest true e g = record {
-  serial = subst (λ (es : List Entry). Serial shape before es meant.tables) (sym (map_push journaled run.entries (entry_of run c meant))) (serial_more shape before (map journaled run.entries) (journaled (entry_of run c meant)) run.committed meant.tables g.serial (committed shape run.committed run.began run.pieces (piece_of c meant) run.seen run.settings meant g.pending (replayed shape run c meant is rest) e));
+  serial = serial_more shape before run.entries (entry_of run c meant) run.committed meant.tables g.serial (committed shape run.committed run.began run.pieces (piece_of c meant) run.seen run.settings meant g.pending (replayed shape run c meant is rest) e);
   pending = (refl, refl);
+  stored = seen_after shape run c meant is g.written ∙ ap (λ rows. with_writes rows (run.writes ++ meant.writes)) g.stored ∙ sym (with_writes-append before (writes_of run.entries) (run.writes ++ meant.writes)) ∙ ap (with_writes before) (sym (writes_of-push run.entries (entry_of run c meant)));
+  written = refl;
 }
 good_after shape before run c meant is rest false e g = record {
   serial = g.serial;
   pending = pending_more shape run.committed run.began run.pieces (piece_of c meant) run.seen run.settings meant g.pending (replayed shape run c meant is rest) e;
+  stored = g.stored;
+  written = seen_after shape run c meant is g.written;
 }
 
 -- what goes on from a run over further calls
@@ -72,7 +90,7 @@ pub record Goes (shape : Shape) (before : List PlainRow) (run : Run) (calls : Li
   pub more : List ShownCall
   pub shown : after.shown ≡ run.shown ++ more
   pub in_turn : ShownInTurn shape run.seen run.settings calls more
-  pub later : List ReportEntry
+  pub later : List Entry
   pub entries : after.entries ≡ run.entries ++ later
   pub each : OneEntryEach (length run.entries) run.began run.settings run.pieces calls more later
 

@@ -5,7 +5,7 @@ use Rattle.json_form.specs.Writing.{text, whole, flag, list, list_by, members}
 use Rattle.svc_values.specs.declared.value.Value.{Value}
 use Rattle.svc_values.specs.declared.entry.Ltxid.{Ltxid}
 use Rattle.svc_values.specs.declared.entry.Piece.{Piece}
-use Rattle.continuity_run.specs.declared.report.ReportEntry.{ReportEntry}
+use Rattle.svc_values.specs.declared.entry.Entry.{Entry}
 use Rattle.continuity_run.specs.declared.report.ShownCall.{ShownCall}
 use Rattle.continuity_run.specs.declared.report.RequestReport.{RequestReport}
 use Rattle.continuity_run.specs.declared.report.ReportTable.{ReportTable}
@@ -24,7 +24,7 @@ setting_text (name, x) = list (text name ∷ value_text x ∷ [])
 unfoldable pub piece_text : Piece → Data
 piece_text piece = list (call_text piece.call ∷ list_by answer_text piece.answers ∷ list_by draw_text piece.draws ∷ [])
 
-unfoldable pub entry_text : ReportEntry → Data
+unfoldable pub entry_text : Entry → Data
 entry_text entry = members (
     (codes "completed", flag entry.completed)
     ∷ (codes "ltxid", identifier_text entry.ltxid)

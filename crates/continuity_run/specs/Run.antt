@@ -7,26 +7,27 @@ use Rattle.svc_values.specs.declared.call.Call.{Call}
 use Rattle.svc_values.specs.declared.entry.Ltxid.{Ltxid}
 use Rattle.svc_values.specs.declared.entry.Piece.{Piece}
 use Rattle.svc_values.specs.declared.entry.Entry.{Entry}
+use Rattle.svc_values.specs.declared.entry.Write.{Write}
 use Rattle.svc_values.specs.Calls.{is_lone_commit}
 use Rattle.svc_values.specs.Endings.{ends_committed}
 use Rattle.stmt_meaning.specs.declared.tables.PlainRow.{PlainRow}
 use Rattle.stmt_meaning.specs.Meaning.{Meant, mean}
 use Rattle.continuity_run.specs.declared.report.ShownCall.{ShownCall}
-use Rattle.continuity_run.specs.declared.report.ReportEntry.{ReportEntry}
 
 -- The committed tables, and those that the session sees: with the writes of its transaction. `began` are the settings at the
--- transaction's start. The pieces are the transaction's so far.
+-- transaction's start. The pieces and writes are the transaction's so far.
 pub record Run : Type 0 where
   pub committed : List PlainRow
   pub seen : List PlainRow
   pub settings : List (List ℕ × Value)
   pub began : List (List ℕ × Value)
   pub pieces : List Piece
-  pub entries : List ReportEntry
+  pub writes : List Write
+  pub entries : List Entry
   pub shown : List ShownCall
 
 abbrev pub start_run : List PlainRow → Run
-start_run tables = record { committed = tables; seen = tables; settings = []; began = []; pieces = []; entries = []; shown = [] }
+start_run tables = record { committed = tables; seen = tables; settings = []; began = []; pieces = []; writes = []; entries = []; shown = [] }
 
 -- the only session's identifier after so many commits
 abbrev pub identifier : ℕ → Ltxid
@@ -38,12 +39,13 @@ piece_of call meant = record { call = call; answers = meant.answers; draws = [] 
 abbrev pub shown_with : Meant → ℕ → ShownCall
 shown_with meant commits = record { answers = meant.answers; draws = []; ltxid = identifier commits }
 
-abbrev pub entry_of : Run → Call → Meant → ReportEntry
+abbrev pub entry_of : Run → Call → Meant → Entry
 entry_of run call meant = record {
   ltxid = identifier (length run.entries);
   completed = is_lone_commit call;
   settings = run.began;
   pieces = run.pieces ++ piece_of call meant ∷ [];
+  writes = run.writes ++ meant.writes;
 }
 
 -- a commit was answered: what the session sees is committed, and the next transaction begins
@@ -54,6 +56,7 @@ committed_run run call meant = record {
   settings = meant.settings;
   began = meant.settings;
   pieces = [];
+  writes = [];
   entries = run.entries ++ entry_of run call meant ∷ [];
   shown = run.shown ++ shown_with meant (length run.entries + 1) ∷ [];
 }
@@ -65,6 +68,7 @@ open_run run call meant = record {
   settings = meant.settings;
   began = run.began;
   pieces = run.pieces ++ piece_of call meant ∷ [];
+  writes = run.writes ++ meant.writes;
   entries = run.entries;
   shown = run.shown ++ shown_with meant (length run.entries) ∷ [];
 }
@@ -79,7 +83,3 @@ step shape run call = option_map (after_call run call) (mean shape run.seen run.
 abbrev pub run_of : Shape → Run → List Call → Option Run
 run_of shape run [] = Some run
 run_of shape run (call ∷ calls) = option_and_then (λ next. run_of shape next calls) (step shape run call)
-
--- the entry as a serial run reads it: it asks nothing of the writes
-abbrev pub journaled : ReportEntry → Entry
-journaled entry = record { ltxid = entry.ltxid; completed = entry.completed; settings = entry.settings; pieces = entry.pieces; writes = [] }

@@ -22,8 +22,8 @@ pub use memory::{MemSink, MemSource};
 pub use outside::{Failed, Sink, Source};
 pub use reading::{DOCUMENT_LIMIT, read_document};
 pub use report::{
-    Report, ReportEntries, ReportEntry, ReportTable, ReportTables, RequestReport, ShownCall,
-    ShownCalls, Transcript, Transcripts,
+    Report, ReportEntries, ReportTable, ReportTables, RequestReport, ShownCall, ShownCalls,
+    Transcript, Transcripts,
 };
 pub use run::run_document;
 pub use top::{Status, continuity};

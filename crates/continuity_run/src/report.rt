@@ -1,7 +1,7 @@
 //! The report of a run.
 
 use crate::document::DocRows;
-use svc_values::{Answers, Draws, Listed, Ltxid, Name, Pieces, Settings};
+use svc_values::{Answers, Draws, Entry, Listed, Ltxid, Name};
 
 /// A call's answers and draws, and the identifier that the client holds after it.
 #[derive(Drop)]
@@ -24,16 +24,8 @@ pub type Transcript = Listed<RequestReport>;
 
 pub type Transcripts = Listed<Transcript>;
 
-/// A committed transaction as the report shows it: the journal's entry without its writes.
-#[derive(Drop)]
-pub struct ReportEntry {
-    pub ltxid: Ltxid,
-    pub completed: bool,
-    pub settings: Settings,
-    pub pieces: Pieces,
-}
-
-pub type ReportEntries = Listed<ReportEntry>;
+/// The committed transactions, in order. Their writes are not shown: the tables at the end have them.
+pub type ReportEntries = Listed<Entry>;
 
 /// A table's rows at the end, in order of key.
 #[derive(Drop)]

@@ -1,17 +1,19 @@
 -- What statements, writes and serial runs keep to.
-use Rattle.std.specs.Prelude.{◌≡◌, ℕ, Bool, true, false, List, [], ◌∷◌, ◌++◌, Option, Some, None, option_map, ◌↔◌}
+use Rattle.std.specs.Prelude.{◌≡◌, ℕ, Bool, true, false, List, [], ◌∷◌, ◌++◌, Option, Some, None, option_map, ◌↔◌, if◌then◌else◌}
 use Rattle.svc_values.specs.declared.value.Value.{Value}
 use Rattle.svc_values.specs.declared.schema.Shape.{Shape}
 use Rattle.svc_values.specs.declared.draw.Draw.{Draw}
 use Rattle.svc_values.specs.declared.statement.Statement.{Statement}
 use Rattle.svc_values.specs.declared.call.Call.{Call}
+use Rattle.svc_values.specs.declared.call.Call.TheVariants as call
+use Rattle.svc_values.specs.declared.answer.Answer.TheVariants as answer
 use Rattle.svc_values.specs.declared.entry.Entry.{Entry}
 use Rattle.svc_values.specs.declared.entry.Write.{Write}
 use Rattle.stmt_meaning.specs.declared.tables.PlainRow.{PlainRow}
 use Rattle.stmt_meaning.specs.declared.tables.Place.{Place}
 use Rattle.stmt_meaning.specs.declared.tables.Place.TheVariants as place
 use Rattle.stmt_meaning.specs.Tables.{is_at, rows_at, with_write, with_writes, AreTables}
-use Rattle.stmt_meaning.specs.Meaning.{Meant, mean1, mean}
+use Rattle.stmt_meaning.specs.Meaning.{Meant, mean1, mean, ends_refused}
 use Rattle.stmt_meaning.specs.Serial.{RunWhole, CommitLast, Transaction, Serial}
 use Rattle.stmt_meaning.specs.Fitting.{IsBase, writes_fit}
 use Rattle.stmt_meaning.specs.SerialTest.{serial_after}
@@ -62,6 +64,16 @@ abbrev pub CallsKeepTables : Type 0
 CallsKeepTables =
     (shape : Shape) (tables : List PlainRow) (settings : List (List ℕ × Value)) (asked : Call) (draws : List Draw) (meant : Meant) → mean shape tables settings asked draws ≡ Some meant → IsBase shape tables
     → IsBase shape meant.tables × (writes_fit shape.schemas meant.writes ≡ true)
+
+-- where no statement was refused, a commit behind them is answered last
+abbrev pub with_commit : Meant → Meant
+with_commit meant = if ends_refused meant.answers then meant else record meant { answers = meant.answers ++ answer.Committed ∷ [] }
+
+-- a commit behind statements changes their last answer alone
+abbrev pub CommitsComeLast : Type 0
+CommitsComeLast =
+    (shape : Shape) (tables : List PlainRow) (settings : List (List ℕ × Value)) (statements : List Statement) (draws : List Draw) (meant : Meant)
+    → mean shape tables settings (call.Work statements false) draws ≡ Some meant → mean shape tables settings (call.Work statements true) draws ≡ Some (with_commit meant)
 
 -- a serial run goes on by one entry
 abbrev pub SerialGoesOn : Type 0

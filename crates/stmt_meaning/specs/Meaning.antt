@@ -10,6 +10,7 @@ use Rattle.svc_values.specs.declared.answer.Answer.{Answer}
 use Rattle.svc_values.specs.declared.answer.Answer.TheVariants as answer
 use Rattle.svc_values.specs.declared.answer.StatementFault.{StatementFault}
 use Rattle.svc_values.specs.declared.entry.Write.{Write}
+use Rattle.svc_values.specs.Endings.{ends_with}
 use Rattle.svc_values.specs.SettingsList.{put_setting}
 use Rattle.stmt_meaning.specs.declared.plan.Plan.{Plan}
 use Rattle.stmt_meaning.specs.declared.tables.PlainRow.{PlainRow}
@@ -45,6 +46,10 @@ mean1 shape tables settings asked draws = done_at tables (plan_of shape settings
 abbrev pub is_refusal : Answer → Bool
 is_refusal (answer.Refused refusal) = true
 is_refusal _ = false
+
+-- the last answer refuses its statement
+abbrev pub ends_refused : List Answer → Bool
+ends_refused answers = ends_with is_refusal answers
 
 -- what statements did, one after the other
 pub record AllDone : Type 0 where

@@ -1,5 +1,5 @@
 //! Laws of the definitions. Each function does nothing, and its contract is the law.
-ghost use Rattle.stmt_meaning.specs.Laws.{WritesAreLocal, WritesKeepOrder, WritesStand, WritesTouchNoOther, WritesGoOn, DrawsLookAtNoRow, CallsLeaveWrites, CallsKeepTables, SerialGoesOn, SerialLeavesOne, SerialIsTested, UnchangedRunSame, UnchangedRunWhole, UnchangedIsSerial};
+ghost use Rattle.stmt_meaning.specs.Laws.{WritesAreLocal, WritesKeepOrder, WritesStand, WritesTouchNoOther, WritesGoOn, DrawsLookAtNoRow, CallsLeaveWrites, CallsKeepTables, CommitsComeLast, SerialGoesOn, SerialLeavesOne, SerialIsTested, UnchangedRunSame, UnchangedRunWhole, UnchangedIsSerial};
 
 /// What stands at a place after writes depends on what stood there alone.
 pub fn writes_are_local()
@@ -24,6 +24,11 @@ pub fn draws_look_at_no_row()
 pub fn calls_leave_writes()
     ensures writes { CallsLeaveWrites }
     ensures tables { CallsKeepTables }
+{}
+
+/// A commit behind statements is answered last, where none of them was refused.
+pub fn commits_come_last()
+    ensures { CommitsComeLast }
 {}
 
 /// A serial run goes on by one entry, leaves one list of tables, and is told by a test.

@@ -14,7 +14,7 @@ mod tables;
 mod target;
 mod written;
 
-pub use effect::{Effect, is_refusal, number_at, row_effect, shown};
+pub use effect::{Effect, ends_refused, is_refusal, number_at, row_effect, shown};
 pub use fitting::{are_tables, tables_fit, write_fits};
 pub use operand::{Wanted, drawn_value, is_of_kind, operand_at, resolve};
 pub use plain::{PlainFault, PlainRun, plain_call};

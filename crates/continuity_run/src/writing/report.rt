@@ -5,7 +5,7 @@ ghost use Rattle.serde_json.specs.Written.{compact_text};
 ghost use Rattle.json_form.specs.Writing.{list_by};
 ghost use Rattle.continuity_run.specs.ReportText.{identifier_text, setting_text, piece_text, entry_text, shown_text, request_text, table_text, report_of};
 
-use crate::report::{Report, ReportEntry, ReportTable, RequestReport, ShownCall, Transcript};
+use crate::report::{Report, ReportTable, RequestReport, ShownCall, Transcript};
 use crate::writing::answer::{AnswerWriter, DrawWriter};
 use crate::writing::array::ArrayWriter;
 use crate::writing::call::CallWriter;
@@ -59,11 +59,11 @@ impl Writer<Piece> for PieceWriter {
 /// Writes a committed transaction, without its writes.
 struct EntryWriter;
 
-impl Writer<ReportEntry> for EntryWriter {
+impl Writer<Entry> for EntryWriter {
     ghost writes = { λ s. entry_text };
 
     #[tactic(auto, unfolding(crate::specs::ReportText::entry_text))]
-    fn write(&self, alloc: Global, item: &ReportEntry) -> Result<Written, AllocError> {
+    fn write(&self, alloc: Global, item: &Entry) -> Result<Written, AllocError> {
         let ltxid = identifier_written(alloc, &item.ltxid)?;
         let pieces = Written::array_of(alloc, item.pieces.as_slice(), &PieceWriter)?;
         let settings = settings_written(alloc, &item.settings)?;
