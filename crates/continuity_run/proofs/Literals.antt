@@ -1,6 +1,5 @@
--- A call with literal operands means something whatever the draws.
-use Rattle.std.proofs.Common.{◌≡◌, ℕ, List, [], ◌∷◌, ◌++◌, Bool, true, false, Option, Some, None, Result, Ok, Err, if◌then◌else◌, refl, sym, subst, ap, ◌∙◌, IsTrue}
-use Rattle.std.specs.Prelude.{◌&&◌}
+-- Statements with literal operands leave all the draws.
+use Rattle.std.proofs.Common.{◌≡◌, ℕ, List, [], ◌∷◌, Bool, true, false, Option, Some, None, Result, Ok, Err, if◌then◌else◌, refl, sym, subst, ap, ◌∙◌}
 use Rattle.std.specs.List.{list_all}
 use Rattle.svc_values.specs.declared.value.Value.{Value}
 use Rattle.svc_values.specs.declared.schema.Shape.{Shape}
@@ -8,7 +7,6 @@ use Rattle.svc_values.specs.declared.draw.Draw.{Draw}
 use Rattle.svc_values.specs.declared.statement.Operand.{Operand}
 use Rattle.svc_values.specs.declared.statement.Operand.TheVariants as operand
 use Rattle.svc_values.specs.declared.statement.Statement.{Statement}
-use Rattle.svc_values.specs.declared.call.Call.{Call}
 use Rattle.svc_values.specs.declared.call.Call.TheVariants as call
 use Rattle.svc_values.specs.declared.answer.StatementFault.{StatementFault}
 use Rattle.stmt_meaning.specs.declared.tables.PlainRow.{PlainRow}
@@ -16,79 +14,80 @@ use Rattle.stmt_meaning.specs.declared.plan.Plan.{Plan}
 use Rattle.stmt_meaning.specs.Tables.{with_writes}
 use Rattle.stmt_meaning.specs.Operands.{Read, ◌>>=◌, value_of, values_of}
 use Rattle.stmt_meaning.specs.Plans.{Aim, plan_at, plan_of, plan_for, aim_of, operands_of}
-use Rattle.stmt_meaning.specs.Meaning.{OneDone, AllDone, Meant, done_at, mean1, is_refusal, ended_by, after_first, and_on, statements_done, worked, commit_answer, mean}
-use Rattle.continuity_run.specs.DocumentForm.{is_literal, has_literals, is_built}
+use Rattle.stmt_meaning.specs.Meaning.{OneDone, AllDone, Meant, done_at, mean1, is_refusal, ended_by, after_first, and_on, statements_done, worked, mean}
+use Rattle.continuity_run.specs.DocumentForm.{is_literal, has_literals}
+use Rattle.continuity_run.proofs.Readings.{first_true, second_true}
 
-abbrev IsThere : {A : Type 0} → Option A → Type 0
-IsThere None = ⊥
-IsThere (Some x) = Unit {0}
+-- what was read leaves these draws
+abbrev Leaves : {A : Type 0} → List Draw → Read A → Type 0
+Leaves draws None = Unit {0}
+Leaves draws (Some (x, left)) = left ≡ draws
 
-there_then : {A B : Type 0} (read : Read A) (next : A → List Draw → Read B) → IsThere read → ((x : A) (draws : List Draw) → IsThere (next x draws)) → IsThere (read >>= next)
-there_then None next h k = absurd h
-there_then (Some (Err e, draws)) next h k = tt
-there_then (Some (Ok x, draws)) next h k = k x draws
+leaves_then : {A B : Type 0} (draws : List Draw) (read : Read A) (next : A → List Draw → Read B) → Leaves draws read → ((x : A) → Leaves draws (next x draws)) → Leaves draws (read >>= next)
+leaves_then draws None next h k = tt
+leaves_then draws (Some (Err e, left)) next h k = h
+leaves_then draws (Some (Ok x, left)) next h k = subst (λ (d : List Draw). Leaves draws (next x d)) (sym h) (k x)
 
-both : (a b : Bool) → a && b ≡ true → (a ≡ true) × (b ≡ true)
-both true b h = (refl, h)
-both false b h = (h, absurd (let e : ◌≡◌ {A = Bool} false true = h in cc))
+leaves_value : (sequences : List (List ℕ)) (settings : List (List ℕ × Value)) (o : Operand) (draws : List Draw) → is_literal o ≡ true → Leaves draws (value_of sequences settings o draws)
+leaves_value sequences settings (operand.Lit x) draws h = refl
+leaves_value sequences settings (operand.Var name) draws h = absurd (let e : ◌≡◌ {A = Bool} false true = h in cc)
+leaves_value sequences settings (operand.Draw asked) draws h = absurd (let e : ◌≡◌ {A = Bool} false true = h in cc)
 
-there_value : (sequences : List (List ℕ)) (settings : List (List ℕ × Value)) (o : Operand) (draws : List Draw) → is_literal o ≡ true → IsThere (value_of sequences settings o draws)
-there_value sequences settings (operand.Lit x) draws h = tt
-there_value sequences settings (operand.Var name) draws h = absurd (let e : ◌≡◌ {A = Bool} false true = h in cc)
-there_value sequences settings (operand.Draw asked) draws h = absurd (let e : ◌≡◌ {A = Bool} false true = h in cc)
+leaves_values : (sequences : List (List ℕ)) (settings : List (List ℕ × Value)) (os : List Operand) (draws : List Draw) → list_all is_literal os ≡ true → Leaves draws (values_of sequences settings os draws)
+leaves_values sequences settings [] draws h = refl
+leaves_values sequences settings (o ∷ os) draws h =
+    leaves_then draws (value_of sequences settings o draws) (λ x left. values_of sequences settings os left >>= λ xs over. Some (Ok (x ∷ xs), over))
+    (leaves_value sequences settings o draws (first_true (is_literal o) (list_all is_literal os) h))
+    (λ x. leaves_then draws (values_of sequences settings os draws) (λ xs over. Some (Ok (x ∷ xs), over)) (leaves_values sequences settings os draws (second_true (is_literal o) (list_all is_literal os) h)) (λ xs. refl))
 
-there_values : (sequences : List (List ℕ)) (settings : List (List ℕ × Value)) (os : List Operand) (draws : List Draw) → list_all is_literal os ≡ true → IsThere (values_of sequences settings os draws)
-there_values sequences settings [] draws h = tt
-there_values sequences settings (o ∷ os) draws h =
-    let parts = both (is_literal o) (list_all is_literal os) h in
-    there_then (value_of sequences settings o draws) (λ x left. values_of sequences settings os left >>= λ xs over. Some (Ok (x ∷ xs), over)) (there_value sequences settings o draws parts.0)
-    (λ x left. there_then (values_of sequences settings os left) (λ xs over. Some (Ok (x ∷ xs), over)) (there_values sequences settings os left parts.1) (λ xs over. tt))
+leaves_plan : (shape : Shape) (settings : List (List ℕ × Value)) (s : Statement) (draws : List Draw) (aim : Result Aim StatementFault) → list_all is_literal (operands_of s) ≡ true → Leaves draws (plan_at shape settings s draws aim)
+leaves_plan shape settings s draws (Err e) h = refl
+leaves_plan shape settings s draws (Ok aim) h =
+    leaves_then draws (values_of shape.sequences settings (operands_of s) draws) (λ values left. Some (plan_for aim s values, left)) (leaves_values shape.sequences settings (operands_of s) draws h) (λ values. refl)
 
-there_plan : (shape : Shape) (settings : List (List ℕ × Value)) (s : Statement) (draws : List Draw) (aim : Result Aim StatementFault) → list_all is_literal (operands_of s) ≡ true → IsThere (plan_at shape settings s draws aim)
-there_plan shape settings s draws (Err e) h = tt
-there_plan shape settings s draws (Ok aim) h =
-    there_then (values_of shape.sequences settings (operands_of s) draws) (λ values left. Some (plan_for aim s values, left)) (there_values shape.sequences settings (operands_of s) draws h) (λ values left. tt)
+abbrev LeavesOne : List Draw → Option OneDone → Type 0
+LeavesOne draws None = Unit {0}
+LeavesOne draws (Some one) = one.rest ≡ draws
 
-there_one : (tables : List PlainRow) (read : Read Plan) → IsThere read → IsThere (done_at tables read)
-there_one tables None h = h
-there_one tables (Some (Err e, draws)) h = tt
-there_one tables (Some (Ok asked, draws)) h = tt
+abbrev LeavesAll : List Draw → Option AllDone → Type 0
+LeavesAll draws None = Unit {0}
+LeavesAll draws (Some done) = done.rest ≡ draws
 
-there_after : (one : OneDone) (more : Option AllDone) → IsThere more → IsThere (after_first one more)
-there_after one None h = h
-there_after one (Some more) h = tt
+leaves_one : (tables : List PlainRow) (draws : List Draw) (read : Read Plan) → Leaves draws read → LeavesOne draws (done_at tables read)
+leaves_one tables draws None h = tt
+leaves_one tables draws (Some (Err e, left)) h = h
+leaves_one tables draws (Some (Ok asked, left)) h = h
 
-there_by : (b : Bool) (x y : Option AllDone) → IsThere x → IsThere y → IsThere (if b then x else y)
-there_by true x y h k = h
-there_by false x y h k = k
+leaves_after : (draws : List Draw) (one : OneDone) (more : Option AllDone) → LeavesAll draws more → LeavesAll draws (after_first one more)
+leaves_after draws one None h = tt
+leaves_after draws one (Some more) h = h
 
-there_on : (first : Option OneDone) (next : OneDone → Option AllDone) → IsThere first → ((one : OneDone) → IsThere (next one)) → IsThere (and_on first next)
-there_on None next h k = h
-there_on (Some one) next h k = there_by (is_refusal one.answer) (ended_by one) (after_first one (next one)) tt (there_after one (next one) (k one))
+leaves_by : (draws : List Draw) (b : Bool) (x y : Option AllDone) → LeavesAll draws x → LeavesAll draws y → LeavesAll draws (if b then x else y)
+leaves_by draws true x y h k = h
+leaves_by draws false x y h k = k
 
-there_statements : (shape : Shape) (tables : List PlainRow) (settings : List (List ℕ × Value)) (ss : List Statement) (draws : List Draw) → list_all has_literals ss ≡ true → IsThere (statements_done shape tables settings ss draws)
+leaves_on : (draws : List Draw) (first : Option OneDone) (next : OneDone → Option AllDone) → LeavesOne draws first → ((one : OneDone) → one.rest ≡ draws → LeavesAll draws (next one)) → LeavesAll draws (and_on first next)
+leaves_on draws None next h k = tt
+leaves_on draws (Some one) next h k = leaves_by draws (is_refusal one.answer) (ended_by one) (after_first one (next one)) h (leaves_after draws one (next one) (k one h))
+
+leaves_statements : (shape : Shape) (tables : List PlainRow) (settings : List (List ℕ × Value)) (ss : List Statement) (draws : List Draw) → list_all has_literals ss ≡ true → LeavesAll draws (statements_done shape tables settings ss draws)
 unfolding has_literals
-there_statements shape tables settings [] draws h = tt
-there_statements shape tables settings (s ∷ ss) draws h =
-    let parts = both (list_all is_literal (operands_of s)) (list_all has_literals ss) h in
-    there_on (mean1 shape tables settings s draws) (λ one. statements_done shape (with_writes tables one.writes) settings ss one.rest)
-    (there_one tables (plan_of shape settings s draws) (there_plan shape settings s draws (aim_of shape.schemas s) parts.0))
-    (λ one. there_statements shape (with_writes tables one.writes) settings ss one.rest parts.1)
+leaves_statements shape tables settings [] draws h = refl
+leaves_statements shape tables settings (s ∷ ss) draws h =
+    let here = first_true (list_all is_literal (operands_of s)) (list_all has_literals ss) h in
+    let later = second_true (list_all is_literal (operands_of s)) (list_all has_literals ss) h in
+    leaves_on draws (mean1 shape tables settings s draws) (λ one. statements_done shape (with_writes tables one.writes) settings ss one.rest)
+    (leaves_one tables draws (plan_of shape settings s draws) (leaves_plan shape settings s draws (aim_of shape.schemas s) here))
+    (λ one left. subst (λ (d : List Draw). LeavesAll draws (statements_done shape (with_writes tables one.writes) settings ss d)) (sym left) (leaves_statements shape (with_writes tables one.writes) settings ss draws later))
 
-there_either : (b : Bool) (x y : Option Meant) → IsThere x → IsThere y → IsThere (if b then x else y)
-there_either true x y h k = h
-there_either false x y h k = k
+leaves_either : (draws : List Draw) (b : Bool) (x y meant : Meant) → (if b then Some x else Some y) ≡ Some meant → x.rest ≡ draws → y.rest ≡ draws → meant.rest ≡ draws
+leaves_either draws true x y meant is h k = let e : ◌≡◌ {A = Option Meant} (Some x) (Some meant) = is in let same : x ≡ meant = cc in sym (ap (λ (m : Meant). m.rest) same) ∙ h
+leaves_either draws false x y meant is h k = let e : ◌≡◌ {A = Option Meant} (Some y) (Some meant) = is in let same : y ≡ meant = cc in sym (ap (λ (m : Meant). m.rest) same) ∙ k
 
-there_work : (tables : List PlainRow) (settings : List (List ℕ × Value)) (commit : Bool) (done : Option AllDone) → IsThere done → IsThere (worked tables settings commit done)
-there_work tables settings commit None h = h
-there_work tables settings commit (Some done) h = there_either done.refused _ _ tt tt
+leaves_work : (tables : List PlainRow) (settings : List (List ℕ × Value)) (commit : Bool) (draws : List Draw) (done : Option AllDone) → LeavesAll draws done → (meant : Meant) → worked tables settings commit done ≡ Some meant → meant.rest ≡ draws
+leaves_work tables settings commit draws None h meant is = absurd (let e : ◌≡◌ {A = Option Meant} None (Some meant) = is in cc)
+leaves_work tables settings commit draws (Some done) h meant is = leaves_either draws done.refused _ _ meant is h h
 
-there_call : (shape : Shape) (tables : List PlainRow) (settings : List (List ℕ × Value)) (c : Call) (draws : List Draw) → is_built c ≡ true → IsThere (mean shape tables settings c draws)
-there_call shape tables settings (call.Work ss commit) draws h = there_work tables settings commit (statements_done shape tables settings ss draws) (there_statements shape tables settings ss draws h)
-there_call shape tables settings (call.Set name x) draws h = tt
-there_call shape tables settings (call.Alter line) draws h = tt
-there_call shape tables settings call.Disable draws h = tt
-there_call shape tables settings call.Rollback draws h = tt
-
-pub built_means : (shape : Shape) (tables : List PlainRow) (settings : List (List ℕ × Value)) (c : Call) (draws : List Draw) → is_built c ≡ true → mean shape tables settings c draws ≡ None → ⊥
-built_means shape tables settings c draws h none = subst IsThere none (there_call shape tables settings c draws h)
+pub literals_leave : (shape : Shape) (tables : List PlainRow) (settings : List (List ℕ × Value)) (ss : List Statement) (commit : Bool) (draws : List Draw) (meant : Meant) → list_all has_literals ss ≡ true
+    → mean shape tables settings (call.Work ss commit) draws ≡ Some meant → meant.rest ≡ draws
+literals_leave shape tables settings ss commit draws meant h is = leaves_work tables settings commit draws (statements_done shape tables settings ss draws) (leaves_statements shape tables settings ss draws h) meant is

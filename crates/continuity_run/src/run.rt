@@ -1,52 +1,52 @@
 //! The run of a document: its client's calls in one session, one after the other.
 ghost use Rattle.std.specs.Prelude.{◌≡◌, ◌++◌, ◌∷◌, [], IfOk, OnOk, IsTrue, Some};
 ghost use Rattle.std.specs.List.{list_all};
-ghost use Rattle.stmt_meaning.specs.Answers.{IsMeaning};
-ghost use Rattle.stmt_meaning.specs.Meaning.{mean};
-ghost use Rattle.continuity_run.specs.DocumentForm.{is_built};
+ghost use Rattle.stmt_meaning.specs.Laws.{closed_by};
+ghost use Rattle.continuity_run.specs.DocumentForm.{is_built, has_literals};
 ghost use Rattle.continuity_run.specs.Documents.{IsDocument};
 ghost use Rattle.continuity_run.specs.Headline.{Headline, calls_of as calls_of_lem, calls_of_requests as calls_of_requests_lem, transcript_of as transcript_lem, transcripts_of as transcripts_lem};
-ghost use Rattle.continuity_run.specs.Progress.{run_seen, meant_by};
-ghost use Rattle.continuity_run.specs.Run.{step as step_lem, run_of, start_run, open_run, committed_run, identifier as identifier_lem};
+ghost use Rattle.continuity_run.specs.Progress.{run_seen, shape_now, IsAlone, HasWorked, IsNext, IsNoted, IsCommitted};
+ghost use Rattle.continuity_run.specs.Run.{run_of, start_run, identifier as identifier_lem};
 
 use crate::document::{Client, Document, Request};
 use crate::report::{
-    Report, ReportEntries, ReportEntry, RequestReport, ShownCall, ShownCalls, Transcript,
-    Transcripts,
+    Report, ReportEntries, RequestReport, ShownCall, ShownCalls, Transcript, Transcripts,
 };
-use crate::start::{shape_of, start_of, tables_at};
+use crate::start::{start_of, tables_at};
 use std::alloc::Global;
-use stmt_meaning::{PlainFault, PlainRun, PlainTables, plain_call};
+use stmt_meaning::ends_refused;
 use svc_values::{
-    Answers, Call, Draws, Listed, Ltxid, NoMemory, Piece, Pieces, Settings, Shape, TryCopy,
-    ends_committed,
+    Answer, Answers, Call, Draws, Entry, Listed, Ltxid, Names, NoMemory, Piece, Settings, Statements,
+    TryCopy, ends_committed,
 };
+use table_store::Tables;
+use table_txn::{ListDraws, Txn, TxnFault};
 
-/// A run so far: the committed tables, those that the session sees, its settings now and at the start
-/// of its transaction, the transaction's pieces, and what was stored and shown.
+/// A run so far: the committed tables, the session's transaction over them, its settings now and at the
+/// start of that transaction, and what was stored and shown.
 #[derive(Drop)]
 pub struct Progress {
-    pub committed: PlainTables,
-    pub seen: PlainTables,
+    pub tables: Tables,
+    pub transaction: Txn,
     pub settings: Settings,
     pub began: Settings,
-    pub pieces: Pieces,
     pub entries: ReportEntries,
     pub shown: ShownCalls,
 }
 
-fn start(alloc: Global, tables: PlainTables) -> Result<Progress, NoMemory>
-    ensures { IfOk result (λ progress. run_seen progress ≡ start_run tables) }
+fn start(alloc: Global, tables: Tables) -> Progress
+    ensures seen { run_seen result ≡ start_run tables.rows }
+    ensures shape { result.tables ≡ tables }
+    ensures alone { IsAlone result.tables result.transaction }
 {
-    Ok(Progress {
-        committed: tables.copy(alloc)?,
-        seen: tables,
+    Progress {
+        tables,
+        transaction: Txn::new(alloc),
         settings: Settings::new(alloc),
         began: Settings::new(alloc),
-        pieces: Pieces::new(alloc),
         entries: ReportEntries::new(alloc),
         shown: ShownCalls::new(alloc),
-    })
+    }
 }
 
 /// The identifier of the only session after so many commits.
@@ -60,22 +60,39 @@ fn identifier(commits: u64) -> Ltxid
     }
 }
 
-/// Runs a call that asks for no draw.
-fn run_call(
+/// Runs statements that ask for no draw.
+fn run_statements(
     alloc: Global,
-    shape: &Shape,
-    tables: &PlainTables,
+    tables: &Tables,
     settings: &Settings,
-    call: &Call,
-) -> Result<PlainRun, NoMemory>
-    requires { IsTrue (is_built call.now) }
-    ensures { IfOk result (IsMeaning (mean shape.now tables.now settings.now call.now []) []) }
+    transaction: &mut Txn,
+    statements: &Statements,
+) -> Result<Answers, NoMemory>
+    requires literal { IsTrue (list_all has_literals statements.now) }
+    requires alone { IsAlone tables.now transaction.old }
+    ensures ran { IfOk result (λ answers. HasWorked tables.now settings.now transaction.old statements.now answers transaction.new) }
+    ensures alone { OnOk result (IsAlone tables.now transaction.new) }
 {
-    match plain_call(alloc, shape, tables, settings, call, &[]) {
-        Ok(ran) => Ok(ran),
-        Err(PlainFault::NoMemory) => Err(NoMemory),
-        Err(PlainFault::DrawsDiffer) => unreachable!(),
+    let mut none = ListDraws {
+        names: Names::new(alloc),
+        draws: Draws::new(alloc),
+    };
+    match transaction.run(tables, settings, statements, &mut none) {
+        Ok(ran) => Ok(ran.answers),
+        Err(TxnFault::NoMemory) => Err(NoMemory),
+        Err(TxnFault::Stopped) => unreachable!(),
     }
+}
+
+/// The answers of statements, and that of a commit behind them where one is asked for and none of them
+/// was refused.
+fn closed(mut answers: Answers, commit: bool) -> Result<Answers, NoMemory>
+    ensures { IfOk result (λ all. all ≡ closed_by commit answers) }
+{
+    if commit && !ends_refused(answers.as_slice()) {
+        put_last(&mut answers, Answer::Committed)?;
+    }
+    Ok(answers)
 }
 
 /// The call with its answers.
@@ -100,117 +117,100 @@ fn shown_with(alloc: Global, answers: Answers, commits: u64) -> ShownCall
 }
 
 /// After a call that did not commit.
-fn after_other(
+fn noted(
     alloc: Global,
-    progress: Progress,
+    mut progress: Progress,
     call: &Call,
-    ran: PlainRun,
+    answers: Answers,
 ) -> Result<Progress, NoMemory>
-    ensures { IfOk result (λ after. run_seen after ≡ open_run (run_seen progress) call.now (meant_by ran)) }
+    ensures { IfOk result (IsNoted progress call.now answers) }
 {
-    let piece = piece_of(alloc, call, &ran.answers)?;
-    let PlainRun {
-        answers,
-        tables,
-        settings,
-        used: _used,
-    } = ran;
-    let Progress {
-        committed,
-        seen: _seen,
-        settings: _settings,
-        began,
-        mut pieces,
-        entries,
-        mut shown,
-    } = progress;
-    put_last(&mut pieces, piece)?;
-    put_last(&mut shown, shown_with(alloc, answers, entries.len() as u64))?;
-    Ok(Progress {
-        committed,
-        seen: tables,
-        settings,
-        began,
-        pieces,
-        entries,
-        shown,
-    })
+    let piece = piece_of(alloc, call, &answers)?;
+    let commits = progress.entries.len() as u64;
+    progress.transaction.note(piece)?;
+    put_last(&mut progress.shown, shown_with(alloc, answers, commits))?;
+    Ok(progress)
 }
 
-/// After a call that committed: what the session sees is committed, and the next transaction begins.
-fn after_commit(
+/// Commits the transaction of which this call is the last. No other session commits, so nothing that it
+/// read has changed.
+fn committed(
     alloc: Global,
     progress: Progress,
     call: &Call,
-    ran: PlainRun,
+    answers: Answers,
 ) -> Result<Progress, NoMemory>
-    ensures { IfOk result (λ after. run_seen after ≡ committed_run (run_seen progress) call.now (meant_by ran)) }
+    requires { IsAlone progress.tables progress.transaction }
+    ensures { IfOk result (IsCommitted progress call.now answers) }
 {
-    let piece = piece_of(alloc, call, &ran.answers)?;
-    let PlainRun {
-        answers,
-        tables,
-        settings,
-        used: _used,
-    } = ran;
     let Progress {
-        committed: _committed,
-        seen: _seen,
-        settings: _settings,
+        mut tables,
+        mut transaction,
+        settings,
         began,
-        mut pieces,
         mut entries,
         mut shown,
     } = progress;
+    if transaction.conflicts(&tables).is_some() {
+        unreachable!();
+    }
     let commits = entries.len() as u64;
     let next = commits.checked_add(1).ok_or(NoMemory)?;
-    put_last(&mut pieces, piece)?;
-    let entry = ReportEntry {
+    transaction.note(piece_of(alloc, call, &answers)?)?;
+    tables.apply(transaction.writes())?;
+    let (pieces, writes) = transaction.into_parts();
+    let entry = Entry {
         ltxid: identifier(commits),
         completed: call.is_lone_commit(),
         settings: began,
         pieces,
+        writes,
     };
     put_last(&mut entries, entry)?;
     put_last(&mut shown, shown_with(alloc, answers, next))?;
     Ok(Progress {
-        committed: tables.copy(alloc)?,
-        seen: tables,
+        tables,
+        transaction: Txn::new(alloc),
         began: settings.copy(alloc)?,
         settings,
-        pieces: Pieces::new(alloc),
         entries,
         shown,
     })
 }
 
 /// One call more.
-#[tactic(auto, unfolding(crate::specs::Run::step))]
-fn step(alloc: Global, shape: &Shape, progress: Progress, call: &Call) -> Result<Progress, NoMemory>
-    requires { IsTrue (is_built call.now) }
-    ensures { IfOk result (λ after. step_lem shape.now (run_seen progress) call.now ≡ Some (run_seen after)) }
+fn step(alloc: Global, mut progress: Progress, call: &Call) -> Result<Progress, NoMemory>
+    requires built { IsTrue (is_built call.now) }
+    requires alone { IsAlone progress.tables progress.transaction }
+    ensures { IfOk result (IsNext progress call.now) }
 {
-    let ran = run_call(alloc, shape, &progress.seen, &progress.settings, call)?;
-    if ends_committed(ran.answers.as_slice()) {
-        after_commit(alloc, progress, call, ran)
+    let Call::Work { statements, commit } = call else {
+        unreachable!();
+    };
+    let answers = run_statements(
+        alloc,
+        &progress.tables,
+        &progress.settings,
+        &mut progress.transaction,
+        statements,
+    )?;
+    let answers = closed(answers, *commit)?;
+    if ends_committed(answers.as_slice()) {
+        committed(alloc, progress, call, answers)
     } else {
-        after_other(alloc, progress, call, ran)
+        noted(alloc, progress, call, answers)
     }
 }
 
 /// The calls in order.
-fn run_calls(
-    alloc: Global,
-    shape: &Shape,
-    tables: PlainTables,
-    calls: &[Call],
-) -> Result<Progress, NoMemory>
+fn run_calls(alloc: Global, tables: Tables, calls: &[Call]) -> Result<Progress, NoMemory>
     requires { IsTrue (list_all is_built calls.now) }
-    ensures { IfOk result (λ after. run_of shape.now (start_run tables) calls.now ≡ Some (run_seen after)) }
+    ensures ran { IfOk result (λ after. run_of (record { schemas = tables.schemas; sequences = [] }) (start_run tables.rows) calls.now ≡ Some (run_seen after)) }
+    ensures declared { IfOk result (λ after. after.tables.schemas ≡ tables.schemas) }
 {
-    let mut progress = start(alloc, tables)?;
+    let mut progress = start(alloc, tables);
     for call in calls {
-        progress = step(alloc, shape, progress, call)?;
+        progress = step(alloc, progress, call)?;
     }
     Ok(progress)
 }
@@ -265,27 +265,27 @@ fn transcripts_of(
     Ok(transcripts)
 }
 
-/// The report of a document. Linear in the rows for each call.
-pub fn run_document(alloc: Global, document: &Document) -> Result<Report, NoMemory>
-    requires { IsDocument document.now }
-    ensures { IfOk result (Headline document.now) }
+/// The report of a document. A call costs the rows of the tables that it reads whole, and for each row
+/// that it reads or writes by its key the logarithm of their number.
+pub fn run_document(alloc: Global, document: Document) -> Result<Report, NoMemory>
+    requires { IsDocument document }
+    ensures { IfOk result (Headline document) }
 {
-    let shape = shape_of(alloc, document)?;
-    let tables = start_of(alloc, document)?;
-    let calls = calls_of(document.clients.as_slice());
-    let progress = run_calls(alloc, &shape, tables, calls)?;
-    let tables = tables_at(alloc, &progress.committed, document)?;
+    let Document { tables, clients } = document;
+    let tables = start_of(alloc, tables)?;
+    let calls = calls_of(clients.as_slice());
+    let progress = run_calls(alloc, tables, calls)?;
+    let tables = tables_at(alloc, &progress.tables)?;
     let Progress {
-        committed: _committed,
-        seen: _seen,
+        tables: _tables,
+        transaction: _transaction,
         settings: _settings,
         began: _began,
-        pieces: _pieces,
         entries,
         shown,
     } = progress;
     Ok(Report {
-        clients: transcripts_of(alloc, document.clients.as_slice(), shown)?,
+        clients: transcripts_of(alloc, clients.as_slice(), shown)?,
         entries,
         tables,
     })

@@ -62,9 +62,9 @@ fn is_command(words: &[String]) -> bool
 }
 
 /// The text of the document's report.
-fn report_text(alloc: Global, document: &Document) -> Result<Vec<u8>, NoMemory>
-    requires { IsDocument document.now }
-    ensures { IfOk result (λ text. IsReported document.now text.items) }
+fn report_text(alloc: Global, document: Document) -> Result<Vec<u8>, NoMemory>
+    requires { IsDocument document }
+    ensures { IfOk result (λ text. IsReported document text.items) }
 {
     let report = run_document(alloc, document)?;
     let text = report_bytes(alloc, &report)?;
@@ -77,7 +77,7 @@ fn answer(alloc: Global, bytes: &[u8]) -> Result<Vec<u8>, DocFault>
     ensures refused { IfErr result (λ e. Fails e (document_at bytes.now)) }
 {
     let document = read_document(alloc, bytes)?;
-    match report_text(alloc, &document) {
+    match report_text(alloc, document) {
         Ok(text) => Ok(text),
         Err(NoMemory) => Err(DocFault::NoMemory),
     }

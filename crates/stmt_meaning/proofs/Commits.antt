@@ -11,7 +11,7 @@ use Rattle.svc_values.specs.declared.answer.Answer.TheVariants as answer
 use Rattle.stmt_meaning.specs.declared.tables.PlainRow.{PlainRow}
 use Rattle.stmt_meaning.specs.Tables.{with_writes}
 use Rattle.stmt_meaning.specs.Meaning.{OneDone, AllDone, Meant, mean1, is_refusal, ends_refused, ended_by, after_first, and_on, statements_done, worked, mean, commit_answer}
-use Rattle.stmt_meaning.specs.Laws.{with_commit}
+use Rattle.stmt_meaning.specs.Laws.{closed_by}
 
 -- the answers tell whether a statement was refused
 abbrev Tells : Option AllDone → Type 0
@@ -48,22 +48,25 @@ worked_by tables settings done commit refused =
     else Some (record { answers = done.answers ++ commit_answer commit; tables = with_writes tables done.writes; settings = settings; writes = done.writes; reads = done.reads; rest = done.rest })
 
 last_by : (tables : List PlainRow) (settings : List (List ℕ × Value)) (done : AllDone) (refused : Bool) → refused ≡ ends_refused done.answers → (meant : Meant)
-    → worked_by tables settings done false refused ≡ Some meant → worked_by tables settings done true refused ≡ Some (with_commit meant)
-last_by tables settings done true is meant e =
-    let same : record { answers = done.answers; tables = tables; settings = settings; writes = []; reads = done.reads; rest = done.rest } ≡ meant = let x : ◌≡◌ {A = Option Meant} (worked_by tables settings done false true) (Some meant) = e in cc in
-    subst (λ (m : Meant). worked_by tables settings done true true ≡ Some (with_commit m)) same (rw (sym is) refl)
-last_by tables settings done false is meant e =
+    → worked_by tables settings done false refused ≡ Some meant → (commit : Bool) → worked_by tables settings done commit refused ≡ Some (record meant { answers = closed_by commit meant.answers })
+last_by tables settings done refused is meant e false = e
+last_by tables settings done true is meant e true =
+    let bare : Meant = record { answers = done.answers; tables = tables; settings = settings; writes = []; reads = done.reads; rest = done.rest } in
+    let same : bare ≡ meant = let x : ◌≡◌ {A = Option Meant} (Some bare) (Some meant) = e in cc in
+    subst (λ (m : Meant). Some bare ≡ Some (record m { answers = closed_by true m.answers })) same (rw (sym is) refl)
+last_by tables settings done false is meant e true =
     let bare : Meant = record { answers = done.answers ++ []; tables = with_writes tables done.writes; settings = settings; writes = done.writes; reads = done.reads; rest = done.rest } in
     let same : bare ≡ meant = let x : ◌≡◌ {A = Option Meant} (Some bare) (Some meant) = e in cc in
     let plain : ends_refused (done.answers ++ []) ≡ false = ap ends_refused (append-nil done.answers) ∙ sym is in
-    subst (λ (m : Meant). worked_by tables settings done true false ≡ Some (with_commit m)) same
+    subst (λ (m : Meant). worked_by tables settings done true false ≡ Some (record m { answers = closed_by true m.answers })) same
     (rw plain (ap (λ (answers : List Answer). Some (record bare { answers = answers ++ answer.Committed ∷ [] })) (sym (append-nil done.answers))))
 
 last_worked : (tables : List PlainRow) (settings : List (List ℕ × Value)) (all : Option AllDone) → Tells all → (meant : Meant)
-    → worked tables settings false all ≡ Some meant → worked tables settings true all ≡ Some (with_commit meant)
-last_worked tables settings None t meant e = absurd (let x : ◌≡◌ {A = Option Meant} None (Some meant) = e in cc)
-last_worked tables settings (Some done) t meant e = last_by tables settings done done.refused t meant e
+    → worked tables settings false all ≡ Some meant → (commit : Bool) → worked tables settings commit all ≡ Some (record meant { answers = closed_by commit meant.answers })
+last_worked tables settings None t meant e commit = absurd (let x : ◌≡◌ {A = Option Meant} None (Some meant) = e in cc)
+last_worked tables settings (Some done) t meant e commit = last_by tables settings done done.refused t meant e commit
 
 pub commits_last : (shape : Shape) (tables : List PlainRow) (settings : List (List ℕ × Value)) (statements : List Statement) (draws : List Draw) (meant : Meant)
-    → mean shape tables settings (call.Work statements false) draws ≡ Some meant → mean shape tables settings (call.Work statements true) draws ≡ Some (with_commit meant)
-commits_last shape tables settings statements draws meant e = last_worked tables settings (statements_done shape tables settings statements draws) (tells shape tables settings statements draws) meant e
+    → mean shape tables settings (call.Work statements false) draws ≡ Some meant
+    → (commit : Bool) → mean shape tables settings (call.Work statements commit) draws ≡ Some (record meant { answers = closed_by commit meant.answers })
+commits_last shape tables settings statements draws meant e commit = last_worked tables settings (statements_done shape tables settings statements draws) (tells shape tables settings statements draws) meant e commit

@@ -1,11 +1,12 @@
 -- What statements, writes and serial runs keep to.
-use Rattle.std.specs.Prelude.{◌≡◌, ℕ, Bool, true, false, List, [], ◌∷◌, ◌++◌, Option, Some, None, option_map, ◌↔◌, if◌then◌else◌}
+use Rattle.std.specs.Prelude.{◌≡◌, ℕ, Bool, true, false, List, [], ◌∷◌, ◌++◌, Option, Some, None, option_map, ◌↔◌, ◌&&◌, not, if◌then◌else◌}
 use Rattle.svc_values.specs.declared.value.Value.{Value}
 use Rattle.svc_values.specs.declared.schema.Shape.{Shape}
 use Rattle.svc_values.specs.declared.draw.Draw.{Draw}
 use Rattle.svc_values.specs.declared.statement.Statement.{Statement}
 use Rattle.svc_values.specs.declared.call.Call.{Call}
 use Rattle.svc_values.specs.declared.call.Call.TheVariants as call
+use Rattle.svc_values.specs.declared.answer.Answer.{Answer}
 use Rattle.svc_values.specs.declared.answer.Answer.TheVariants as answer
 use Rattle.svc_values.specs.declared.entry.Entry.{Entry}
 use Rattle.svc_values.specs.declared.entry.Write.{Write}
@@ -65,15 +66,16 @@ CallsKeepTables =
     (shape : Shape) (tables : List PlainRow) (settings : List (List ℕ × Value)) (asked : Call) (draws : List Draw) (meant : Meant) → mean shape tables settings asked draws ≡ Some meant → IsBase shape tables
     → IsBase shape meant.tables × (writes_fit shape.schemas meant.writes ≡ true)
 
--- where no statement was refused, a commit behind them is answered last
-abbrev pub with_commit : Meant → Meant
-with_commit meant = if ends_refused meant.answers then meant else record meant { answers = meant.answers ++ answer.Committed ∷ [] }
+-- the answers of statements, and that of a commit behind them where one is asked for and none of them was refused
+abbrev pub closed_by : Bool → List Answer → List Answer
+closed_by commit answers = if commit && not (ends_refused answers) then answers ++ answer.Committed ∷ [] else answers
 
--- a commit behind statements changes their last answer alone
+-- a commit behind statements is answered last, and changes nothing else
 abbrev pub CommitsComeLast : Type 0
 CommitsComeLast =
     (shape : Shape) (tables : List PlainRow) (settings : List (List ℕ × Value)) (statements : List Statement) (draws : List Draw) (meant : Meant)
-    → mean shape tables settings (call.Work statements false) draws ≡ Some meant → mean shape tables settings (call.Work statements true) draws ≡ Some (with_commit meant)
+    → mean shape tables settings (call.Work statements false) draws ≡ Some meant
+    → (commit : Bool) → mean shape tables settings (call.Work statements commit) draws ≡ Some (record meant { answers = closed_by commit meant.answers })
 
 -- a serial run goes on by one entry
 abbrev pub SerialGoesOn : Type 0
