@@ -1,15 +1,11 @@
 -- What a run begins with: the tables and rows of its document.
-use Rattle.std.specs.Prelude.{ℕ, List, [], ◌∷◌, map, IsPermutation}
+use Rattle.std.specs.Prelude.{◌≡◌, ℕ, List, [], map}
 use Rattle.std.specs.List.{flat_map}
-use Rattle.std.specs.List.Sorted.{IsSorted}
-use Rattle.std.specs.Ordering.{nat_cmp, ordering_then}
-use Rattle.std.specs.declared.cmp.Ordering.{Ordering}
-use Rattle.std.specs.Cmp.Lexicographic.{slice_cmp}
 use Rattle.svc_values.specs.declared.value.Value.{Value}
 use Rattle.svc_values.specs.declared.schema.Schema.{Schema}
 use Rattle.svc_values.specs.declared.schema.Shape.{Shape}
-use Rattle.svc_values.specs.Order.{value_cmp}
 use Rattle.stmt_meaning.specs.declared.tables.PlainRow.{PlainRow}
+use Rattle.stmt_meaning.specs.Tables.{in_order}
 use Rattle.stmt_meaning.specs.Plans.{key_of}
 use Rattle.continuity_run.specs.declared.document.DocTable.{DocTable}
 use Rattle.continuity_run.specs.declared.document.Document.{Document}
@@ -30,11 +26,6 @@ rows_of_table table = map (plain_row table.name) table.rows
 abbrev pub rows_of : Document → List PlainRow
 rows_of document = flat_map rows_of_table document.tables
 
--- by table, and in a table by key
-abbrev pub row_cmp : PlainRow → PlainRow → Ordering
-row_cmp a b = ordering_then (slice_cmp nat_cmp a.table b.table) (value_cmp a.key b.key)
-
 -- the rows of the document, in the order of table and key
-pub record IsStart (document : Document) (start : List PlainRow) : Type 0 where
-  pub rows : IsPermutation (rows_of document) start
-  pub sorted : IsSorted row_cmp start
+abbrev pub IsStart : Document → List PlainRow → Type 0
+IsStart document start = start ≡ in_order (rows_of document)

@@ -1,18 +1,16 @@
 //! What a run begins with, and the tables that it ends with.
-ghost use Rattle.std.specs.Prelude.{◌≡◌, ◌++◌, ◌≤◌, IfOk, OnOk, OnErr, IsPermutation, map, length};
+ghost use Rattle.std.specs.Prelude.{◌≡◌, ◌++◌, ◌≤◌, IfOk, OnOk, map, length};
 ghost use Rattle.std.specs.List.{flat_map};
-ghost use Rattle.std.specs.List.Sorted.{IsSorted};
 ghost use Rattle.stmt_meaning.specs.declared.tables.Place.TheVariants as place;
 ghost use Rattle.stmt_meaning.specs.Tables.{rows_at};
 ghost use Rattle.stmt_meaning.specs.Plans.{key_of as key_of_lem};
 ghost use Rattle.continuity_run.specs.Headline.{table_at as table_at_lem};
-ghost use Rattle.continuity_run.specs.Start.{IsStart, plain_row as plain_row_lem, rows_of_table, row_cmp, schema_in, shape_of as shape_lem};
+ghost use Rattle.continuity_run.specs.Start.{IsStart, plain_row as plain_row_lem, rows_of_table, schema_in, shape_of as shape_lem};
 
 use crate::document::{DocRows, DocTable, Document};
 use crate::report::{ReportTable, ReportTables};
 use std::alloc::Global;
-use std::cmp::Ordering;
-use stmt_meaning::{PlainRow, PlainTables};
+use stmt_meaning::{PlainRow, PlainTables, in_order};
 use svc_values::{Name, Names, NoMemory, Row, Schema, Schemas, Shape, TryCopy, Value};
 
 /// The declarations of the document's tables.
@@ -72,28 +70,11 @@ fn gathered(alloc: Global, document: &Document) -> Result<Vec<PlainRow>, NoMemor
     Ok(rows)
 }
 
-/// By table, and in a table by key.
-fn compared(a: &PlainRow, b: &PlainRow) -> Ordering
-    ensures { result ≡ row_cmp a.now b.now }
-{
-    a.table.cmp(&b.table).then(a.key.cmp(&b.key))
-}
-
-fn sort(rows: &mut Vec<PlainRow>) -> Result<(), NoMemory>
-    ensures rows { IsPermutation rows.old.items rows.new.items }
-    ensures sorted { OnOk result (IsSorted row_cmp rows.new.items) }
-{
-    rows.sort_by(compared)?;
-    Ok(())
-}
-
 /// The document's rows in the order of table and key: n log n for n rows.
 pub fn start_of(alloc: Global, document: &Document) -> Result<PlainTables, NoMemory>
     ensures { IfOk result (IsStart document.now) }
 {
-    let mut rows = gathered(alloc, document)?;
-    sort(&mut rows)?;
-    Ok(PlainTables::from_vec(rows))
+    in_order(gathered(alloc, document)?)
 }
 
 /// Copies of the rows of a table, in order of key. Linear in all rows.

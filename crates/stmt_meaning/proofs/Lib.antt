@@ -1,4 +1,5 @@
 pub mod Adjacent
+pub mod InOrder
 pub mod Local
 pub mod MeanLocal
 pub mod PlanFits
