@@ -9,5 +9,4 @@ mod ValueEquality
 mod NoDraws
 mod SerialRun
 mod Literals
-mod RowOrder
 mod Reports

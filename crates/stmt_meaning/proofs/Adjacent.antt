@@ -4,7 +4,7 @@ use Rattle.std.specs.Prelude.{◌&&◌, ◌↔◌}
 use Rattle.std.proofs.lemmas.List.{drop_more, take_all}
 use Rattle.std.proofs.Math.ListN.{drop_of_length-le}
 use Rattle.stmt_meaning.specs.declared.tables.PlainRow.{PlainRow}
-use Rattle.stmt_meaning.specs.Tables.{comes_before, ComesFirst, AreTables}
+use Rattle.stmt_meaning.specs.Tables.{comes_before, AreTables}
 use Rattle.stmt_meaning.proofs.Local.{ComesFirst-trans}
 use Rattle.stmt_meaning.proofs.PlanFits.{both, and-true}
 

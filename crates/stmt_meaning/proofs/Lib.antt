@@ -1,5 +1,6 @@
 pub mod Adjacent
 pub mod Commits
+pub mod InOrder
 pub mod Local
 pub mod MeanLocal
 pub mod PlanFits

@@ -1,6 +1,6 @@
 -- What writes leave at a place depends on what stood there alone.
-use Rattle.std.proofs.Common.{◌≡◌, ℕ, Bool, true, false, not, cond, List, [], ◌∷◌, ◌++◌, filter, refl, sym, ap, ◌∙◌, subst, arith}
-use Rattle.std.specs.Prelude.{Option, Some, None, if◌then◌else◌}
+use Rattle.std.proofs.Common.{◌≡◌, ℕ, Bool, true, false, not, cond, List, [], ◌∷◌, filter, refl, sym, ap, ◌∙◌}
+use Rattle.std.specs.Prelude.{Option, Some, None}
 use Rattle.svc_values.specs.declared.value.Value.{Value}
 use Rattle.svc_values.specs.declared.entry.Write.{Write}
 use Rattle.stmt_meaning.specs.declared.tables.PlainRow.{PlainRow}
@@ -8,7 +8,7 @@ use Rattle.stmt_meaning.specs.declared.tables.Place.{Place}
 use Rattle.stmt_meaning.specs.declared.tables.Place.TheVariants as place
 use Rattle.stmt_meaning.specs.Tables.{is_at, rows_at, comes_before, put_row, put_if_any, without, with_write, with_writes, ComesFirst, AreTables}
 use Rattle.stmt_meaning.specs.Laws.{written_row, is_touched}
-use Rattle.stmt_meaning.proofs.RowOrder.{comes_before-trans, comes_before-own, comes_before-other, is_at-row, is_at-own, AtOne}
+use Rattle.stmt_meaning.proofs.RowOrder.{comes_before-trans, comes_before-other, is_at-row, is_at-own, AtOne}
 
 -- ---- order
 

@@ -1,6 +1,6 @@
 -- A call means the same on tables that agree at the places that it reads.
 use Rattle.std.proofs.Common.{◌≡◌, ℕ, Bool, true, false, cond, List, [], ◌∷◌, ◌++◌, map, refl, sym, ap, ◌∙◌, subst}
-use Rattle.std.specs.Prelude.{Option, Some, None, Result, Ok, Err, option_map, option_to_list}
+use Rattle.std.specs.Prelude.{Option, Some, None, Ok, Err, option_map, option_to_list}
 use Rattle.svc_values.specs.declared.value.Value.{Value}
 use Rattle.svc_values.specs.declared.schema.Shape.{Shape}
 use Rattle.svc_values.specs.declared.draw.Draw.{Draw}
@@ -8,12 +8,11 @@ use Rattle.svc_values.specs.declared.statement.Statement.{Statement}
 use Rattle.svc_values.specs.declared.call.Call.{Call}
 use Rattle.svc_values.specs.declared.call.Call.TheVariants as call
 use Rattle.svc_values.specs.declared.answer.Answer.{Answer}
-use Rattle.svc_values.specs.declared.answer.StatementFault.{StatementFault}
 use Rattle.svc_values.specs.declared.entry.Write.{Write}
 use Rattle.stmt_meaning.specs.declared.plan.Plan.{Plan}
 use Rattle.stmt_meaning.specs.declared.tables.PlainRow.{PlainRow}
 use Rattle.stmt_meaning.specs.declared.tables.Place.{Place}
-use Rattle.stmt_meaning.specs.Tables.{rows_at, with_writes, AreTables, AgreeAt}
+use Rattle.stmt_meaning.specs.Tables.{with_writes, AreTables, AgreeAt}
 use Rattle.stmt_meaning.specs.Operands.{Read}
 use Rattle.stmt_meaning.specs.Plans.{plan_of, place_of}
 use Rattle.stmt_meaning.specs.Effects.{effect}

@@ -1,10 +1,8 @@
 -- A plan's writes fit the declared tables, where the rows that it is done on do.
-use Rattle.std.proofs.Common.{◌≡◌, ℕ, suc, zero, Bool, true, false, not, cond, List, [], ◌∷◌, ◌++◌, map, filter, refl, sym, ap, ◌∙◌, subst}
-use Rattle.std.specs.Prelude.{ℤ, ◌+ℤ◌, Option, Some, None, Result, Ok, Err, ◌&&◌, ◌==◌, slice_get, slice_set, option_to_list, if◌then◌else◌}
-use Rattle.std.specs.List.{list_all}
+use Rattle.std.proofs.Common.{◌≡◌, ℕ, suc, zero, Bool, true, false, List, [], ◌∷◌, refl, sym, ap, ◌∙◌, subst}
+use Rattle.std.specs.Prelude.{ℤ, ◌+ℤ◌, Option, Some, None, Result, Ok, Err, ◌&&◌, ◌==◌, slice_get, slice_set}
 use Rattle.svc_values.specs.declared.value.Value.{Value}
 use Rattle.svc_values.specs.declared.value.Value.TheVariants as value
-use Rattle.svc_values.specs.declared.value.Kind.{Kind}
 use Rattle.svc_values.specs.declared.value.Kind.TheVariants as kind
 use Rattle.svc_values.specs.declared.schema.Column.{Column}
 use Rattle.svc_values.specs.declared.schema.Schema.{Schema}
@@ -22,9 +20,9 @@ use Rattle.stmt_meaning.specs.declared.plan.Plan.{Plan}
 use Rattle.stmt_meaning.specs.declared.plan.Plan.TheVariants as plan
 use Rattle.stmt_meaning.specs.declared.plan.RowWork.{RowWork}
 use Rattle.stmt_meaning.specs.declared.plan.RowWork.TheVariants as row_work
-use Rattle.stmt_meaning.specs.Plans.{Aim, schema_of, column_of, is_kind, is_column_kind, key_fits, key_of, in_table, in_column, at_column, whole, but_key, aim_of, if_kinds_fit, key_plan, set_plan, add_plan, change_plan, select_plan, plan_for, show_plan}
+use Rattle.stmt_meaning.specs.Plans.{Aim, schema_of, column_of, is_column_kind, key_fits, key_of, in_table, in_column, at_column, whole, but_key, aim_of, if_kinds_fit, key_plan, set_plan, add_plan, change_plan, select_plan, plan_for, show_plan}
 use Rattle.stmt_meaning.specs.Effects.{fits_i64, number_at, added, row_effect}
-use Rattle.stmt_meaning.specs.Fitting.{is_row_of, has_fit, write_fits, writes_fit}
+use Rattle.stmt_meaning.specs.Fitting.{is_row_of, has_fit, write_fits}
 
 -- ---- tests
 

@@ -1,12 +1,11 @@
 -- A transaction whose reads are unchanged runs the same now.
-use Rattle.std.proofs.Common.{◌≡◌, ℕ, List, [], ◌∷◌, ◌++◌, refl, sym, ap, ◌∙◌, subst}
+use Rattle.std.proofs.Common.{◌≡◌, ℕ, List, [], ◌∷◌, ◌++◌, sym, ap, ◌∙◌, subst}
 use Rattle.svc_values.specs.declared.value.Value.{Value}
 use Rattle.svc_values.specs.declared.schema.Shape.{Shape}
 use Rattle.svc_values.specs.declared.entry.Write.{Write}
 use Rattle.stmt_meaning.specs.declared.tables.PlainRow.{PlainRow}
 use Rattle.stmt_meaning.specs.Tables.{with_writes, AreTables, AgreeAt}
-use Rattle.stmt_meaning.specs.Meaning.{Meant, mean}
-use Rattle.stmt_meaning.specs.Serial.{Replays, Transaction, RunWhole, CommitLast}
+use Rattle.stmt_meaning.specs.Serial.{Transaction, RunWhole, CommitLast}
 use Rattle.stmt_meaning.specs.Rerun.{Moment, RanAt, Unchanged, AreOrdered, at_once, pieces_of}
 use Rattle.stmt_meaning.proofs.Local.{AreTables-with_writes}
 use Rattle.stmt_meaning.proofs.MeanLocal.{mean-same, mean-tables, meant_on, AgreeAt-with_writes}

@@ -1,21 +1,19 @@
 -- A scan that was shown rows one after the other.
-use Rattle.std.proofs.Common.{◌≡◌, ℕ, ℤ, pos, ◌+ℤ◌, ◌+◌, ◌<◌, ◌≤◌, Bool, true, false, cond, List, [], ◌∷◌, ◌++◌, length, take, filter, refl, sym, ap, ap₂, ◌∙◌, append_assoc, append-nil, length-append, nat_lt, arith, IsTrue, ◌⊎◌, inl, inr}
+use Rattle.std.proofs.Common.{◌≡◌, ℕ, pos, ◌+ℤ◌, ◌+◌, ◌<◌, ◌≤◌, Bool, true, false, cond, List, [], ◌∷◌, ◌++◌, length, take, refl, sym, ap, ◌∙◌, append_assoc, append-nil, length-append, nat_lt, arith, ◌⊎◌, inl, inr}
 use Rattle.std.proofs.lemmas.Bool.{lt-ltb, le-ltb, cases_lt}
 use Rattle.std.proofs.lemmas.List.{take-append-le, length-take-le, take_all}
-use Rattle.std.specs.Prelude.{fold, slice_get, if◌then◌else◌}
-use Rattle.std.proofs.Math.IntN.{+ℤ_assoc, +ℤ_comm, +ℤ_idl, +ℤ_idr}
+use Rattle.std.specs.Prelude.{fold, slice_get}
+use Rattle.std.proofs.Math.IntN.{+ℤ_assoc, +ℤ_idl, +ℤ_idr}
 use Rattle.std.proofs.lemmas.List.Elements.{filter-append}
-use Rattle.std.proofs.lemmas.Grind.{common_steps}
 use Rattle.svc_values.specs.declared.value.Value.{Value}
 use Rattle.svc_values.specs.declared.statement.Test.{Test}
-use Rattle.svc_values.specs.declared.answer.Answer.{Answer}
 use Rattle.svc_values.specs.declared.answer.Answer.TheVariants as answer
 use Rattle.svc_values.specs.declared.answer.StatementFault.TheVariants as fault
 use Rattle.stmt_meaning.specs.declared.plan.TableWork.{TableWork}
 use Rattle.stmt_meaning.specs.declared.plan.TableWork.TheVariants as table_work
 use Rattle.stmt_meaning.specs.declared.scan.Scan.{Scan}
 use Rattle.stmt_meaning.specs.declared.scan.Scan.TheVariants as scan
-use Rattle.stmt_meaning.specs.Effects.{selected, value_meets, number_at, total, summed, limited, table_answer}
+use Rattle.stmt_meaning.specs.Effects.{selected, value_meets, number_at, total, limited, table_answer}
 use Rattle.stmt_meaning.specs.Scans.{scanned, next_scan, last_answer, answer_of, with_met, is_settled}
 
 pub total-append : (at : ℕ) (rows more : List (List Value)) → total at (rows ++ more) ≡ total at rows +ℤ total at more

@@ -6,7 +6,7 @@ use Rattle.svc_values.specs.declared.schema.Shape.{Shape}
 use Rattle.svc_values.specs.declared.entry.Piece.{Piece}
 use Rattle.svc_values.specs.declared.entry.Entry.{Entry}
 use Rattle.stmt_meaning.specs.declared.tables.PlainRow.{PlainRow}
-use Rattle.stmt_meaning.specs.Meaning.{Meant, mean}
+use Rattle.stmt_meaning.specs.Meaning.{Meant}
 use Rattle.stmt_meaning.specs.Serial.{Replays, Transaction, Serial, RunWhole, CommitLast}
 
 some_same : (a b : Meant) → Some a ≡ Some b → a ≡ b

@@ -1,6 +1,6 @@
 -- Tables that fit what is declared of them still do after a call.
-use Rattle.std.proofs.Common.{◌≡◌, ℕ, Bool, true, false, not, cond, List, [], ◌∷◌, ◌++◌, map, filter, refl, sym, ap, ◌∙◌, subst}
-use Rattle.std.specs.Prelude.{Option, Some, None, Result, Ok, Err, ◌&&◌, option_to_list, if◌then◌else◌}
+use Rattle.std.proofs.Common.{◌≡◌, ℕ, Bool, true, false, not, cond, List, [], ◌∷◌, ◌++◌, filter, refl, sym, ap, ◌∙◌, subst}
+use Rattle.std.specs.Prelude.{Option, Some, None, Result, Ok, Err, option_to_list}
 use Rattle.std.specs.List.{list_all}
 use Rattle.svc_values.specs.declared.value.Value.{Value}
 use Rattle.svc_values.specs.declared.schema.Schema.{Schema}
@@ -19,7 +19,7 @@ use Rattle.stmt_meaning.specs.declared.tables.Place.TheVariants as place
 use Rattle.stmt_meaning.specs.Operands.{Read, ◌>>=◌, values_of}
 use Rattle.stmt_meaning.specs.Plans.{Aim, aim_of, plan_for, plan_at, plan_of, place_of, operands_of, schema_of}
 use Rattle.stmt_meaning.specs.Effects.{effect, first_of}
-use Rattle.stmt_meaning.specs.Tables.{is_at, rows_at, put_row, put_if_any, without, with_write, with_writes, comes_before}
+use Rattle.stmt_meaning.specs.Tables.{is_at, put_row, put_if_any, without, with_write, with_writes, comes_before}
 use Rattle.stmt_meaning.specs.Meaning.{OneDone, AllDone, Meant, seen_at, done_at, mean1, statements_done, and_on, after_first, ended_by, is_refusal, worked, alone, mean, commit_answer}
 use Rattle.stmt_meaning.specs.Fitting.{is_row_of, has_fit, tables_fit, write_fits, writes_fit, IsBase}
 use Rattle.stmt_meaning.specs.Answers.{IsMeaning}

@@ -14,7 +14,7 @@ use Rattle.stmt_meaning.specs.declared.tables.Place.{Place}
 use Rattle.stmt_meaning.specs.Tables.{with_writes}
 use Rattle.stmt_meaning.specs.Meaning.{OneDone, AllDone, Meant, mean1, statements_done, and_on, after_first, is_refusal, worked, alone, commit_answer, mean}
 use Rattle.svc_values.specs.declared.call.Call.{Call}
-use Rattle.stmt_meaning.specs.Answers.{IsDone, Did, DidAll, Gives, IsMeaning}
+use Rattle.stmt_meaning.specs.Answers.{IsDone, DidAll, IsMeaning}
 use Rattle.stmt_meaning.specs.declared.effect.Effect.{Effect}
 use Rattle.stmt_meaning.specs.declared.plain.PlainRun.{PlainRun}
 use Rattle.stmt_meaning.proofs.Writes.{with_writes-append}

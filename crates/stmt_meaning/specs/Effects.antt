@@ -1,5 +1,5 @@
 -- What a plan answers and writes, from the rows at its one place.
-use Rattle.std.specs.Prelude.{◌≡◌, ℕ, ℤ, pos, negsuc, ◌+ℤ◌, ◌^◌, Bool, true, false, List, [], ◌∷◌, Option, Some, None, length, filter, nat_lt, slice_set, slice_get, if◌then◌else◌}
+use Rattle.std.specs.Prelude.{ℕ, ℤ, pos, negsuc, ◌+ℤ◌, ◌^◌, Bool, true, false, List, [], ◌∷◌, Option, Some, None, length, filter, nat_lt, slice_set, slice_get, if◌then◌else◌}
 use Rattle.std.specs.Ordering.{match_ordering}
 use Rattle.std.specs.declared.cmp.Ordering.{Ordering}
 use Rattle.svc_values.specs.declared.value.Value.{Value}

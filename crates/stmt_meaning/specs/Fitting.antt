@@ -1,8 +1,7 @@
 -- Tables that fit what is declared of them.
-use Rattle.std.specs.Prelude.{◌≡◌, ℕ, ◌&&◌, Bool, true, false, List, [], ◌∷◌, Option, Some, None}
+use Rattle.std.specs.Prelude.{◌≡◌, ◌&&◌, Bool, true, false, List, Option, Some, None}
 use Rattle.std.specs.List.{list_all}
 use Rattle.svc_values.specs.declared.value.Value.{Value}
-use Rattle.svc_values.specs.declared.schema.Column.{Column}
 use Rattle.svc_values.specs.declared.schema.Schema.{Schema}
 use Rattle.svc_values.specs.declared.schema.Shape.{Shape}
 use Rattle.svc_values.specs.declared.entry.Write.{Write}

@@ -1,5 +1,5 @@
 -- What a statement asks to be done, from its text and the values of its operands. No row is looked at.
-use Rattle.std.specs.Prelude.{◌≡◌, ℕ, ℤ, pos, ◌==◌, ◌&&◌, Bool, true, false, List, [], ◌∷◌, Option, Some, None, Result, Ok, Err, find, position, slice_get, if◌then◌else◌}
+use Rattle.std.specs.Prelude.{ℕ, pos, ◌==◌, Bool, false, List, [], ◌∷◌, Option, Some, None, Result, Ok, Err, find, position, slice_get, if◌then◌else◌}
 use Rattle.std.specs.Str.{bytes_eq}
 use Rattle.svc_values.specs.declared.value.Value.{Value}
 use Rattle.svc_values.specs.declared.value.Value.TheVariants as value

@@ -1,7 +1,8 @@
 -- Plain tables: a list of rows, each with its table and key, in the order of table and key. No table and key stands twice.
 use Rattle.std.specs.Prelude.{◌≡◌, ℕ, ◌&&◌, Bool, true, false, not, List, [], ◌∷◌, Option, Some, None, filter, if◌then◌else◌}
 use Rattle.std.specs.Str.{bytes_eq}
-use Rattle.std.specs.Ordering.{nat_cmp, match_ordering}
+use Rattle.std.specs.Ordering.{nat_cmp, match_ordering, ordering_then}
+use Rattle.std.specs.declared.cmp.Ordering.{Ordering}
 use Rattle.std.specs.Cmp.Lexicographic.{slice_cmp}
 use Rattle.svc_values.specs.declared.value.Value.{Value}
 use Rattle.svc_values.specs.declared.entry.Write.{Write}
@@ -20,7 +21,11 @@ is_at (place.Table table) row = bytes_eq row.table table
 abbrev pub rows_at : List PlainRow → Place → List PlainRow
 rows_at tables at = filter (is_at at) tables
 
--- by table, and in a table by key
+-- how two rows stand in the order: by table, and in a table by key
+abbrev pub row_cmp : PlainRow → PlainRow → Ordering
+row_cmp a b = ordering_then (slice_cmp nat_cmp a.table b.table) (value_cmp a.key b.key)
+
+-- the row comes first in that order
 abbrev pub comes_before : PlainRow → PlainRow → Bool
 comes_before a b = match_ordering (slice_cmp nat_cmp a.table b.table) true (match_ordering (value_cmp a.key b.key) true false false) false
 

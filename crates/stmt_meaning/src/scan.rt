@@ -45,7 +45,9 @@ fn meets(test: Test, order: Ordering) -> bool
     }
 }
 
-fn value_meets(test: Test, value: &Value, there: Option<&Value>) -> bool
+/// Whether the value that stands in a column, if any, meets the test against the given one. Linear in
+/// the shorter value.
+pub fn value_meets(test: Test, value: &Value, there: Option<&Value>) -> bool
     ensures { result ≡ value_meets_lem test value.now (option_copied there.entry) }
 {
     match there {

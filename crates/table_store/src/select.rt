@@ -1,37 +1,17 @@
 //! Rows that meet a test.
 ghost use Rattle.std.specs.Prelude.{◌≡◌, IfOk};
-ghost use Rattle.std.specs.Option.{option_copied, option_map};
+ghost use Rattle.std.specs.Option.{option_map};
 ghost use Rattle.std.specs.Map.{values_of};
-ghost use Rattle.stmt_meaning.specs.Effects.{meets as meets_lem, value_meets as value_meets_lem, selected as selected_lem};
+ghost use Rattle.stmt_meaning.specs.Effects.{selected as selected_lem};
 ghost use Rattle.table_store.specs.Selection.{at_most_32};
 
 use crate::row_map::RowMap;
 use std::alloc::Global;
-use std::cmp::Ordering;
+use stmt_meaning::value_meets;
 use svc_values::{NoMemory, Row, Test, TryCopy, Value};
 
 /// The most rows that a select answers.
 const ROW_LIMIT: usize = 32;
-
-/// Whether a comparison with this outcome meets the test.
-fn meets(test: Test, order: Ordering) -> bool
-    ensures { result ≡ meets_lem test order }
-{
-    match test {
-        Test::Eq => order == Ordering::Equal,
-        Test::Lt => order == Ordering::Less,
-        Test::Ge => order != Ordering::Less,
-    }
-}
-
-fn value_meets(test: Test, value: &Value, there: Option<&Value>) -> bool
-    ensures { result ≡ value_meets_lem test value.now (option_copied there.entry) }
-{
-    match there {
-        None => false,
-        Some(there) => meets(test, there.cmp(value)),
-    }
-}
 
 /// Copies of the rows whose value in a column meets the test, in order of key, unless they are more
 /// than 32.

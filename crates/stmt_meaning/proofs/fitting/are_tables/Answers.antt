@@ -1,4 +1,4 @@
-use Rattle.std.proofs.Common.{◌≡◌, ◌<◌, ◌≤◌, ◌-◌, length, take, drop, sym, ap, ◌∙◌, arith, refl, true, false}
+use Rattle.std.proofs.Common.{◌-◌, length, take, drop, sym, ap, ◌∙◌, true, false}
 use Rattle.stmt_meaning.proofs.Adjacent.{are_ordered, order_goes_on, order_ends, order_done, tells_order, first_and_rest}
 use Rattle.stmt_meaning.proofs.fitting.are_tables.Goals as goal
 

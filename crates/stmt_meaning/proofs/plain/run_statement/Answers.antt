@@ -1,7 +1,7 @@
 use Rattle.std.proofs.Common.{sym, ap, ◌∙◌, drop}
 use Rattle.std.specs.Prelude.{Some, option_to_list}
 use Rattle.stmt_meaning.specs.declared.effect.Effect.{Effect}
-use Rattle.stmt_meaning.specs.Meaning.{OneDone, done_at}
+use Rattle.stmt_meaning.specs.Meaning.{done_at}
 use Rattle.stmt_meaning.specs.Plans.{place_of}
 use Rattle.stmt_meaning.proofs.plain.run_statement.Goals as goal
 

@@ -1,6 +1,6 @@
-use Rattle.std.proofs.Common.{sym, ◌∙◌, arith, drop, length, ◌<◌, refl}
+use Rattle.std.proofs.Common.{sym, ◌∙◌, arith, drop, length, ◌<◌}
 use Rattle.stmt_meaning.specs.Meaning.{statements_done}
-use Rattle.stmt_meaning.proofs.Working.{begins, step_on, step_ends, step_differs, loop_ends}
+use Rattle.stmt_meaning.proofs.Working.{begins, step_on}
 use Rattle.stmt_meaning.proofs.plain.run_statements.Goals as goal
 
 pub loop-statement-init : goal.loop-statement-init

@@ -1,4 +1,4 @@
-use Rattle.std.proofs.Common.{sym, ◌∙◌, refl, subst, true, false, Bool, ap}
+use Rattle.std.proofs.Common.{refl, subst, Bool}
 use Rattle.stmt_meaning.specs.Answers.{DidAll}
 use Rattle.stmt_meaning.specs.Meaning.{statements_done}
 use Rattle.stmt_meaning.proofs.Working.{work_refused, work_done}
