@@ -1,5 +1,6 @@
 //! What is answered and written at the row of a key.
 ghost use Rattle.std.specs.Prelude.{◌≡◌, IfOk, option_copied, slice_set, ◌+ℤ◌, [], ◌∷◌};
+ghost use Rattle.svc_values.specs.Endings.{last_answer};
 ghost use Rattle.stmt_meaning.specs.Effects.{number_at as number_at_lem, row_effect as row_effect_lem, only as only_lem, wrote as wrote_lem, added as added_lem, refused as refused_lem};
 ghost use Rattle.stmt_meaning.specs.Meaning.{is_refusal as is_refusal_lem, ends_refused as ends_refused_lem};
 
@@ -23,11 +24,20 @@ pub fn is_refusal(answer: &Answer) -> bool
     matches!(answer, Answer::Refused(_))
 }
 
+fn last_of(answers: &[Answer]) -> Option<&Answer>
+    ensures { option_copied result ≡ last_answer answers.now }
+{
+    answers.last()
+}
+
 /// Whether the last of the answers refuses its statement.
 pub fn ends_refused(answers: &[Answer]) -> bool
     ensures { result ≡ ends_refused_lem answers.now }
 {
-    matches!(answers.last(), Some(Answer::Refused(_)))
+    match last_of(answers) {
+        None => false,
+        Some(answer) => is_refusal(answer),
+    }
 }
 
 /// The integer in a column of a row, and 0 where there is none.

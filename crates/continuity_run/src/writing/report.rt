@@ -12,7 +12,7 @@ use crate::writing::call::CallWriter;
 use crate::writing::value::{RowWriter, ValueWriter};
 use json_form::{ObjectWriter, Writer, Written};
 use std::alloc::{AllocError, Global};
-use svc_values::{Ltxid, Name, Piece, Settings, Value};
+use svc_values::{Entry, Ltxid, Name, Piece, Settings, Value};
 
 fn identifier_written(alloc: Global, x: &Ltxid) -> Result<Written, AllocError>
     ensures { IfOk result (λ w. view w.value ≡ identifier_text x.now) }

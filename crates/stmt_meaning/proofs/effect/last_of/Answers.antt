@@ -1,0 +1,6 @@
+use Rattle.std.proofs.Common.{◌∙◌}
+use Rattle.svc_values.proofs.Endings.{last_answer_at}
+use Rattle.stmt_meaning.proofs.effect.last_of.Goals as goal
+
+pub returns : goal.returns
+returns c = c.last.ensures.value ∙ last_answer_at c.args.answers.now
