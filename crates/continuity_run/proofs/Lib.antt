@@ -9,4 +9,7 @@ mod ValueEquality
 mod NoDraws
 mod SerialRun
 mod Literals
+mod Working
+mod Steps
+mod StartRows
 mod Reports

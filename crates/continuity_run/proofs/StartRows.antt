@@ -88,13 +88,13 @@ none_elsewhere : (name : List ℕ) (key : Value) (other : List ℕ) → bytes_eq
 none_elsewhere name key other differ [] = refl
 none_elsewhere name key other differ (row ∷ rows) = rw differ (none_elsewhere name key other differ rows)
 
+none_by : (x : PlainRow) (xs ys : List PlainRow) (t : Bool) → (if t then x ∷ xs else xs) ≡ [] → (xs ≡ [] → ys ≡ []) → (if t then x ∷ ys else ys) ≡ []
+none_by x xs ys true h next = absurd (let clash : x ∷ xs ≡ [] = h in cc)
+none_by x xs ys false h next = next h
+
 rows_at-append : (at : Place) (xs ys : List PlainRow) → rows_at xs at ≡ [] → rows_at ys at ≡ [] → rows_at (xs ++ ys) at ≡ []
 rows_at-append at [] ys hx hy = hy
-rows_at-append at (x ∷ xs) ys hx hy = by_test (is_at at x) refl
-  where
-    by_test : (t : Bool) → is_at at x ≡ t → rows_at ((x ∷ xs) ++ ys) at ≡ []
-    by_test false h = rw h (rows_at-append at xs ys (sym (rw h refl) ∙ hx) hy)
-    by_test true h = absurd (let clash : x ∷ rows_at xs at ≡ [] = sym (rw h refl) ∙ hx in cc)
+rows_at-append at (x ∷ xs) ys hx hy = none_by x (rows_at xs at) (rows_at (xs ++ ys) at) (is_at at x) hx (λ rest. rows_at-append at xs ys rest hy)
 
 none_in_others : (name : List ℕ) (key : Value) (tables : List DocTable) → list_any (λ u. bytes_eq u.name name) tables ≡ false → rows_at (flat_map rows_of_table tables) (place.Row name key) ≡ []
 none_in_others name key [] none = refl

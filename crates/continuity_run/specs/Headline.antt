@@ -90,13 +90,13 @@ writes_of entries = flat_map (λ entry. entry.writes) entries
 pub record Headline (document : Document) (report : Report) : Type 0 where
   -- the entries are a serial run from the document's rows to the report's tables
   pub last : List PlainRow
-  pub serial : Serial (shape_of document) (start_of document) report.entries last
+  pub serial : Serial (shape_of document.tables) (start_of document.tables) report.entries last
   pub tables : report.tables ≡ map (λ table. table_at last table.name) document.tables
   -- which are the document's rows with the writes of the entries, in order
-  pub stored : last ≡ with_writes (start_of document) (writes_of report.entries)
+  pub stored : last ≡ with_writes (start_of document.tables) (writes_of report.entries)
   -- each request has its report, and is shown each call of its script
   pub shown : List ShownCall
   pub clients : report.clients ≡ transcripts_of document.clients shown
-  pub in_turn : ShownInTurn (shape_of document) (start_of document) [] (calls_of document.clients) shown
+  pub in_turn : ShownInTurn (shape_of document.tables) (start_of document.tables) [] (calls_of document.clients) shown
   -- each transaction that was shown committed has its entry, and there is no other entry
   pub entries : OneEntryEach 0 [] [] [] (calls_of document.clients) shown report.entries

@@ -1,5 +1,5 @@
 -- The code's run so far, seen as a run.
-use Rattle.std.specs.Prelude.{◌≡◌, ◌+◌, List, [], ◌∷◌, ◌++◌, All, IsTrue, Some, length}
+use Rattle.std.specs.Prelude.{◌≡◌, ℕ, ◌+◌, List, [], ◌∷◌, ◌++◌, All, IsTrue, Some, length, false}
 use Rattle.svc_values.specs.declared.value.Value.{Value}
 use Rattle.svc_values.specs.declared.schema.Shape.{Shape}
 use Rattle.svc_values.specs.declared.statement.Statement.{Statement}
@@ -7,6 +7,7 @@ use Rattle.svc_values.specs.declared.call.Call.{Call}
 use Rattle.svc_values.specs.declared.call.Call.TheVariants as call
 use Rattle.svc_values.specs.declared.answer.Answer.{Answer}
 use Rattle.svc_values.specs.Calls.{is_lone_commit}
+use Rattle.stmt_meaning.specs.declared.tables.PlainRow.{PlainRow}
 use Rattle.stmt_meaning.specs.Tables.{rows_at, with_writes}
 use Rattle.stmt_meaning.specs.Fitting.{writes_fit}
 use Rattle.stmt_meaning.specs.Meaning.{Meant, mean}

@@ -8,14 +8,13 @@ use Rattle.stmt_meaning.specs.declared.tables.PlainRow.{PlainRow}
 use Rattle.stmt_meaning.specs.Tables.{in_order}
 use Rattle.stmt_meaning.specs.Plans.{key_of}
 use Rattle.continuity_run.specs.declared.document.DocTable.{DocTable}
-use Rattle.continuity_run.specs.declared.document.Document.{Document}
 
 abbrev pub schema_in : DocTable → Schema
 schema_in table = record { name = table.name; columns = table.columns }
 
 -- no document of this form has sequences
-abbrev pub shape_of : Document → Shape
-shape_of document = record { schemas = map schema_in document.tables; sequences = [] }
+abbrev pub shape_of : List DocTable → Shape
+shape_of tables = record { schemas = map schema_in tables; sequences = [] }
 
 abbrev pub plain_row : List ℕ → List Value → PlainRow
 plain_row table row = record { table = table; key = key_of row; row = row }
@@ -23,9 +22,9 @@ plain_row table row = record { table = table; key = key_of row; row = row }
 abbrev pub rows_of_table : DocTable → List PlainRow
 rows_of_table table = map (plain_row table.name) table.rows
 
-abbrev pub rows_of : Document → List PlainRow
-rows_of document = flat_map rows_of_table document.tables
+abbrev pub rows_of : List DocTable → List PlainRow
+rows_of tables = flat_map rows_of_table tables
 
--- the rows of the document, in the order of table and key
-abbrev pub start_of : Document → List PlainRow
-start_of document = in_order (rows_of document)
+-- the rows of the tables, in the order of table and key
+abbrev pub start_of : List DocTable → List PlainRow
+start_of tables = in_order (rows_of tables)

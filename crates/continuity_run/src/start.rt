@@ -5,7 +5,7 @@ ghost use Rattle.std.specs.Str.{bytes_eq};
 ghost use Rattle.table_store.specs.Given.{plain};
 ghost use Rattle.continuity_run.specs.Documents.{is_table, have_distinct_keys};
 ghost use Rattle.continuity_run.specs.Headline.{table_at as table_at_lem};
-ghost use Rattle.continuity_run.specs.Start.{plain_row, schema_in, start_of as start_lem};
+ghost use Rattle.continuity_run.specs.Start.{plain_row, schema_in, rows_of, start_of as start_lem};
 
 use crate::document::{DocRows, DocTable, DocTables};
 use crate::report::{ReportTable, ReportTables};
@@ -29,12 +29,10 @@ fn push_rows(
     Ok(())
 }
 
-/// The document's tables with their rows, which are moved, not copied: n log n for n rows.
-pub fn start_of(alloc: Global, tables: DocTables) -> Result<Tables, NoMemory>
-    requires each { IsTrue (list_all is_table tables) }
-    requires names { IsTrue (have_distinct_keys bytes_eq (λ table. table.name) tables) }
-    requires few { length tables ≤ 32 }
-    ensures { IfOk result (λ made. made ≡ record { schemas = map schema_in tables; rows = start_lem tables }) }
+/// The declarations of the tables, and all their rows.
+fn gathered(alloc: Global, tables: DocTables) -> Result<(Vec<Schema>, Vec<TableRow>), NoMemory>
+    ensures schemas { IfOk result (λ all. all.0.items ≡ map schema_in tables) }
+    ensures rows { IfOk result (λ all. plain all.1.items ≡ rows_of tables) }
 {
     let mut schemas = Vec::new(alloc);
     let mut rows = Vec::new(alloc);
@@ -47,6 +45,17 @@ pub fn start_of(alloc: Global, tables: DocTables) -> Result<Tables, NoMemory>
         push_rows(alloc, &mut rows, &name, more)?;
         schemas.push(Schema { name, columns })?;
     }
+    Ok((schemas, rows))
+}
+
+/// The document's tables with their rows, which are moved, not copied: n log n for n rows.
+pub fn start_of(alloc: Global, tables: DocTables) -> Result<Tables, NoMemory>
+    requires each { IsTrue (list_all is_table tables) }
+    requires names { IsTrue (have_distinct_keys bytes_eq (λ table. table.name) tables) }
+    requires few { length tables ≤ 32 }
+    ensures { IfOk result (λ made. made ≡ record { schemas = map schema_in tables; rows = start_lem tables }) }
+{
+    let (schemas, rows) = gathered(alloc, tables)?;
     Tables::new(alloc, Schemas::from_vec(schemas), rows)
 }
 

@@ -1,0 +1,63 @@
+-- Statements that ask for no draw, in the transaction of a session beside which none commits.
+use Rattle.std.proofs.Common.{◌≡◌, ℕ, List, [], ◌∷◌, ◌++◌, Bool, true, false, Option, Some, None, refl, sym, ap, ◌∙◌, subst, IsTrue}
+use Rattle.std.specs.Prelude.{All}
+use Rattle.std.specs.List.{list_all, AllByRecursion}
+use Rattle.std.specs.Option.{option_map}
+use Rattle.std.proofs.lemmas.List.Elements.{All-append, All-from_recursion}
+use Rattle.svc_values.specs.declared.value.Value.{Value}
+use Rattle.svc_values.specs.declared.draw.Draw.{Draw}
+use Rattle.svc_values.specs.declared.statement.Statement.{Statement}
+use Rattle.svc_values.specs.declared.answer.Answer.{Answer}
+use Rattle.stmt_meaning.specs.declared.tables.PlainRow.{PlainRow}
+use Rattle.stmt_meaning.specs.declared.tables.Place.{Place}
+use Rattle.stmt_meaning.specs.Tables.{rows_at, with_writes}
+use Rattle.stmt_meaning.specs.Fitting.{writes_fit}
+use Rattle.stmt_meaning.specs.Meaning.{Meant}
+use Rattle.table_store.specs.Stored.{Stored}
+use Rattle.table_txn.specs.Reads.{Read, reads_at}
+use Rattle.table_txn.specs.Transactions.{Transaction, HasRun, meaning, shape_of}
+use Rattle.continuity_run.specs.DocumentForm.{has_literals}
+use Rattle.continuity_run.specs.Progress.{IsAlone, HasWorked}
+use Rattle.continuity_run.proofs.Literals.{literals_leave}
+
+pub worked : (tables : Stored) (names : List (List ℕ)) (settings : List (List ℕ × Value)) (old : Transaction) (statements : List Statement) (answers : List Answer) (draws : List Draw) (new : Transaction)
+    → names ≡ [] → list_all has_literals statements ≡ true → HasRun tables names settings old statements answers draws new → HasWorked tables settings old statements answers new
+worked tables names settings old statements answers draws new none literal ran =
+    let left : ran.meant.rest ≡ draws = literals_leave (shape_of tables names) (with_writes tables.rows old.writes) settings statements false draws ran.meant literal ran.means in
+    let taken : draws ≡ [] = sym left ∙ ran.used in
+    record {
+      meant = ran.meant;
+      means = subst (λ (n : List (List ℕ)). meaning tables n settings old statements [] ≡ Some ran.meant) none (subst (λ (d : List Draw). meaning tables names settings old statements d ≡ Some ran.meant) taken ran.means);
+      answered = ran.answered;
+      wrote = ran.wrote;
+      same_pieces = ran.same_pieces;
+    }
+
+-- what is read now is so now
+unchanged_now : (rows : List PlainRow) (places : List Place) → AllByRecursion (λ (read : Read). rows_at rows read.at ≡ read.found) (reads_at rows places)
+unchanged_now rows [] = tt
+unchanged_now rows (at ∷ places) = (refl, unchanged_now rows places)
+
+pub still_alone : (tables : Stored) (names : List (List ℕ)) (settings : List (List ℕ × Value)) (old : Transaction) (statements : List Statement) (answers : List Answer) (draws : List Draw) (new : Transaction)
+    → IsAlone tables old → IsTrue (writes_fit tables.schemas new.writes) → HasRun tables names settings old statements answers draws new → IsAlone tables new
+still_alone tables names settings old statements answers draws new alone fitting ran = record {
+  fitting = fitting;
+  reads = alone.reads ++ reads_at tables.rows ran.meant.reads;
+  notes = ran.noted alone.reads alone.notes;
+  unchanged = All-append (λ (read : Read). rows_at tables.rows read.at ≡ read.found) alone.reads (reads_at tables.rows ran.meant.reads) alone.unchanged (All-from_recursion (λ (read : Read). rows_at tables.rows read.at ≡ read.found) (reads_at tables.rows ran.meant.reads) (unchanged_now tables.rows ran.meant.reads));
+}
+
+none_behind : (given more : List Draw) → given ++ more ≡ [] → more ≡ []
+none_behind [] more e = e
+none_behind (first ∷ given) more e = absurd (let x : ◌≡◌ {A = List Draw} (first ∷ (given ++ more)) [] = e in cc)
+
+none_left : (all : List Draw) (meant : Option Meant) → ((m : Meant) → meant ≡ Some m → m.rest ≡ all) → option_map (λ (m : Meant). m.rest) meant ≡ Some [] → all ≡ []
+none_left all None rest asked = absurd (let x : ◌≡◌ {A = Option (List Draw)} None (Some []) = asked in cc)
+none_left all (Some m) rest asked = sym (rest m refl) ∙ (let x : ◌≡◌ {A = Option (List Draw)} (Some m.rest) (Some []) = asked in cc)
+
+-- literals ask for no draw
+pub none_asked : (tables : Stored) (names : List (List ℕ)) (settings : List (List ℕ × Value)) (old : Transaction) (statements : List Statement) (given more : List Draw) → list_all has_literals statements ≡ true
+    → option_map (λ (m : Meant). m.rest) (meaning tables names settings old statements (given ++ more)) ≡ Some [] → more ≡ []
+none_asked tables names settings old statements given more literal asked =
+    none_behind given more (none_left (given ++ more) (meaning tables names settings old statements (given ++ more))
+    (λ m is. literals_leave (shape_of tables names) (with_writes tables.rows old.writes) settings statements false (given ++ more) m literal is) asked)

@@ -1,0 +1,30 @@
+use Rattle.std.proofs.Common.{◌≡◌, Some, true, List, [], map, refl, sym, subst, ap, ◌∙◌}
+use Rattle.std.specs.List.{list_all}
+use Rattle.svc_values.specs.declared.call.Call.{Call}
+use Rattle.svc_values.specs.declared.schema.Schema.{Schema}
+use Rattle.table_store.specs.Stored.{Stored}
+use Rattle.continuity_run.specs.DocumentForm.{is_built}
+use Rattle.continuity_run.specs.Headline.{calls_of, transcripts_of, table_at}
+use Rattle.continuity_run.specs.Progress.{run_seen}
+use Rattle.continuity_run.specs.Run.{run_of, start_run}
+use Rattle.continuity_run.specs.Start.{schema_in, shape_of, start_of}
+use Rattle.continuity_run.proofs.Reports.{script_built, headline, tables_shown}
+use Rattle.continuity_run.proofs.run.run_document.Goals as goal
+
+pub run_calls-requires : goal.run_calls-requires
+run_calls-requires c =
+    subst (λ (calls : List Call). list_all is_built calls ≡ true) (sym (c.calls_of-calls.ensures ∙ ap calls_of c.as_slice.ensures)) (script_built c.args.document c.requires)
+
+pub returns : goal.returns
+returns c =
+    let document = c.args.document in
+    let progress = c.in_ok-progress.progress in
+    let after = run_seen progress in
+    let script : c.calls_of-calls.result.now ≡ calls_of document.clients = c.calls_of-calls.ensures ∙ ap calls_of c.as_slice.ensures in
+    let begun = subst (λ (tables : Stored). run_of (record { schemas = tables.schemas; sequences = [] }) (start_run tables.rows) c.calls_of-calls.result.now ≡ Some after) c.in_ok-tables.ensures c.in_ok-progress.ensures.ran in
+    let done = subst (λ (calls : List Call). run_of (shape_of document.tables) (start_run (start_of document.tables)) calls ≡ Some after) script begun in
+    let declared : progress.tables.schemas ≡ map schema_in document.tables = c.in_ok-progress.ensures.declared ∙ ap (λ (tables : Stored). tables.schemas) c.in_ok-tables.ensures in
+    headline document after done
+    (record { clients = c.in_ok-transcripts_of.field-0; entries = progress.entries; tables = c.in_ok-tables-2.tables })
+    (c.in_ok-transcripts_of.ensures ∙ ap (λ clients. transcripts_of clients progress.shown) c.as_slice-2.ensures) refl
+    (c.in_ok-tables-2.ensures ∙ ap (map (λ (schema : Schema). table_at progress.tables.rows schema.name)) declared ∙ tables_shown progress.tables.rows document.tables)
