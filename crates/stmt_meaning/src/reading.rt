@@ -70,6 +70,7 @@ fn next_value(
 ) -> Result<Value, Stop>
     requires { used.old ≤ length draws.now }
     ensures read { IsRead result (take_draw asked.now (drop used.old draws.now)) (drop used.new draws.now) }
+    ensures forward { used.old ≤ used.new }
     ensures within { used.new ≤ length draws.now }
 {
     let Some(draw) = draws.get(*used) else {
@@ -94,6 +95,7 @@ fn value_of(
 ) -> Result<Value, Stop>
     requires { used.old ≤ length draws.now }
     ensures read { IsRead result (value_of_lem sequences.now settings.now operand.now (drop used.old draws.now)) (drop used.new draws.now) }
+    ensures forward { used.old ≤ used.new }
     ensures within { used.new ≤ length draws.now }
 {
     match resolve(sequences, settings, operand)? {
@@ -113,6 +115,7 @@ fn values_of(
 ) -> Result<Row, Stop>
     requires { used.old ≤ length draws.now }
     ensures read { IsRead result (values_of_lem sequences.now settings.now (operands_of statement.now) (drop used.old draws.now)) (drop used.new draws.now) }
+    ensures forward { used.old ≤ used.new }
     ensures within { used.new ≤ length draws.now }
 {
     let mut values = Vec::new(alloc);
@@ -122,7 +125,8 @@ fn values_of(
     Ok(Row::from_vec(values))
 }
 
-/// The plan of a statement, its operands read.
+/// The plan of a statement, its operands read. The draws that they took count as used, also where it
+/// comes to no plan.
 pub fn plan_of(
     alloc: Global,
     shape: &Shape,
@@ -133,6 +137,7 @@ pub fn plan_of(
 ) -> Result<Plan, Stop>
     requires { used.old ≤ length draws.now }
     ensures read { IsRead result (plan_of_lem shape.now settings.now statement.now (drop used.old draws.now)) (drop used.new draws.now) }
+    ensures forward { used.old ≤ used.new }
     ensures within { used.new ≤ length draws.now }
 {
     let target = target_of(shape.schemas.as_slice(), statement)?;

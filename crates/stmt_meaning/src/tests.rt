@@ -307,3 +307,12 @@ fn a_late_tick_is_the_greatest_integer(rt: HostRuntime) -> Result<(), Fail> {
     assert!(rt; value.kind() == Kind::Bytes);
     Ok(())
 }
+
+#[test]
+fn rows_are_put_in_order(rt: HostRuntime) -> Result<(), Fail> {
+    let alloc = rt.alloc();
+    let rows = [account(alloc, 2, 200)?, account(alloc, 1, 100)?];
+    let tables = in_order(Vec::from_array(alloc, rows)?)?;
+    assert!(rt; tables == accounts(alloc, &[100, 200])?);
+    Ok(())
+}

@@ -1,5 +1,6 @@
 //! Plain tables after a write.
-ghost use Rattle.std.specs.Prelude.{◌≡◌, OnOk, position, option_to_list};
+ghost use Rattle.std.specs.Prelude.{◌≡◌, ◌≤◌, OnOk, OnErr, position, option_to_list};
+ghost use Rattle.std.specs.Vec.{vec_capacity, vec_len};
 ghost use Rattle.stmt_meaning.specs.Tables.{is_at, comes_before as comes_before_lem, put_row as put_row_lem, with_write, with_writes, without};
 
 use crate::tables::{Place, PlainRow};
@@ -40,14 +41,17 @@ pub fn stands_in(row: &PlainRow, table: &Name) -> bool
 
 /// Takes away the row of a table and key, if it is there.
 fn remove_row(rows: &mut Vec<PlainRow>, table: &Name, key: &Value)
-    ensures { rows.new.items ≡ without rows.old.items table.now key.now }
+    ensures rows { rows.new.items ≡ without rows.old.items table.now key.now }
+    ensures fewer { vec_len rows.new ≤ vec_len rows.old }
+    ensures room { vec_capacity rows.new ≡ vec_capacity rows.old }
 {
     rows.retain(|row| !stands_at(row, table, key));
 }
 
-/// Puts the row in before the first that it comes before.
+/// Puts the row in before the first that it comes before. Where there is room for it, it is put in.
 fn put_row(rows: &mut Vec<PlainRow>, row: PlainRow) -> Result<(), NoMemory>
-    ensures { OnOk result (rows.new.items ≡ put_row_lem row rows.old.items) }
+    ensures ok { OnOk result (rows.new.items ≡ put_row_lem row rows.old.items) }
+    ensures full { OnErr result (vec_capacity rows.old ≤ vec_len rows.old) }
 {
     let at = first_after(rows.as_slice(), &row).unwrap_or(rows.len());
     rows.insert(at, row)?;
@@ -55,21 +59,29 @@ fn put_row(rows: &mut Vec<PlainRow>, row: PlainRow) -> Result<(), NoMemory>
 }
 
 /// Does a write: its row goes in the place of the one with its table and key, if any, or that one is
-/// taken away. Linear in the rows. Where memory ran out the rows are of no more use.
+/// taken away. Linear in the rows. Where memory runs out the rows are as they were.
 pub fn put_write(rows: &mut Vec<PlainRow>, write: Write) -> Result<(), NoMemory>
-    ensures { OnOk result (rows.new.items ≡ with_write rows.old.items write) }
+    ensures ok { OnOk result (rows.new.items ≡ with_write rows.old.items write) }
+    ensures err { OnErr result (rows.new.items ≡ rows.old.items) }
 {
     let Write { table, key, row } = write;
-    remove_row(rows, &table, &key);
     match row {
-        None => Ok(()),
-        Some(row) => put_row(rows, PlainRow { table, key, row }),
+        None => {
+            remove_row(rows, &table, &key);
+            Ok(())
+        }
+        Some(row) => {
+            rows.reserve(1)?;
+            remove_row(rows, &table, &key);
+            put_row(rows, PlainRow { table, key, row })
+        }
     }
 }
 
-/// Does the write of a statement, if it has one.
+/// Does the write of a statement, if it has one. Where memory runs out the rows are as they were.
 pub fn put_write_if_any(rows: &mut Vec<PlainRow>, write: Option<Write>) -> Result<(), NoMemory>
-    ensures { OnOk result (rows.new.items ≡ with_writes rows.old.items (option_to_list write)) }
+    ensures ok { OnOk result (rows.new.items ≡ with_writes rows.old.items (option_to_list write)) }
+    ensures err { OnErr result (rows.new.items ≡ rows.old.items) }
 {
     match write {
         None => Ok(()),

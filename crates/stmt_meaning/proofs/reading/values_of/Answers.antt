@@ -22,6 +22,7 @@ loop-operand-preserved c =
     let on = reads_on c.args.sequences.now c.args.settings.now (operands_of c.args.statement.now) before c.in-Some.operand.now here (drop c.loop-operand.used c.args.draws.now) (drop c.value_of.new.used c.args.draws.now) c.in_ok-value_of.field-0 c.in_ok-value_of.ensures.read in
     record {
       so_far = c.loop-operand.invariant.so_far ∙ rw (← c.in_ok-push.ensures.items) at on;
+      forward = omega arith;
       within = c.in_ok-value_of.ensures.within;
       few = omega (arith, c.in-Some.ensures.within refl, c.in_ok-push.ensures.len);
     }

@@ -8,6 +8,7 @@ abbrev pub invariant-loop-operand : goal.invariant-loop-operand
 invariant-loop-operand l = record {
   so_far : values_of l.sequences l.settings (operands_of l.statement) (drop l.initial.used l.draws)
       ≡ after_values l.values.items (values_of l.sequences l.settings (drop (length l.values.items) (operands_of l.statement)) (drop l.used l.draws));
+  forward : l.initial.used ≤ l.used;
   within : l.used ≤ length l.draws;
   few : vec_len l.values ≤ 8;
 }

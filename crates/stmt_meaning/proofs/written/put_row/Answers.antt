@@ -5,8 +5,8 @@ use Rattle.stmt_meaning.specs.Tables.{comes_before}
 use Rattle.stmt_meaning.proofs.PutRow.{put_row-insert, place_is}
 use Rattle.stmt_meaning.proofs.written.put_row.Goals as goal
 
-pub returns : goal.returns
-returns c =
+pub returns-clause-ok : goal.returns-clause-ok
+returns-clause-ok c =
     let rows = c.args.rows.now.items in
     let found = c.first_after.ensures ∙ ap (position (λ other. comes_before c.args.row other)) c.as_slice.ensures.value in
     let len : c.len.result ≡ length rows = c.len.ensures ∙ sym c.as_slice.ensures.len ∙ ap length c.as_slice.ensures.value in
