@@ -14,8 +14,9 @@ pub struct PlainRow {
 /// All rows of a service, in the order of table and key, without a limit.
 pub type PlainTables = Listed<PlainRow>;
 
-/// Where a statement reads: one row, there or not, or a whole table.
-#[derive(PartialEq, Eq, Drop)]
+/// Where a statement reads: one row, there or not, or a whole table. Rows come before tables, by table
+/// and key, and tables by name.
+#[derive(PartialEq, Eq, PartialOrd, Ord, Drop)]
 pub enum Place {
     Row { table: Name, key: Value },
     Table { table: Name },
