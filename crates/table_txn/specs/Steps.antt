@@ -1,5 +1,5 @@
 -- One statement of a transaction, and what its operands come to.
-use Rattle.std.specs.Prelude.{◌≡◌, ℕ, List, [], ◌∷◌, ◌++◌, Option, Some, None, Result, Ok, Err, option_to_list}
+use Rattle.std.specs.Prelude.{◌≡◌, ℕ, List, [], ◌∷◌, ◌++◌, Option, Some, None, Result, Ok, Err, option_to_list, option_map}
 use Rattle.svc_values.specs.declared.value.Value.{Value}
 use Rattle.svc_values.specs.declared.draw.Draw.{Draw}
 use Rattle.svc_values.specs.declared.statement.Statement.{Statement}
@@ -28,11 +28,15 @@ pub record ReadsAll {S A : Type 0} (drew : S → Drew → S → Type 0) (read : 
   pub behind : after ≡ before ++ given
   pub reads : read given ≡ Some (outcome, [])
 
+-- the draws that reading leaves of given ones
+abbrev pub left_of : {A : Type 0} → (List Draw → Reading A) → List Draw → Option (List Draw)
+left_of read draws = option_map (λ come. come.1) (read draws)
+
 -- what reading from a source came to
 abbrev pub HasRead : {S A : Type 0} → (S → Drew → S → Type 0) → (List Draw → Reading A) → S → List Draw → Result A Stop → S → List Draw → Type 0
 HasRead drew read old before (Ok x) new after = ReadsAll drew read old before (Ok x) new after
 HasRead drew read old before (Err (stop.Refused refusal)) new after = ReadsAll drew read old before (Err refusal) new after
-HasRead drew read old before (Err (stop.Ended ended)) new after = Ends drew read old ended new
+HasRead drew read old before (Err (stop.Ended ended)) new after = Ends drew (left_of read) old ended new
 
 -- what a plan does to a transaction on these tables
 pub record HasWorked (tables : Stored) (old : Transaction) (asked : Plan) (answer : Answer) (new : Transaction) : Type 0 where

@@ -1,5 +1,5 @@
 -- A transaction on its way, and what its statements do.
-use Rattle.std.specs.Prelude.{◌≡◌, ℕ, false, List, [], ◌∷◌, ◌++◌, Option, Some}
+use Rattle.std.specs.Prelude.{◌≡◌, ℕ, false, List, [], ◌∷◌, ◌++◌, Option, Some, option_map}
 use Rattle.svc_values.specs.declared.value.Value.{Value}
 use Rattle.svc_values.specs.declared.schema.Shape.{Shape}
 use Rattle.svc_values.specs.declared.draw.Draw.{Draw}
@@ -43,6 +43,6 @@ pub record HasRun (tables : Stored) (names : List (List ℕ)) (settings : List (
   pub noted : (reads : List Read) → AreNotes old.notes reads → AreNotes new.notes (reads ++ reads_at tables.rows meant.reads)
   pub same_pieces : new.pieces ≡ old.pieces
 
--- A run that was refused: some draws were given, which begin those that the statements ask for, and then it ended.
+-- A run that was ended by a fault: some draws were given, which begin those that the statements ask for, and then it ended.
 abbrev pub HasEnded : {S : Type 0} → Stored → List (List ℕ) → List (List ℕ × Value) → Transaction → List Statement → (S → Drew → S → Type 0) → S → TxnFault → S → Type 0
-HasEnded tables names settings old statements drew before ended after = Ends drew (meaning tables names settings old statements) before ended after
+HasEnded tables names settings old statements drew before ended after = Ends drew (λ draws. option_map (λ meant. meant.rest) (meaning tables names settings old statements draws)) before ended after

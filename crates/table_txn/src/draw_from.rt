@@ -15,7 +15,8 @@ pub trait DrawFrom {
     ghost drew: { Self → Drew → Self → Type 0 };
 
     /// Draws a value of the kind. `NoSequence` comes exactly where a sequence is asked for that is
-    /// not there, and leaves the source as it was. `Stopped` tells that the source gives no more.
+    /// not there, before anything else, and leaves the source as it was. `Stopped` tells that the
+    /// source gives no more.
     fn draw(&mut self, alloc: Global, kind: &DrawKind) -> Result<Draw, DrawFromFault>
         ensures drawn { HasDrawn (names self.old) drew self.old kind.now result self.new }
         ensures names { names self.new ≡ names self.old };

@@ -1,5 +1,6 @@
 //! Draws from a list.
 ghost use Rattle.std.specs.Prelude.{◌≡◌};
+ghost use Rattle.stmt_meaning.specs.Operands.{is_name_of};
 ghost use Rattle.table_txn.specs.Drawing.{HasDrawn, is_there as is_there_lem};
 ghost use Rattle.table_txn.specs.Listed.{TakesFirst, TakesFront, is_first as is_first_lem, listed};
 
@@ -7,7 +8,7 @@ use crate::draw_from::DrawFrom;
 use crate::fault::DrawFromFault;
 use std::alloc::Global;
 use stmt_meaning::is_of_kind;
-use svc_values::{Draw, DrawKind, Draws, Names};
+use svc_values::{Draw, DrawKind, Draws, Name, Names};
 
 /// Draws that are given in the order in which they are asked for, beside the names of the sequences.
 #[derive(Drop)]
@@ -16,12 +17,18 @@ pub struct ListDraws {
     pub draws: Draws,
 }
 
+fn has_name(names: &[Name], name: &Name) -> bool
+    ensures { result ≡ is_name_of names.now name.now }
+{
+    names.iter().any(|one| *one == *name)
+}
+
 /// Whether what is asked for is there: a sequence is one of these names.
 fn is_there(names: &Names, kind: &DrawKind) -> bool
     ensures { result ≡ is_there_lem names.now kind.now }
 {
     match kind {
-        DrawKind::Seq(name) => names.as_slice().iter().any(|one| *one == *name),
+        DrawKind::Seq(name) => has_name(names.as_slice(), name),
         DrawKind::Clock | DrawKind::Id => true,
     }
 }

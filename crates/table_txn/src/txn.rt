@@ -1,5 +1,5 @@
 //! Transactions.
-ghost use Rattle.std.specs.Prelude.{◌≡◌, ◌≤◌, ◌++◌, ◌∷◌, [], List, IsTrue, OnOk, OnErr, IfOk, IfErr, length, take};
+ghost use Rattle.std.specs.Prelude.{◌≡◌, ◌≤◌, ◌++◌, ◌∷◌, [], List, IsTrue, OnOk, OnErr, IfOk, IfErr, length, take, option_map};
 ghost use Rattle.std.specs.Option.{option_copied};
 ghost use Rattle.stmt_meaning.specs.Fitting.{writes_fit};
 ghost use Rattle.stmt_meaning.specs.Tables.{AreTables, with_writes};
@@ -174,7 +174,7 @@ impl Txn {
     ) -> Result<Answer, TxnFault>
         requires { AreTables tables.now.rows }
         ensures done { IfOk result (λ answer. HasDone F.drew tables.now (F.names source.old) settings.now self.old statement.now source.old drawn.old.items answer self.new source.new drawn.new.items) }
-        ensures ended { IfErr result (λ ended. Ends F.drew (λ given. mean1 (shape_of tables.now (F.names source.old)) (with_writes tables.now.rows self.old.writes) settings.now statement.now given) source.old ended source.new) }
+        ensures ended { IfErr result (λ ended. Ends F.drew (λ given. option_map (λ one. one.rest) (mean1 (shape_of tables.now (F.names source.old)) (with_writes tables.now.rows self.old.writes) settings.now statement.now given)) source.old ended source.new) }
         ensures names { F.names source.new ≡ F.names source.old }
     {
         match plan_of(self.alloc, tables, settings, statement, source, drawn) {
