@@ -2,3 +2,5 @@ pub mod Asking
 pub mod Drawn
 pub mod Values
 pub mod Planned
+pub mod LatestLaws
+pub mod OwnLaws

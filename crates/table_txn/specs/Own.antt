@@ -1,5 +1,5 @@
 -- The writes of a transaction, and where the last one of each table and key stands.
-use Rattle.std.specs.Prelude.{◌≡◌, ℕ, ◌+◌, Bool, List, [], ◌∷◌, ◌++◌, Option, Some, None, length, take, slice_get, if◌then◌else◌}
+use Rattle.std.specs.Prelude.{◌≡◌, ℕ, ◌+◌, ◌≤◌, length, Bool, List, [], ◌∷◌, ◌++◌, Option, Some, None, slice_get, option_and_then, if◌then◌else◌}
 use Rattle.std.specs.BTreeMap.{BTreeMap, is_at}
 use Rattle.std.specs.Map.{lookup}
 use Rattle.std.specs.Ordering.{nat_cmp}
@@ -7,7 +7,6 @@ use Rattle.std.specs.Cmp.Lexicographic.{slice_cmp}
 use Rattle.svc_values.specs.declared.value.Value.{Value}
 use Rattle.svc_values.specs.declared.entry.Write.{Write}
 use Rattle.svc_values.specs.Order.{value_cmp}
-use Rattle.table_store.specs.Rows.{row_if_any}
 use Rattle.table_store.specs.Shelves.{is_place}
 
 abbrev pub or_else : {A : Type 0} → Option A → Option A → Option A
@@ -25,8 +24,7 @@ last_at writes table key = last_from 0 writes table key
 
 -- the last write of a table and key
 abbrev pub last_write : List Write → List ℕ → Value → Option Write
-last_write [] table key = None
-last_write (write ∷ writes) table key = or_else (last_write writes table key) (if is_place write.table write.key table key then Some write else None)
+last_write writes table key = option_and_then (slice_get writes) (last_at writes table key)
 
 -- the places by key of one table
 abbrev pub Keys : Type 0
@@ -50,9 +48,14 @@ place_kept latest table key = place_in (keys_kept latest table) key
 abbrev pub AreLatest : List Write → Latest → Type 0
 AreLatest writes latest = (table : List ℕ) (key : Value) → place_kept latest table key ≡ last_at writes table key
 
--- beside each write stands the place of the one before it of its table and key
+-- beside each of the writes behind the first ones stands the place of the one before it of its table and key
+abbrev pub AreBeforeFrom : List Write → List Write → List (Option ℕ) → Type 0
+AreBeforeFrom first [] before = Unit {0}
+AreBeforeFrom first (write ∷ writes) [] = ⊥
+AreBeforeFrom first (write ∷ writes) (at ∷ before) = (at ≡ last_at first write.table write.key) × AreBeforeFrom (first ++ write ∷ []) writes before
+
 abbrev pub AreBefore : List Write → List (Option ℕ) → Type 0
-AreBefore writes before = (at : ℕ) (write : Write) → slice_get writes at ≡ Some write → slice_get before at ≡ Some (last_at (take at writes) write.table write.key)
+AreBefore writes before = AreBeforeFrom [] writes before
 
 -- what is kept of writes
 pub record AreOwn (writes : List Write) (before : List (Option ℕ)) (latest : Latest) : Type 0 where
@@ -75,3 +78,8 @@ HasKey old key at new = (k : Value) → place_in (Some new) k ≡ (if is_at (val
 abbrev pub row_over : Option Write → Option (List Value) → Option (List Value)
 row_over None committed = committed
 row_over (Some write) committed = write.row
+
+-- the last write is taken off, if it is behind the first few
+abbrev pub PopsBehind : List Write → ℕ → Option Write → List Write → Type 0
+PopsBehind old count None new = (new ≡ old) × (length old ≤ count)
+PopsBehind old count (Some last) new = (old ≡ new ++ last ∷ []) × (count ≤ length new)

@@ -2,7 +2,7 @@
 ghost use Rattle.std.specs.Prelude.{◌≡◌, ◌≤◌, ◌++◌, ◌∷◌, [], OnOk, OnErr, length, take, slice_get, Some, option_copied, option_to_list};
 ghost use Rattle.svc_values.specs.declared.value.Value.{Value as Key};
 ghost use Rattle.svc_values.specs.declared.entry.Write.{Write as OneWrite};
-ghost use Rattle.table_txn.specs.Own.{last_write, last_at, place_in, HasPlace, HasSamePlaces};
+ghost use Rattle.table_txn.specs.Own.{last_write, last_at, place_in, HasPlace, HasSamePlaces, PopsBehind};
 
 use crate::latest::{self, Keys, Latest};
 use std::alloc::Global;
@@ -156,13 +156,21 @@ impl OwnWrites {
         ensures { self.new ≡ take count self.old }
     {
         let mut writes = std::mem::replace(&mut self.writes, Writes::new(self.alloc)).into_vec();
-        while writes.len() > count {
-            let Some(write) = writes.pop() else {
-                break;
-            };
+        while let Some(write) = pop_behind(&mut writes, count) {
             let before = self.before[writes.len()];
             latest::restore(&mut self.latest, &write.table, &write.key, before);
         }
         self.writes = Writes::from_vec(writes);
+    }
+}
+
+/// Takes the last write off, if it is behind the first `count`.
+fn pop_behind(writes: &mut Vec<Write>, count: usize) -> Option<Write>
+    ensures { PopsBehind writes.old.items count result writes.new.items }
+{
+    if writes.len() > count {
+        writes.pop()
+    } else {
+        None
     }
 }

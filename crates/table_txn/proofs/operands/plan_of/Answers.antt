@@ -27,8 +27,8 @@ returns-in_err-plan_for-clause-read g c =
     rw (p.1, p.2) (plan_fails g.F.DrawFrom.drew (shape_of c.args.tables.now (g.F.DrawFrom.names c.args.source.now)) c.args.settings.now c.args.statement.now c.args.source.now c.args.drawn.now.items
         (aim c.in_ok-target.target) (ap (λ s. aim_of s c.args.statement.now) (sym schemas) ∙ sym c.in_ok-target.ensures) c.values_of.new.source c.values_of.new.drawn.items c.in_ok-values.values c.in_ok-values.ensures.read c.in_err-plan_for.field-0.0 c.in_err-plan_for.ensures)
 
-pub returns-in_ok-plan_for-clause-read : goal.returns-in_ok-plan_for-clause-read
-returns-in_ok-plan_for-clause-read g c =
+pub returns-clause-read : goal.returns-clause-read
+returns-clause-read g c =
     let schemas = c.as_slice.ensures.items ∙ c.schemas.ensures.schemas in
     planned g.F.DrawFrom.drew (shape_of c.args.tables.now (g.F.DrawFrom.names c.args.source.now)) c.args.settings.now c.args.statement.now c.args.source.now c.args.drawn.now.items
     (aim c.in_ok-target.target) (ap (λ s. aim_of s c.args.statement.now) (sym schemas) ∙ sym c.in_ok-target.ensures) c.values_of.new.source c.values_of.new.drawn.items c.in_ok-values.values c.in_ok-values.ensures.read c.in_ok-plan_for.field-0 c.in_ok-plan_for.ensures
