@@ -4,3 +4,5 @@ pub mod Values
 pub mod Planned
 pub mod LatestLaws
 pub mod OwnLaws
+pub mod Same
+pub mod FoundLaws

@@ -15,7 +15,7 @@ use Rattle.table_txn.specs.declared.found.Found.TheVariants as found
 use Rattle.table_txn.specs.declared.found.Committed.{Committed}
 use Rattle.table_txn.specs.declared.found.Committed.TheVariants as committed
 use Rattle.table_txn.specs.declared.notes.Noted.{Noted}
-use Rattle.table_txn.specs.Notes.{Note}
+use Rattle.table_txn.specs.Notes.{Note, note_of, HasNoted}
 
 -- a row stands for the place of a row, and the rows of a table for a table
 abbrev pub is_for : Place → Found → Bool
@@ -68,3 +68,13 @@ notes_of entries = map note entries
 -- each has what its place may have
 abbrev pub are_for : List (Place × Noted) → Bool
 are_for entries = list_all (λ entry. is_for entry.0 entry.1.found) entries
+
+-- the notes after one more read of a place, which found this
+pub record IsNoted (old : List (Place × Noted)) (at : Place) (what : Found) (new : List (Place × Noted)) : Type 0 where
+  pub has : HasNoted (notes_of old) at (found_rows at what) (notes_of new)
+  pub kinds : are_for new ≡ true
+
+-- a place without a note, and nothing has changed
+pub record IsNotNoted (old : List (Place × Noted)) (at : Place) (new : List (Place × Noted)) : Type 0 where
+  pub absent : note_of (notes_of old) at ≡ None
+  pub same : new ≡ old

@@ -1,10 +1,11 @@
 //! What a transaction read.
-ghost use Rattle.std.specs.Prelude.{◌≡◌, [], OnOk};
+ghost use Rattle.std.specs.Prelude.{◌≡◌, ◌||◌, not, true, [], OnOk, OnErr, MatchBool};
 ghost use Rattle.std.specs.Option.{option_copied};
 ghost use Rattle.stmt_meaning.specs.Tables.{rows_at};
 ghost use Rattle.table_txn.specs.Notes.{HasNoted, HasNotedIfAny, first_changed};
+ghost use Rattle.table_txn.specs.Found.{kept, is_for, are_for, same_found, IsNoted, IsNotNoted};
 
-use crate::found::{Found, committed_at};
+use crate::found::{Committed, Found, committed_at};
 use std::alloc::Global;
 use std::collections::BTreeMap;
 use std::marker::Model;
@@ -19,10 +20,21 @@ pub(crate) struct Noted {
     pub(crate) is_torn: bool,
 }
 
+impl Noted {
+    /// Whether something else was found at a later read, or is committed now.
+    fn has_changed(&self, committed: Committed) -> bool
+        ensures { result ≡ (self.now.is_torn || not (same_found self.now.found (kept committed.entry))) }
+    {
+        self.is_torn || !self.found.is(committed)
+    }
+}
+
+type NotedPlaces = BTreeMap<Place, Noted>;
+
 /// The places that a transaction read.
 #[derive(Drop)]
 pub(crate) struct Notes {
-    noted: BTreeMap<Place, Noted>,
+    noted: NotedPlaces,
     alloc: Global,
 }
 
@@ -37,6 +49,38 @@ impl Model for Notes {
     ghost view = { λ a. notes_of a.noted.entries };
 
     ghost invariant = { λ a. are_for a.noted.entries ≡ true };
+}
+
+/// Notes one more read of a place, if it was noted before, and tells whether it was.
+fn note_again(noted: &mut NotedPlaces, at: &Place, committed: Committed) -> bool
+    requires kind { is_for at.now (kept committed) ≡ true }
+    requires kinds { are_for noted.old.entries ≡ true }
+    ensures { MatchBool result (IsNoted noted.old.entries at.now (kept committed.entry) noted.new.entries) (IsNotNoted noted.old.entries at.now noted.new.entries) }
+{
+    let Some(there) = noted.get_mut(at) else {
+        return false;
+    };
+    there.is_torn = there.has_changed(committed);
+    true
+}
+
+/// Notes the first read of a place.
+fn note_first(
+    alloc: Global,
+    noted: &mut NotedPlaces,
+    at: Place,
+    committed: Committed,
+) -> Result<(), NoMemory>
+    requires kind { is_for at (kept committed) ≡ true }
+    requires absent { IsNotNoted noted.old.entries at noted.old.entries }
+    requires kinds { are_for noted.old.entries ≡ true }
+    ensures ok { OnOk result (IsNoted noted.old.entries at (kept committed.entry) noted.new.entries) }
+    ensures err { OnErr result (noted.new.entries ≡ noted.old.entries) }
+{
+    let found = Found::new(alloc, committed)?;
+    let is_torn = false;
+    noted.insert(at, Noted { found, is_torn })?;
+    Ok(())
 }
 
 impl Notes {
@@ -55,17 +99,10 @@ impl Notes {
         ensures { OnOk result (HasNoted self.old at (rows_at tables.now.rows at) self.new) }
     {
         let committed = committed_at(tables, &at);
-        match self.noted.get_mut(&at) {
-            Some(noted) => {
-                noted.is_torn = noted.is_torn || !noted.found.is(committed);
-            }
-            None => {
-                let found = Found::new(self.alloc, committed)?;
-                let is_torn = false;
-                self.noted.insert(at, Noted { found, is_torn })?;
-            }
+        if note_again(&mut self.noted, &at, committed) {
+            return Ok(());
         }
-        Ok(())
+        note_first(self.alloc, &mut self.noted, at, committed)
     }
 
     /// Notes a place, if there is one.
@@ -84,7 +121,7 @@ impl Notes {
         ensures { option_copied result ≡ first_changed tables.now.rows self.now }
     {
         for (at, noted) in &self.noted {
-            if noted.is_torn || !noted.found.is(committed_at(tables, at)) {
+            if noted.has_changed(committed_at(tables, at)) {
                 return Some(at);
             }
         }
