@@ -1,7 +1,8 @@
 -- What is kept of places, as notes.
-use Rattle.std.proofs.Common.{◌≡◌, ◌⊎◌, inl, inr, ℕ, Bool, true, false, not, cond, List, [], ◌∷◌, refl, sym, ap, ◌∙◌, subst}
+use Rattle.std.proofs.Common.{◌≡◌, ◌⊎◌, inl, inr, ℕ, Bool, true, false, not, cond, List, [], ◌∷◌, get_or, refl, sym, ap, ◌∙◌, subst}
 use Rattle.std.specs.Prelude.{Option, Some, None, IsSome, option_map, ◌&&◌, ◌||◌, map}
-use Rattle.std.specs.List.{list_all}
+use Rattle.std.specs.List.{list_all, All}
+use Rattle.std.proofs.lemmas.List.Elements.{All-map}
 use Rattle.std.specs.BTreeMap.{BTreeMap, WritesThrough, Updates, is_at, insert_entry}
 use Rattle.std.specs.Map.{lookup, set_value}
 use Rattle.std.specs.declared.cmp.Ordering.{Ordering}
@@ -23,7 +24,7 @@ use Rattle.table_txn.specs.declared.found.Found.{Found}
 use Rattle.table_txn.specs.declared.found.Found.TheVariants as found
 use Rattle.table_txn.specs.declared.notes.Noted.{Noted}
 use Rattle.table_txn.specs.Places.{same_place, same_row, same_rows}
-use Rattle.table_txn.specs.Notes.{Note, note_of, noted, HasNoted, first_changed}
+use Rattle.table_txn.specs.Notes.{Note, note_of, noted, HasNoted, AreApart, first_changed}
 use Rattle.table_txn.specs.Found.{is_for, found_rows, same_optional, same_keyed, same_found, IsFoundAt, note, notes_of, are_for, IsNoted, IsNotNoted}
 use Rattle.table_txn.proofs.Same.{both, both_if, cmp_place_is, same_place_decides, same_place_sym}
 
@@ -208,3 +209,7 @@ changed_here rows entries rest at one what is all stands b tested =
 
 pub rest_fits : (entries rest : Entries) (at : Place) (one : Noted) → entries ≡ (at, one) ∷ rest → are_for entries ≡ true → are_for rest ≡ true
 rest_fits entries rest at one is all = (both (is_for at one.found) (are_for rest) (sym (ap are_for is) ∙ all)).1
+
+-- no place has two entries
+pub entries_apart : (entries : Entries) → All (λ e. looked_up entries e.0 ≡ Some e.1) entries → AreApart (notes_of entries)
+entries_apart entries all = All-map (λ n. note_of (notes_of entries) n.at ≡ Some n) note entries (λ k d lt. note_of-lookup entries (get_or entries k d).0 ∙ ap (option_map (λ one. note ((get_or entries k d).0, one))) (all k d lt))

@@ -6,3 +6,4 @@ pub mod LatestLaws
 pub mod OwnLaws
 pub mod Same
 pub mod FoundLaws
+pub mod NotesLaws

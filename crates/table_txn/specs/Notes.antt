@@ -49,3 +49,7 @@ HasNotedIfAny committed old (Some at) new = HasNoted old at (rows_at committed a
 abbrev pub first_changed : List PlainRow → List Note → Option Place
 first_changed now [] = None
 first_changed now (note ∷ notes) = if note.is_torn || not (same_rows note.found (rows_at now note.at)) then Some note.at else first_changed now notes
+
+-- no place has two notes
+abbrev pub AreApart : List Note → Type 0
+AreApart notes = All (λ note. note_of notes note.at ≡ Some note) notes

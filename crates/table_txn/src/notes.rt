@@ -2,7 +2,7 @@
 ghost use Rattle.std.specs.Prelude.{◌≡◌, ◌||◌, not, true, [], OnOk, OnErr, MatchBool};
 ghost use Rattle.std.specs.Option.{option_copied};
 ghost use Rattle.stmt_meaning.specs.Tables.{rows_at};
-ghost use Rattle.table_txn.specs.Notes.{HasNoted, HasNotedIfAny, first_changed};
+ghost use Rattle.table_txn.specs.Notes.{HasNoted, HasNotedIfAny, AreApart, first_changed};
 ghost use Rattle.table_txn.specs.Found.{kept, is_for, are_for, same_found, IsNoted, IsNotNoted};
 
 use crate::found::{Committed, Found, committed_at};
@@ -118,7 +118,8 @@ impl Notes {
     /// The first place whose note is torn, or where something else is committed now. Linear in the
     /// notes, and in the rows of the tables that were read whole. No memory is taken.
     pub(crate) fn first_changed(&self, tables: &Tables) -> Option<&Place>
-        ensures { option_copied result ≡ first_changed tables.now.rows self.now }
+        ensures first { option_copied result ≡ first_changed tables.now.rows self.now }
+        ensures apart { AreApart self.now }
     {
         for (at, noted) in &self.noted {
             if noted.has_changed(committed_at(tables, at)) {
