@@ -7,3 +7,4 @@ pub mod OwnLaws
 pub mod Same
 pub mod FoundLaws
 pub mod NotesLaws
+pub mod Over
