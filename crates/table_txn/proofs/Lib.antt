@@ -8,3 +8,5 @@ pub mod Same
 pub mod FoundLaws
 pub mod NotesLaws
 pub mod Over
+pub mod Picks
+pub mod ScanSteps
