@@ -10,3 +10,5 @@ pub mod NotesLaws
 pub mod Over
 pub mod Picks
 pub mod ScanSteps
+pub mod Statements
+pub mod Running
