@@ -161,6 +161,11 @@ module _ {S : Type 0} (drew : S → Drew → S → Type 0) (tables : Stored) (na
         (e.more ++ go.0, (go.1.0, (ap (statements_done shape here settings (first ∷ rest)) (sym (append_assoc e.given e.more go.0)) ∙ go.1.1.0, go.1.1.1)))
         (ended_more drew e.between new fault e.more go.0 e.because)
 
+    -- the same, where the source's names are these
+    pub ended_under : (these : List (List ℕ)) → these ≡ names → (fault : TxnFault) (new : S) → Ends drew (λ given. option_map (λ one. one.rest) (mean1 (shape_of tables these) here settings first given)) source fault new → Ends drew call_left before fault new
+    ended_under these same fault new e =
+        ended_there fault new (subst (λ n. Ends drew (λ given. option_map (λ one. one.rest) (mean1 (shape_of tables n) here settings first given)) source fault new) same e)
+
     module _ (result : Answer) (next : Transaction) (new : S) (longer : List Draw) (done : HasDone drew tables names settings now first source drawn result next new longer) where
       -- there was no memory for its answer
       pub lacks_answer : Ends drew call_left before txn_fault.NoMemory new
@@ -241,6 +246,10 @@ module _ {S : Type 0} (drew : S → Drew → S → Type 0) (tables : Stored) (na
         same_pieces = at.same_pieces;
       } in (run, at.drew_all)
 
+pub done_under : {S : Type 0} (drew : S → Drew → S → Type 0) (tables : Stored) (names : List (List ℕ)) (settings : List (List ℕ × Value)) (now : Transaction) (statement : Statement) (source : S) (drawn : List Draw)
+    (these : List (List ℕ)) → these ≡ names → (result : Answer) (next : Transaction) (new : S) (longer : List Draw) → HasDone drew tables these settings now statement source drawn result next new longer → HasDone drew tables names settings now statement source drawn result next new longer
+done_under drew tables names settings now statement source drawn these same result next new longer done = subst (λ n. HasDone drew tables n settings now statement source drawn result next new longer) same done
+
 -- ---- writes that fit
 
 all_append : {X : Type 0} (p : X → Bool) (xs ys : List X) → list_all p xs ≡ true → list_all p ys ≡ true → list_all p (xs ++ ys) ≡ true
@@ -248,11 +257,11 @@ all_append p [] ys h k = k
 all_append p (x ∷ xs) ys h k = let parts = both (p x) (list_all p xs) h in both_if (p x) (list_all p (xs ++ ys)) parts.0 (all_append p xs ys parts.1 k)
 
 -- tables fit with writes that do
-fits_over : (schemas : List Schema) (rows : List PlainRow) (writes : List Write) → tables_fit schemas rows ≡ true → writes_fit schemas writes ≡ true → tables_fit schemas (with_writes rows writes) ≡ true
-fits_over schemas rows [] fit all = fit
-fits_over schemas rows (write ∷ writes) fit all =
+fits_over : (schemas : List Schema) (committed : List PlainRow) (writes : List Write) → tables_fit schemas committed ≡ true → writes_fit schemas writes ≡ true → tables_fit schemas (with_writes committed writes) ≡ true
+fits_over schemas committed [] fit all = fit
+fits_over schemas committed (write ∷ writes) fit all =
     let parts = both (write_fits schemas write) (writes_fit schemas writes) all in
-    fits_over schemas (with_write rows write) writes (all_with_write (fits_one schemas) rows write.table write.key write.row fit (fits_if_any schemas write parts.0)) parts.1
+    fits_over schemas (with_write committed write) writes (all_with_write (fits_one schemas) committed write.table write.key write.row fit (fits_if_any schemas write parts.0)) parts.1
 
 pub run_fits : (tables : Stored) (names : List (List ℕ)) (settings : List (List ℕ × Value)) (old new : Transaction) (statements : List Statement) (answers : List Answer) (draws : List Draw) → AreKept tables → writes_fit tables.schemas old.writes ≡ true
     → HasRun tables names settings old statements answers draws new → writes_fit tables.schemas new.writes ≡ true
