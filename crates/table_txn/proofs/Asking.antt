@@ -51,9 +51,9 @@ values_of-more names settings (first ∷ rest) ds more left r e =
     bind-more more (value_of names settings first ds) (value_of names settings first (ds ++ more)) (λ x over. values_of names settings rest over >>= λ xs last. Some (Ok (x ∷ xs), last))
     (λ s over h. taken-more (wanted names settings first) ds more over s h)
     (λ x over last s h. bind-more more (values_of names settings rest over) (values_of names settings rest (over ++ more)) (λ xs end. Some (Ok (x ∷ xs), end))
-        (λ t end k. values_of-more names settings rest over more end t k)
-        (λ xs end final t k. ap (behind more) k)
-        last s h)
+    (λ t end k. values_of-more names settings rest over more end t k)
+    (λ xs end final t k. ap (behind more) k)
+    last s h)
     left r e
 
 plan_at-more : (shape : Shape) (settings : List (List ℕ × Value)) (asked : Statement) (aim : Result Aim StatementFault) (ds more left : List Draw) (r : Result Plan StatementFault)

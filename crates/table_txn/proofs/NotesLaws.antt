@@ -45,13 +45,14 @@ torn_more : (note : Note) (first what : Found) (later : List Found) → note.fou
     → ((note.is_torn || not (same_rows note.found what)) ≡ false) ↔ All (λ found. found ≡ first) (later ++ what ∷ [])
 torn_more note first what later is torn =
     let same = same_rows_decide note.found what in
-    let P : Found → Type 0 = λ f. f ≡ first in
-    (λ h.
-        let parts = or_parts note.is_torn (not (same_rows note.found what)) h in
-        All-from_recursion P (later ++ what ∷ []) (all_push P later what (recursion_from_All P later (torn.0 parts.0)) (sym (same.0 (un_not (same_rows note.found what) parts.1)) ∙ is)),
-    λ all.
-        let parts = all_split P later what (recursion_from_All P (later ++ what ∷ []) all) in
-        or_none note.is_torn (not (same_rows note.found what)) (torn.1 (All-from_recursion P later parts.0)) (ap not (same.1 (is ∙ sym parts.1))))
+    let P : Found → Type 0 = λ f. f ≡ first in (
+      λ h.
+          let parts = or_parts note.is_torn (not (same_rows note.found what)) h in
+          All-from_recursion P (later ++ what ∷ []) (all_push P later what (recursion_from_All P later (torn.0 parts.0)) (sym (same.0 (un_not (same_rows note.found what) parts.1)) ∙ is)),
+      λ all.
+          let parts = all_split P later what (recursion_from_All P (later ++ what ∷ []) all) in
+          or_none note.is_torn (not (same_rows note.found what)) (torn.1 (All-from_recursion P later parts.0)) (ap not (same.1 (is ∙ sym parts.1))),
+    )
 
 noted_more : (o : Option Note) (founds : List Found) (at : Place) (what : Found) → IsNoteOf o founds → IsNoteOf (Some (noted o at what)) (founds ++ what ∷ [])
 noted_more None [] at what is = (refl, (λ h. All-from_recursion (λ (f : Found). f ≡ what) [] tt, λ h. refl))
@@ -132,7 +133,7 @@ none_changed now (one ∷ rest) at note none there = by_change (none_changed now
 -- what a read found is among what was found at its place
 found_of : (reads : List Read) (read : Read) → Contains reads read → Contains (found_at read.at reads) read.found
 found_of [] read (k, lt, e) = absurd (omega arith)
-found_of (first ∷ rest) read (zero, lt, e) = 
+found_of (first ∷ rest) read (zero, lt, e) =
     let here : same_place first.at read.at ≡ true = (same_place_decides first.at read.at).1 (ap (λ (r : Read). r.at) e) in
     subst (λ b. Contains (map (λ r. r.found) (cond b (first ∷ filter (λ r. same_place r.at read.at) rest) (filter (λ r. same_place r.at read.at) rest))) read.found) (sym here)
     (subst (λ f. Contains (f ∷ found_at read.at rest) read.found) (sym (ap (λ (r : Read). r.found) e)) (contains_first read.found (found_at read.at rest)))

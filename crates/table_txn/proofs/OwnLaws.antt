@@ -60,10 +60,11 @@ pub before_push : (first writes : List Write) (write : Write) (before : List (Op
     → AreBeforeFrom first (writes ++ write ∷ []) (take (length writes) before ++ last_at (first ++ writes) write.table write.key ∷ [])
 before_push first [] write before are = (ap (λ l. last_at l write.table write.key) (append-nil first), tt)
 before_push first (one ∷ writes) write [] are = absurd are
-before_push first (one ∷ writes) write (at ∷ before) are =
-    (are.0,
-    subst (λ (l : List Write). AreBeforeFrom (first ++ one ∷ []) (writes ++ write ∷ []) (take (length writes) before ++ last_at l write.table write.key ∷ [])) (append_assoc first (one ∷ []) writes)
-    (before_push (first ++ one ∷ []) writes write before are.1))
+before_push first (one ∷ writes) write (at ∷ before) are = (
+  are.0,
+  subst (λ (l : List Write). AreBeforeFrom (first ++ one ∷ []) (writes ++ write ∷ []) (take (length writes) before ++ last_at l write.table write.key ∷ [])) (append_assoc first (one ∷ []) writes)
+      (before_push (first ++ one ∷ []) writes write before are.1),
+)
 
 pub before_pop : (first writes : List Write) (write : Write) (before : List (Option ℕ)) → AreBeforeFrom first (writes ++ write ∷ []) before
     → AreBeforeFrom first writes before × (slice_get before (length writes) ≡ Some (last_at (first ++ writes) write.table write.key))

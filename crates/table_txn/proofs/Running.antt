@@ -77,10 +77,18 @@ module _ (shape : Shape) (settings : List (List ℕ × Value)) where
       by_end true e =
           ([], (_, (first_is rows first rest given [] one means used ∙ ap (λ c. cond c (ended_by (record one { rest = [] })) (after_first (record one { rest = [] }) (statements_done shape (with_writes rows one.writes) settings rest []))) e, refl)))
       by_end false e =
-          let go = others (with_writes rows one.writes) in
-          (go.0, (_, (first_is rows first rest given go.0 one means used
-              ∙ ap (λ c. cond c (ended_by (record one { rest = go.0 })) (after_first (record one { rest = go.0 }) (statements_done shape (with_writes rows one.writes) settings rest go.0))) e
-              ∙ ap (after_first (record one { rest = go.0 })) go.1.1.0, go.1.1.1)))
+          let go = others (with_writes rows one.writes) in (
+            go.0,
+            (
+              _,
+              (
+                first_is rows first rest given go.0 one means used
+                    ∙ ap (λ c. cond c (ended_by (record one { rest = go.0 })) (after_first (record one { rest = go.0 }) (statements_done shape (with_writes rows one.writes) settings rest go.0))) e
+                    ∙ ap (after_first (record one { rest = go.0 })) go.1.1.0,
+                go.1.1.1,
+              ),
+            ),
+          )
 
   -- there are always draws with which statements run to their end
   pub enough_all : (statements : List Statement) (rows : List PlainRow) → Enough rows statements []

@@ -108,13 +108,14 @@ same_row_decides : (a b : PlainRow) → Decides (same_row a b) (a ≡ b)
 same_row_decides a b =
     let tables = bytes_decide a.table b.table in
     let keys = same_value_decides a.key b.key in
-    let rows = values_decide a.row b.row in
-    (λ h.
-        let p = both (bytes_eq a.table b.table) (same_value a.key b.key && pointwise same_value a.row b.row) h in
-        let q = both (same_value a.key b.key) (pointwise same_value a.row b.row) p.1 in
-        row_is a b (tables.0 p.0) (keys.0 q.0) (rows.0 q.1),
-    λ e. both_if (bytes_eq a.table b.table) (same_value a.key b.key && pointwise same_value a.row b.row) (tables.1 (ap (λ (r : PlainRow). r.table) e))
-        (both_if (same_value a.key b.key) (pointwise same_value a.row b.row) (keys.1 (ap (λ (r : PlainRow). r.key) e)) (rows.1 (ap (λ (r : PlainRow). r.row) e))))
+    let rows = values_decide a.row b.row in (
+      λ h.
+          let p = both (bytes_eq a.table b.table) (same_value a.key b.key && pointwise same_value a.row b.row) h in
+          let q = both (same_value a.key b.key) (pointwise same_value a.row b.row) p.1 in
+          row_is a b (tables.0 p.0) (keys.0 q.0) (rows.0 q.1),
+      λ e. both_if (bytes_eq a.table b.table) (same_value a.key b.key && pointwise same_value a.row b.row) (tables.1 (ap (λ (r : PlainRow). r.table) e))
+          (both_if (same_value a.key b.key) (pointwise same_value a.row b.row) (keys.1 (ap (λ (r : PlainRow). r.key) e)) (rows.1 (ap (λ (r : PlainRow). r.row) e))),
+    )
 
 pub same_rows_decide : (a b : List PlainRow) → Decides (same_rows a b) (a ≡ b)
 same_rows_decide = pointwise_decides same_row_decides

@@ -252,7 +252,7 @@ module _ (rows : List PlainRow) (writes : List Write) (table : List ℕ) where
           ∙ map-append (λ (r : PlainRow). r.row) (pick (range_contains value_cmp lo (Excluded key)) seen) (pick (λ q. same_value q key) seen ++ pick (from (Excluded key)) seen)
           ∙ ap (λ l. l ++ rows_of (pick (λ q. same_value q key) seen ++ pick (from (Excluded key)) seen)) (committed_part shelf there lo (Excluded key) (none_between lo left rest key at are is))
           ∙ ap (λ l. below ++ l)
-              (map-append (λ (r : PlainRow). r.row) (pick (λ q. same_value q key) seen) (pick (from (Excluded key)) seen) ∙ ap (λ l. l ++ behind) (own_part key at (key_last lo left rest key at are is) write found)) in
+          (map-append (λ (r : PlainRow). r.row) (pick (λ q. same_value q key) seen) (pick (from (Excluded key)) seen) ∙ ap (λ l. l ++ behind) (own_part key at (key_last lo left rest key at are is) write found)) in
           ap (λ s. last_answer (fold next_scan s behind)) written ∙ ap last_answer (own_then between own behind) ∙ shown (option_to_list own ++ behind)
           ∙ ap (λ l. last_answer (fold next_scan scan l)) (sym parts) ∙ so_far
 

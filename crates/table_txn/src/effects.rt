@@ -14,12 +14,7 @@ use svc_values::{Name, NoMemory, Row, Value};
 use table_store::Tables;
 
 /// The row of a key, as the transaction sees it: the logarithm of the rows and of its own writes.
-fn row_at<'a>(
-    tables: &'a Tables,
-    own: &'a OwnWrites,
-    table: &Name,
-    key: &Value,
-) -> Option<&'a Row>
+fn row_at<'a>(tables: &'a Tables, own: &'a OwnWrites, table: &Name, key: &Value) -> Option<&'a Row>
     requires { AreTables tables.now.rows }
     ensures { option_copied result ≡ first_of (seen_at (with_writes tables.now.rows own.now) (Some (Place.Row table.now key.now))) }
 {

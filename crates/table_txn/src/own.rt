@@ -53,12 +53,7 @@ fn shorten(alloc: Global, writes: &mut Writes, count: usize)
 }
 
 /// The write at this place is the last one of its table and key.
-fn index(
-    alloc: Global,
-    writes: &Writes,
-    latest: &mut Latest,
-    at: usize,
-) -> Result<(), NoMemory>
+fn index(alloc: Global, writes: &Writes, latest: &mut Latest, at: usize) -> Result<(), NoMemory>
     ensures ok { OnOk result ((write : OneWrite) → slice_get writes.now at ≡ Some write → HasPlace latest.old write.table write.key (Some at) latest.new) }
     ensures err { OnErr result (HasSamePlaces latest.old latest.new) }
 {

@@ -99,7 +99,13 @@ fn show_committed(
     requires { (key : Key) → last_at own.now table.now key ≡ None }
     ensures { IfOk result (λ after. last_answer after ≡ last_answer (fold next_scan scan (seen_at (with_writes tables.now.rows own.now) (Some (place.Table table.now))))) }
 {
-    show_between(alloc, scan, tables.row_map(table), Bound::Unbounded, Bound::Unbounded)
+    show_between(
+        alloc,
+        scan,
+        tables.row_map(table),
+        Bound::Unbounded,
+        Bound::Unbounded,
+    )
 }
 
 /// The answer from all rows of a table, as the transaction sees them. Linear in the committed rows, and

@@ -309,7 +309,12 @@ fn a_refused_call_keeps_its_reads_and_draws(rt: HostRuntime) -> Result<(), Fail>
     let alloc = rt.alloc();
     let mut tables = accounts(alloc, &[100, 200])?;
     let mut txn = Txn::new(alloc);
-    run(alloc, &mut txn, &tables, update(alloc, 2, Change::To(int(1)))?)?;
+    run(
+        alloc,
+        &mut txn,
+        &tables,
+        update(alloc, 2, Change::To(int(1)))?,
+    )?;
     let mut draws = source(alloc, &[17, 18])?;
     let mut statements = Vec::new(alloc);
     statements.push(update(alloc, 2, Change::To(int(2)))?)?;

@@ -21,7 +21,7 @@ returns-in_err-value_of-clause-read g c =
     let n : c.len.result ≡ length values = omega (arith, c.loop-operand.values.ok.0) in
     let here = sym (ap (slice_get operands) n) ∙ sym c.in-Some.ensures.operand in
     rw (p.1, p.2) (fails g.F.DrawFrom.drew (g.F.DrawFrom.names c.args.source.now) c.args.settings.now operands c.args.source.now c.args.drawn.now.items values c.loop-operand.source c.loop-operand.drawn.items c.loop-operand.invariant.so_far
-        c.in-Some.operand.now here (g.F.DrawFrom.names c.loop-operand.source) c.loop-operand.invariant.names c.value_of.new.source c.value_of.new.drawn.items c.in_err-value_of.field-0.0 c.in_err-value_of.ensures.read)
+    c.in-Some.operand.now here (g.F.DrawFrom.names c.loop-operand.source) c.loop-operand.invariant.names c.value_of.new.source c.value_of.new.drawn.items c.in_err-value_of.field-0.0 c.in_err-value_of.ensures.read)
 
 pub loop-operand-preserved : goal.loop-operand-preserved
 loop-operand-preserved g c =
@@ -44,7 +44,7 @@ returns-in_err-push-clause-read g c =
     let n : c.len.result ≡ length values = omega (arith, c.loop-operand.values.ok.0) in
     let here = sym (ap (slice_get operands) n) ∙ sym c.in-Some.ensures.operand in
     rw (p.1, p.2) (lacks g.F.DrawFrom.drew (g.F.DrawFrom.names c.args.source.now) c.args.settings.now operands c.args.source.now c.args.drawn.now.items values c.loop-operand.source c.loop-operand.drawn.items c.loop-operand.invariant.so_far
-        c.in-Some.operand.now here (g.F.DrawFrom.names c.loop-operand.source) c.loop-operand.invariant.names c.value_of.new.source c.value_of.new.drawn.items c.in_ok-value_of.field-0 c.in_ok-value_of.ensures.read)
+    c.in-Some.operand.now here (g.F.DrawFrom.names c.loop-operand.source) c.loop-operand.invariant.names c.value_of.new.source c.value_of.new.drawn.items c.in_ok-value_of.field-0 c.in_ok-value_of.ensures.read)
 
 pub returns-clause-read : goal.returns-clause-read
 returns-clause-read g c =

@@ -46,7 +46,7 @@ returns-then-is_settled c =
     let write : option_copied c.get.result ≡ slice_get writes c.in-Some.at.now = c.get.ensures ∙ ap (λ w. slice_get w c.in-Some.at.now) c.writes-writes.ensures in
     answers_settled rows writes c.args.table.now c.args.scan c.in_ok-scan-2.scan (Excluded c.in-Some.key.now)
     (answers_next rows writes c.args.table.now c.args.scan (option_copied c.row_map-rows.result) c.row_map-rows.ensures.rows c.requires.ordered lo c.loop-key.key-iterator c.next.new.self c.in-Some.key.now c.in-Some.at.now c.loop-key.invariant.keys c.in-Some.ensures.steps c.loop-key.scan c.loop-key.invariant.answers
-        c.in_ok-scan.scan c.in_ok-scan.ensures (option_copied c.get.result) write c.in_ok-scan-2.scan c.in_ok-scan-2.ensures)
+    c.in_ok-scan.scan c.in_ok-scan.ensures (option_copied c.get.result) write c.in_ok-scan-2.scan c.in_ok-scan-2.ensures)
     (c.is_settled.ensures.settled c.if-is_settled.true)
 
 pub returns : goal.returns

@@ -62,14 +62,14 @@ returns-then-is_refused-clause-ran g c =
     let next = c.run_statement.new.self in
     let taken = c.take_back.ensures ∙ ap (λ n. let t : Transaction = record next { writes = take n next.writes } in t) c.count-count.ensures in
     rw c.what_ran.ensures (refused g.F.DrawFrom.drew c.args.tables.now names c.args.settings.now c.args.self.now statements c.args.draws.now l.answers.items l.drawn.items l.self l.draws c.statement-item.result _ at c.in_ok-answer.answer next c.run_statement.new.source c.run_statement.new.drawn.items done
-        (sym c.is_refusal-is_refused.ensures ∙ c.if-is_refused.true) c.push.new.self.items c.in_ok-push.ensures.items c.take_back.new.self taken)
+    (sym c.is_refusal-is_refused.ensures ∙ c.if-is_refused.true) c.push.new.self.items c.in_ok-push.ensures.items c.take_back.new.self taken)
 
 pub returns-clause-ran : goal.returns-clause-ran
 returns-clause-ran g c =
     let l = c.loop-statement in
     let statements = c.args.statements.now in
     rw c.what_ran-2.ensures (ran_all g.F.DrawFrom.drew c.args.tables.now (g.F.DrawFrom.names c.args.draws.now) c.args.settings.now c.args.self.now statements c.args.draws.now l.answers.items l.drawn.items l.self l.draws statements l.statement-index
-        (subst (λ s. length s ≤ l.statement-index) l.invariant.items (omega arith)) l.invariant.so_far)
+    (subst (λ s. length s ≤ l.statement-index) l.invariant.items (omega arith)) l.invariant.so_far)
 
 pub returns-clause-fits : goal.returns-clause-fits
 returns-clause-fits g c =
