@@ -1,0 +1,215 @@
+-- What is kept of places, as notes.
+use Rattle.std.proofs.Common.{◌≡◌, ◌⊎◌, inl, inr, ℕ, Bool, true, false, not, cond, List, [], ◌∷◌, get_or, refl, sym, ap, ◌∙◌, subst}
+use Rattle.std.specs.Prelude.{Option, Some, None, IsSome, option_map, ◌&&◌, ◌||◌, map}
+use Rattle.std.specs.List.{list_all, All}
+use Rattle.std.proofs.lemmas.List.Elements.{All-map}
+use Rattle.std.specs.BTreeMap.{BTreeMap, WritesThrough, Updates, is_at, insert_entry}
+use Rattle.std.specs.Map.{lookup, set_value}
+use Rattle.std.specs.declared.cmp.Ordering.{Ordering}
+use Rattle.std.specs.declared.cmp.Ordering.TheVariants.{Less, Equal, Greater}
+use Rattle.std.specs.Ordering.{is_eq, match_ordering}
+use Rattle.std.specs.Cmp.Lexicographic.{pointwise}
+use Rattle.std.specs.Str.{bytes_eq}
+use Rattle.std.proofs.lemmas.Bool.{cases_Bool}
+use Rattle.svc_values.specs.declared.value.Value.{Value}
+use Rattle.svc_values.specs.Same.{same_value}
+use Rattle.svc_values.specs.SameLaws.{bytes_decide, same_value_decides}
+use Rattle.stmt_meaning.specs.declared.tables.PlainRow.{PlainRow}
+use Rattle.stmt_meaning.specs.declared.tables.Place.{Place}
+use Rattle.stmt_meaning.specs.declared.tables.Place.TheVariants as place
+use Rattle.stmt_meaning.specs.contracts.tables.PlaceOrd.TheImpl.{cmp-value as cmp-place}
+use Rattle.stmt_meaning.specs.Tables.{rows_at}
+use Rattle.table_store.specs.Rows.{Keyed, plain_row, plain_rows, row_if_any}
+use Rattle.table_txn.specs.declared.found.Found.{Found}
+use Rattle.table_txn.specs.declared.found.Found.TheVariants as found
+use Rattle.table_txn.specs.declared.notes.Noted.{Noted}
+use Rattle.table_txn.specs.Places.{same_place, same_row, same_rows}
+use Rattle.table_txn.specs.Notes.{Note, note_of, noted, HasNoted, AreApart, first_changed}
+use Rattle.table_txn.specs.Found.{is_for, found_rows, same_optional, same_keyed, same_found, IsFoundAt, note, notes_of, are_for, IsNoted, IsNotNoted}
+use Rattle.table_txn.proofs.Same.{both, both_if, cmp_place_is, same_place_decides, same_place_sym}
+
+-- ---- what is compared as the same
+
+true_and : (a b : Bool) → a ≡ true → (a && b) ≡ b
+true_and a b h = ap (λ x. x && b) h
+
+and_true : (b : Bool) → b ≡ (b && true)
+and_true true = refl
+and_true false = refl
+
+same_plain : (table : List ℕ) (key l : Value) (a b : List Value) → same_row (record { table = table; key = key; row = a }) (record { table = table; key = l; row = b }) ≡ (same_value key l && pointwise same_value a b)
+same_plain table key l a b = true_and (bytes_eq table table) (same_value key l && pointwise same_value a b) ((bytes_decide table table).1 refl)
+
+same_rows_of : (table : List ℕ) (key : Value) (a b : Option (List Value)) → same_optional a b ≡ same_rows (row_if_any table key a) (row_if_any table key b)
+same_rows_of table key None None = refl
+same_rows_of table key None (Some b) = refl
+same_rows_of table key (Some a) None = refl
+same_rows_of table key (Some a) (Some b) =
+    and_true (pointwise same_value a b)
+    ∙ ap (λ x. x && true) (sym (same_plain table key key a b ∙ true_and (same_value key key) (pointwise same_value a b) ((same_value_decides key key).1 refl)))
+
+same_tables_of : (table : List ℕ) (a b : Keyed) → same_keyed a b ≡ same_rows (plain_rows table a) (plain_rows table b)
+same_tables_of table [] [] = refl
+same_tables_of table [] (y ∷ ys) = refl
+same_tables_of table (x ∷ xs) [] = refl
+same_tables_of table (x ∷ xs) (y ∷ ys) =
+    ap (λ b. (same_value x.0 y.0 && pointwise same_value x.1 y.1) && b) (same_tables_of table xs ys)
+    ∙ ap (λ b. b && same_rows (plain_rows table xs) (plain_rows table ys)) (sym (same_plain table x.0 y.0 x.1 y.1))
+
+-- what is kept of one place is the same where its rows are
+pub same_found_is : (at : Place) (a b : Found) → is_for at a ≡ true → is_for at b ≡ true → same_found a b ≡ same_rows (found_rows at a) (found_rows at b)
+same_found_is (place.Row table key) (found.Row a) (found.Row b) h k = same_rows_of table key a b
+same_found_is (place.Row table key) (found.Row a) (found.Table b) h k = cc
+same_found_is (place.Row table key) (found.Table a) b h k = cc
+same_found_is (place.Table table) (found.Row a) b h k = cc
+same_found_is (place.Table table) (found.Table a) (found.Row b) h k = cc
+same_found_is (place.Table table) (found.Table a) (found.Table b) h k = same_tables_of table a b
+
+-- ---- notes by their maps
+
+abbrev Entries : Type 0
+Entries = List (Place × Noted)
+
+abbrev looked_up : Entries → Place → Option Noted
+looked_up entries q = lookup (is_at (cmp-place.it q)) entries
+
+at_key : (q p : Place) → is_at (cmp-place.it q) p ≡ same_place p q
+at_key q p = cmp_place_is q p ∙ same_place_sym q p
+
+-- the note of a place is that of its entry
+pub note_of-lookup : (entries : Entries) (q : Place) → note_of (notes_of entries) q ≡ option_map (λ one. note (q, one)) (looked_up entries q)
+note_of-lookup [] q = refl
+note_of-lookup (entry ∷ rest) q = by_place (note_of-lookup rest q) (cases_Bool (same_place entry.0 q))
+  where
+    by_place : note_of (notes_of rest) q ≡ option_map (λ one. note (q, one)) (looked_up rest q) → (same_place entry.0 q ≡ true) ⊎ (same_place entry.0 q ≡ false) → note_of (notes_of (entry ∷ rest)) q ≡ option_map (λ one. note (q, one)) (looked_up (entry ∷ rest) q)
+    by_place others (inl here) =
+        let same : entry.0 ≡ q = (same_place_decides entry.0 q).0 here in
+        ap (λ b. cond b (Some (note entry)) (note_of (notes_of rest) q)) here
+        ∙ ap (λ (p : Place). Some (note (p, entry.1))) same
+        ∙ sym (ap (λ b. option_map (λ one. note (q, one)) (cond b (Some entry.1) (looked_up rest q))) (at_key q entry.0 ∙ here))
+    by_place others (inr apart) =
+        ap (λ b. cond b (Some (note entry)) (note_of (notes_of rest) q)) apart
+        ∙ others
+        ∙ sym (ap (λ b. option_map (λ one. note (q, one)) (cond b (Some entry.1) (looked_up rest q))) (at_key q entry.0 ∙ apart))
+
+-- a change of one entry
+has_noted : (old new : Entries) (at : Place) (one : Noted) (what : Found) → ((q : Place) → looked_up new q ≡ cond (is_at (cmp-place.it at) q) (Some one) (looked_up old q))
+    → Some (note (at, one)) ≡ Some (noted (note_of (notes_of old) at) at (found_rows at what)) → HasNoted (notes_of old) at (found_rows at what) (notes_of new)
+has_noted old new at one what changed is q = by_place (cases_Bool (same_place at q))
+  where
+    made : Note
+    made = noted (note_of (notes_of old) at) at (found_rows at what)
+
+    there : note_of (notes_of new) q ≡ option_map (λ n. note (q, n)) (cond (same_place at q) (Some one) (looked_up old q))
+    there = note_of-lookup new q ∙ ap (option_map (λ n. note (q, n))) (changed q ∙ ap (λ b. cond b (Some one) (looked_up old q)) (cmp_place_is at q))
+
+    by_place : (same_place at q ≡ true) ⊎ (same_place at q ≡ false) → note_of (notes_of new) q ≡ cond (same_place at q) (Some made) (note_of (notes_of old) q)
+    by_place (inl here) =
+        let same : at ≡ q = (same_place_decides at q).0 here in
+        there ∙ ap (λ b. option_map (λ n. note (q, n)) (cond b (Some one) (looked_up old q))) here
+        ∙ ap (λ (p : Place). Some (note (p, one))) (sym same) ∙ is
+        ∙ sym (ap (λ b. cond b (Some made) (note_of (notes_of old) q)) here)
+    by_place (inr apart) =
+        there ∙ ap (λ b. option_map (λ n. note (q, n)) (cond b (Some one) (looked_up old q))) apart
+        ∙ sym (note_of-lookup old q)
+        ∙ sym (ap (λ b. cond b (Some made) (note_of (notes_of old) q)) apart)
+
+-- ---- each note has what its place may have
+
+abbrev fits : Place × Noted → Bool
+fits entry = is_for entry.0 entry.1.found
+
+lookup_fits : (entries : Entries) (at : Place) (one : Noted) → are_for entries ≡ true → looked_up entries at ≡ Some one → is_for at one.found ≡ true
+lookup_fits [] at one all there = cc
+lookup_fits (entry ∷ rest) at one all there = by_place (lookup_fits rest at one) (cases_Bool (is_at (cmp-place.it at) entry.0))
+  where
+    parts : (fits entry ≡ true) × (are_for rest ≡ true)
+    parts = both (fits entry) (are_for rest) all
+
+    some_inj : (a b : Noted) → ◌≡◌ {A = Option Noted} (Some a) (Some b) → a ≡ b
+    some_inj a b e = cc
+
+    by_place : (are_for rest ≡ true → looked_up rest at ≡ Some one → is_for at one.found ≡ true) → (is_at (cmp-place.it at) entry.0 ≡ true) ⊎ (is_at (cmp-place.it at) entry.0 ≡ false) → is_for at one.found ≡ true
+    by_place others (inl here) =
+        let same : entry.0 ≡ at = (same_place_decides entry.0 at).0 (sym (at_key at entry.0) ∙ here) in
+        let is : entry.1 ≡ one = some_inj entry.1 one (sym (ap (λ b. cond b (Some entry.1) (looked_up rest at)) here) ∙ there) in
+        subst (λ (p : Place). is_for p one.found ≡ true) same (subst (λ (n : Noted). is_for entry.0 n.found ≡ true) is parts.0)
+    by_place others (inr apart) = others parts.1 (sym (ap (λ b. cond b (Some entry.1) (looked_up rest at)) apart) ∙ there)
+
+set_fits : (entries : Entries) (at : Place) (one : Noted) → are_for entries ≡ true → is_for at one.found ≡ true → are_for (set_value (is_at (cmp-place.it at)) entries one) ≡ true
+set_fits [] at one all here = refl
+set_fits (entry ∷ rest) at one all fit = by_place (λ h. set_fits rest at one h fit) (cases_Bool (is_at (cmp-place.it at) entry.0))
+  where
+    parts : (fits entry ≡ true) × (are_for rest ≡ true)
+    parts = both (fits entry) (are_for rest) all
+
+    by_place : (are_for rest ≡ true → are_for (set_value (is_at (cmp-place.it at)) rest one) ≡ true) → (is_at (cmp-place.it at) entry.0 ≡ true) ⊎ (is_at (cmp-place.it at) entry.0 ≡ false) → are_for (set_value (is_at (cmp-place.it at)) (entry ∷ rest) one) ≡ true
+    by_place others (inl here) =
+        let same : entry.0 ≡ at = (same_place_decides entry.0 at).0 (sym (at_key at entry.0) ∙ here) in
+        ap (λ b. are_for (cond b ((entry.0, one) ∷ rest) (entry ∷ set_value (is_at (cmp-place.it at)) rest one))) here
+        ∙ both_if (is_for entry.0 one.found) (are_for rest) (subst (λ (p : Place). is_for p one.found ≡ true) (sym same) fit) parts.1
+    by_place others (inr apart) =
+        ap (λ b. are_for (cond b ((entry.0, one) ∷ rest) (entry ∷ set_value (is_at (cmp-place.it at)) rest one))) apart
+        ∙ both_if (fits entry) (are_for (set_value (is_at (cmp-place.it at)) rest one)) parts.0 (others parts.1)
+
+insert_fits : (entries : Entries) (at : Place) (one : Noted) → are_for entries ≡ true → is_for at one.found ≡ true → are_for (insert_entry cmp-place.it entries at one) ≡ true
+insert_fits [] at one all fit = both_if (is_for at one.found) true fit refl
+insert_fits (entry ∷ rest) at one all fit = by_order (λ h. insert_fits rest at one h fit) (cmp-place.it at entry.0) refl
+  where
+    parts : (fits entry ≡ true) × (are_for rest ≡ true)
+    parts = both (fits entry) (are_for rest) all
+
+    by_order : (are_for rest ≡ true → are_for (insert_entry cmp-place.it rest at one) ≡ true) → (o : Ordering) → cmp-place.it at entry.0 ≡ o → are_for (match_ordering o ((at, one) ∷ entry ∷ rest) ((entry.0, one) ∷ rest) (entry ∷ insert_entry cmp-place.it rest at one)) ≡ true
+    by_order others Less e = both_if (is_for at one.found) (are_for (entry ∷ rest)) fit all
+    by_order others Equal e =
+        let same : entry.0 ≡ at = (same_place_decides entry.0 at).0 (sym (at_key at entry.0) ∙ ap is_eq e) in
+        both_if (is_for entry.0 one.found) (are_for rest) (subst (λ (p : Place). is_for p one.found ≡ true) (sym same) fit) parts.1
+    by_order others Greater e = both_if (fits entry) (are_for (insert_entry cmp-place.it rest at one)) parts.0 (others parts.1)
+
+-- ---- one more read
+
+-- of a place that was noted before
+pub noted_again : (old new : BTreeMap Place Noted) (at : Place) (there one : Noted) (what : Found) → are_for old.entries ≡ true → is_for at what ≡ true → Some there ≡ looked_up old.entries at
+    → one ≡ record { found = there.found; is_torn = there.is_torn || not (same_found there.found what) } → WritesThrough cmp-place.it (cmp-place.it at) old one new → IsNoted old.entries at what new.entries
+noted_again old new at there one what all kind found is written = record {
+  has = has_noted old.entries new.entries at one what ((written.3 (subst IsSome found refl)).0)
+      (ap (λ (n : Noted). Some (note (at, n))) is
+      ∙ ap (λ b. Some (record { at = at; found = found_rows at there.found; is_torn = there.is_torn || not b })) (same_found_is at there.found what fit kind)
+      ∙ sym (ap (λ o. Some (noted o at (found_rows at what))) (note_of-lookup old.entries at ∙ ap (option_map (λ n. note (at, n))) (sym found))));
+  kinds = ap are_for written.0 ∙ set_fits old.entries at one all (ap (λ (n : Noted). is_for at n.found) is ∙ fit);
+}
+  where
+    fit : is_for at there.found ≡ true
+    fit = lookup_fits old.entries at there all (sym found)
+
+-- of a place without a note
+pub not_noted : (old : Entries) (at : Place) → None ≡ looked_up old at → note_of (notes_of old) at ≡ None
+not_noted old at away = note_of-lookup old at ∙ ap (option_map (λ n. note (at, n))) (sym away)
+
+pub noted_first : (old new : BTreeMap Place Noted) (at : Place) (one : Noted) (what : Found) → are_for old.entries ≡ true → is_for at what ≡ true → note_of (notes_of old.entries) at ≡ None
+    → one ≡ record { found = what; is_torn = false } → Updates cmp-place.it old new at (Some one) → new.entries ≡ insert_entry cmp-place.it old.entries at one → IsNoted old.entries at what new.entries
+noted_first old new at one what all kind away is updated put = record {
+  has = has_noted old.entries new.entries at one what updated.0
+      (ap (λ (n : Noted). Some (note (at, n))) is ∙ sym (ap (λ o. Some (noted o at (found_rows at what))) away));
+  kinds = ap are_for put ∙ insert_fits old.entries at one all (ap (λ (n : Noted). is_for at n.found) is ∙ kind);
+}
+
+-- ---- the first that has changed
+
+-- a note that was looked at
+pub changed_is : (rows : List PlainRow) (at : Place) (one : Noted) (what : Found) → is_for at one.found ≡ true → IsFoundAt rows at what
+    → (one.is_torn || not (same_found one.found what)) ≡ ((note (at, one)).is_torn || not (same_rows (note (at, one)).found (rows_at rows at)))
+changed_is rows at one what fit stands = ap (λ b. one.is_torn || not b) (same_found_is at one.found what fit stands.kind ∙ ap (same_rows (found_rows at one.found)) (sym stands.stands))
+
+pub changed_here : (rows : List PlainRow) (entries rest : Entries) (at : Place) (one : Noted) (what : Found) → entries ≡ (at, one) ∷ rest → are_for entries ≡ true → IsFoundAt rows at what
+    → (b : Bool) → b ≡ (one.is_torn || not (same_found one.found what)) → first_changed rows (notes_of entries) ≡ cond b (Some at) (first_changed rows (notes_of rest))
+changed_here rows entries rest at one what is all stands b tested =
+    let fit = both (is_for at one.found) (are_for rest) (sym (ap are_for is) ∙ all) in
+    ap (λ l. first_changed rows (notes_of l)) is ∙ ap (λ c. cond c (Some at) (first_changed rows (notes_of rest))) (sym (tested ∙ changed_is rows at one what fit.0 stands))
+
+pub rest_fits : (entries rest : Entries) (at : Place) (one : Noted) → entries ≡ (at, one) ∷ rest → are_for entries ≡ true → are_for rest ≡ true
+rest_fits entries rest at one is all = (both (is_for at one.found) (are_for rest) (sym (ap are_for is) ∙ all)).1
+
+-- no place has two entries
+pub entries_apart : (entries : Entries) → All (λ e. looked_up entries e.0 ≡ Some e.1) entries → AreApart (notes_of entries)
+entries_apart entries all = All-map (λ n. note_of (notes_of entries) n.at ≡ Some n) note entries (λ k d lt. note_of-lookup entries (get_or entries k d).0 ∙ ap (option_map (λ one. note ((get_or entries k d).0, one))) (all k d lt))

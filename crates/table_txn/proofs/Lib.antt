@@ -1,0 +1,14 @@
+pub mod Asking
+pub mod Drawn
+pub mod Values
+pub mod Planned
+pub mod LatestLaws
+pub mod OwnLaws
+pub mod Same
+pub mod FoundLaws
+pub mod NotesLaws
+pub mod Over
+pub mod Picks
+pub mod ScanSteps
+pub mod Statements
+pub mod Running

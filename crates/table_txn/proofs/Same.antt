@@ -1,0 +1,121 @@
+-- Places, values and rows that are compared as the same are the same.
+use Rattle.std.proofs.Common.{◌≡◌, ℕ, Bool, true, false, List, [], ◌∷◌, refl, sym, ap, ◌∙◌, subst}
+use Rattle.std.specs.Prelude.{Option, Some, None, ◌&&◌}
+use Rattle.std.specs.Bool.{Decides, one_answer}
+use Rattle.std.specs.Str.{bytes_eq}
+use Rattle.std.specs.declared.cmp.Ordering.{Ordering}
+use Rattle.std.specs.declared.cmp.Ordering.TheVariants.{Less, Equal, Greater}
+use Rattle.std.specs.Ordering.{nat_cmp, is_eq, ordering_then}
+use Rattle.std.specs.Cmp.Lexicographic.{slice_cmp, pointwise, pointwise_decides}
+use Rattle.std.proofs.lemmas.Cmp.{nat_list_cmp_total, tied_itself}
+use Rattle.std.proofs.lemmas.Map.Lookups.{exact_bytes}
+use Rattle.svc_values.specs.declared.value.Value.{Value}
+use Rattle.svc_values.specs.declared.value.Value.TheVariants as value
+use Rattle.svc_values.specs.contracts.value.ValueOrd.TheImpl.{cmp-value}
+use Rattle.svc_values.specs.contracts.value.ValuePartialEq.TheImpl.{eq-value}
+use Rattle.svc_values.specs.Order.{value_cmp}
+use Rattle.svc_values.specs.Same.{same_value}
+use Rattle.svc_values.specs.SameLaws.{bytes_decide, same_value_decides}
+use Rattle.svc_values.proofs.ValueOrder.{value_cmp_total, exact_values}
+use Rattle.stmt_meaning.specs.declared.tables.PlainRow.{PlainRow}
+use Rattle.stmt_meaning.specs.declared.tables.Place.{Place}
+use Rattle.stmt_meaning.specs.declared.tables.Place.TheVariants as place
+use Rattle.stmt_meaning.specs.contracts.tables.PlaceOrd.TheImpl.{cmp-value as cmp-place}
+use Rattle.table_store.proofs.ValueCmp.{cmp_is}
+use Rattle.table_txn.specs.Places.{same_place, same_row, same_rows}
+
+by_kind : (a b : Value) → eq-value.it a b ≡ same_value a b
+by_kind (value.Int a) (value.Int b) = refl
+by_kind (value.Int a) (value.Text b) = refl
+by_kind (value.Int a) (value.Bytes b) = refl
+by_kind (value.Text a) (value.Int b) = refl
+by_kind (value.Text a) (value.Text b) = refl
+by_kind (value.Text a) (value.Bytes b) = refl
+by_kind (value.Bytes a) (value.Int b) = refl
+by_kind (value.Bytes a) (value.Text b) = refl
+by_kind (value.Bytes a) (value.Bytes b) = refl
+
+-- `==` of values
+pub eq_is : ◌≡◌ {A = Value → Value → Bool} eq-value.it same_value
+eq_is = λ i a b. by_kind a b i
+
+pub both : (a b : Bool) → (a && b) ≡ true → (a ≡ true) × (b ≡ true)
+both true true h = (refl, refl)
+both true false h = cc
+both false b h = cc
+
+pub both_if : (a b : Bool) → a ≡ true → b ≡ true → (a && b) ≡ true
+both_if true true h k = refl
+both_if true false h k = k
+both_if false b h k = h
+
+rows_alike : (t u : List ℕ) (k l : Value) → t ≡ u → k ≡ l → place.Row t k ≡ place.Row u l
+rows_alike t u k l p q = ap (λ x. place.Row x k) p ∙ ap (place.Row u) q
+
+pub same_place_decides : (a b : Place) → Decides (same_place a b) (a ≡ b)
+same_place_decides (place.Row t k) (place.Row u l) =
+    let d = bytes_decide t u in
+    let e = same_value_decides k l in
+    (λ h. let p = both (bytes_eq t u) (same_value k l) h in rows_alike t u k l (d.0 p.0) (e.0 p.1), λ h. both_if (bytes_eq t u) (same_value k l) (d.1 (cc)) (e.1 (cc)))
+same_place_decides (place.Row t k) (place.Table u) = (λ h. cc, λ e. cc)
+same_place_decides (place.Table t) (place.Row u l) = (λ h. cc, λ e. cc)
+same_place_decides (place.Table t) (place.Table u) = let d = bytes_decide t u in (λ h. ap place.Table (d.0 h), λ e. d.1 (cc))
+
+equal_from : (o : Ordering) → is_eq o ≡ true → o ≡ Equal
+equal_from Less h = cc
+equal_from Equal h = refl
+equal_from Greater h = cc
+
+then_parts : (o p : Ordering) → ordering_then o p ≡ Equal → (o ≡ Equal) × (p ≡ Equal)
+then_parts Less p h = cc
+then_parts Equal p h = (refl, h)
+then_parts Greater p h = cc
+
+exact_derived : (a b : Value) → cmp-value.it a b ≡ Equal → a ≡ b
+exact_derived a b h = exact_values a b (subst (λ (f : Value → Value → Ordering). f a b ≡ Equal) cmp_is h)
+
+exact_place : (a b : Place) → cmp-place.it a b ≡ Equal → a ≡ b
+exact_place (place.Row t k) (place.Row u l) h =
+    let p = then_parts (slice_cmp nat_cmp t u) (cmp-value.it k l) h in
+    rows_alike t u k l (exact_bytes t u p.0) (exact_derived k l p.1)
+exact_place (place.Row t k) (place.Table u) h = cc
+exact_place (place.Table t) (place.Row u l) h = cc
+exact_place (place.Table t) (place.Table u) h = ap place.Table (exact_bytes t u h)
+
+tied_place : (a : Place) → cmp-place.it a a ≡ Equal
+tied_place (place.Row t k) =
+    let keys : cmp-value.it k k ≡ Equal = subst (λ (f : Value → Value → Ordering). f k k ≡ Equal) (sym cmp_is) (tied_itself value_cmp_total k) in
+    ap (λ o. ordering_then o (cmp-value.it k k)) (tied_itself nat_list_cmp_total t) ∙ keys
+tied_place (place.Table t) = tied_itself nat_list_cmp_total t
+
+cmp_place_decides : (a b : Place) → Decides (is_eq (cmp-place.it a b)) (a ≡ b)
+cmp_place_decides a b = (λ h. exact_place a b (equal_from (cmp-place.it a b) h), λ e. ap is_eq (subst (λ (c : Place). cmp-place.it a c ≡ Equal) e (tied_place a)))
+
+-- the order of places tells them apart
+pub cmp_place_is : (a b : Place) → is_eq (cmp-place.it a b) ≡ same_place a b
+cmp_place_is a b = one_answer (is_eq (cmp-place.it a b)) (same_place a b) (cmp_place_decides a b) (same_place_decides a b)
+
+pub same_place_sym : (a b : Place) → same_place a b ≡ same_place b a
+same_place_sym a b = one_answer (same_place a b) (same_place b a) (same_place_decides a b) (let d = same_place_decides b a in (λ h. sym (d.0 h), λ e. d.1 (sym e)))
+
+values_decide : (a b : List Value) → Decides (pointwise same_value a b) (a ≡ b)
+values_decide = pointwise_decides same_value_decides
+
+row_is : (a b : PlainRow) → a.table ≡ b.table → a.key ≡ b.key → a.row ≡ b.row → a ≡ b
+row_is a b p q r = λ i. record { table = p i; key = q i; row = r i }
+
+same_row_decides : (a b : PlainRow) → Decides (same_row a b) (a ≡ b)
+same_row_decides a b =
+    let tables = bytes_decide a.table b.table in
+    let keys = same_value_decides a.key b.key in
+    let rows = values_decide a.row b.row in (
+      λ h.
+          let p = both (bytes_eq a.table b.table) (same_value a.key b.key && pointwise same_value a.row b.row) h in
+          let q = both (same_value a.key b.key) (pointwise same_value a.row b.row) p.1 in
+          row_is a b (tables.0 p.0) (keys.0 q.0) (rows.0 q.1),
+      λ e. both_if (bytes_eq a.table b.table) (same_value a.key b.key && pointwise same_value a.row b.row) (tables.1 (ap (λ (r : PlainRow). r.table) e))
+          (both_if (same_value a.key b.key) (pointwise same_value a.row b.row) (keys.1 (ap (λ (r : PlainRow). r.key) e)) (rows.1 (ap (λ (r : PlainRow). r.row) e))),
+    )
+
+pub same_rows_decide : (a b : List PlainRow) → Decides (same_rows a b) (a ≡ b)
+same_rows_decide = pointwise_decides same_row_decides

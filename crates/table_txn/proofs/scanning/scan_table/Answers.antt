@@ -1,0 +1,18 @@
+use Rattle.std.proofs.Common.{ap, ◌∙◌}
+use Rattle.std.specs.Prelude.{Some, fold}
+use Rattle.stmt_meaning.specs.declared.tables.Place.TheVariants as place
+use Rattle.stmt_meaning.specs.Meaning.{seen_at}
+use Rattle.stmt_meaning.specs.Scans.{next_scan, last_answer}
+use Rattle.stmt_meaning.specs.Tables.{with_writes}
+use Rattle.table_txn.proofs.ScanSteps.{answer_is}
+use Rattle.table_txn.proofs.scanning.scan_table.Goals as goal
+
+pub returns-in_ok-show_committed-in-None : goal.returns-in_ok-show_committed-in-None
+returns-in_ok-show_committed-in-None c =
+    let rows = seen_at (with_writes c.args.tables.now.rows c.args.own.now) (Some (place.Table c.args.table.now)) in
+    c.answer.ensures ∙ answer_is c.args.work rows c.in_ok-show_committed-in-None.field-0 (c.in_ok-show_committed-in-None.ensures ∙ ap (λ s. last_answer (fold next_scan s rows)) c.new-scan.ensures)
+
+pub returns-in_ok-show_over-in-Some : goal.returns-in_ok-show_over-in-Some
+returns-in_ok-show_over-in-Some c =
+    let rows = seen_at (with_writes c.args.tables.now.rows c.args.own.now) (Some (place.Table c.args.table.now)) in
+    c.answer-in-Some.ensures ∙ answer_is c.args.work rows c.in_ok-show_over-in-Some.field-0 (c.in_ok-show_over-in-Some.ensures ∙ ap (λ s. last_answer (fold next_scan s rows)) c.new-scan.ensures)

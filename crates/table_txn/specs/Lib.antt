@@ -1,0 +1,11 @@
+pub mod Drawing
+pub mod Listed
+pub mod Places
+pub mod Reads
+pub mod Notes
+pub mod Found
+pub mod Own
+pub mod Scanning
+pub mod Transactions
+pub mod Steps
+pub mod Stops

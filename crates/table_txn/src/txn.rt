@@ -1,0 +1,208 @@
+//! Transactions.
+ghost use Rattle.std.specs.Prelude.{◌≡◌, ◌≤◌, ◌++◌, ◌∷◌, [], List, IsTrue, OnOk, OnErr, IfOk, IfErr, length, take, option_map};
+ghost use Rattle.std.specs.Option.{option_copied};
+ghost use Rattle.stmt_meaning.specs.Fitting.{writes_fit};
+ghost use Rattle.stmt_meaning.specs.Tables.{AreTables, with_writes};
+ghost use Rattle.stmt_meaning.specs.Meaning.{mean1};
+ghost use Rattle.table_txn.specs.Drawing.{DrewAll, Ends};
+ghost use Rattle.table_txn.specs.Reads.{Read, IsConflict};
+ghost use Rattle.table_txn.specs.Notes.{AreNotes};
+ghost use Rattle.table_txn.specs.Transactions.{empty, shape_of, HasRun, HasEnded};
+ghost use Rattle.table_txn.specs.Steps.{HasWorked, HasDone};
+
+use crate::draw_from::DrawFrom;
+use crate::effects::effect_on;
+use crate::fault::TxnFault;
+use crate::notes::Notes;
+use crate::operands::{Stop, plan_of};
+use crate::own::OwnWrites;
+use std::alloc::Global;
+use std::marker::Model;
+use stmt_meaning::{Effect, Place, Plan, is_refusal};
+use svc_values::{
+    Answer, Answers, Draw, Draws, NoMemory, Piece, Pieces, Settings, Statement, Statements, Writes,
+};
+use table_store::Tables;
+
+/// What statements did: their answers, and the draws that they took.
+#[derive(Drop)]
+pub struct Ran {
+    pub answers: Answers,
+    pub draws: Draws,
+}
+
+/// A transaction on its way: its calls so far, its own writes, and what it read. It is seen as these
+/// three lists.
+#[derive(Drop)]
+pub struct Txn {
+    pieces: Pieces,
+    own: OwnWrites,
+    notes: Notes,
+    alloc: Global,
+}
+
+impl Model for Txn {
+    ghost use Rattle.table_txn.specs.Transactions.{Transaction};
+
+    ghost Value = { Transaction };
+
+    ghost view = { λ a. record { pieces = a.pieces; writes = a.own; notes = a.notes } };
+}
+
+impl Txn {
+    /// A transaction that has done nothing. It takes no memory.
+    pub fn new(alloc: Global) -> Txn
+        ensures empty { result ≡ empty }
+        ensures no_reads { AreNotes empty.notes [] }
+    {
+        Txn {
+            pieces: Pieces::new(alloc),
+            own: OwnWrites::new(alloc),
+            notes: Notes::new(alloc),
+            alloc,
+        }
+    }
+
+    /// Keeps a call with its answers and draws. Where memory is refused nothing changes.
+    pub fn note(&mut self, piece: Piece) -> Result<(), NoMemory>
+        ensures ok { OnOk result (self.new ≡ record self.old { pieces = self.old.pieces ++ piece ∷ [] }) }
+        ensures err { OnErr result (self.new ≡ self.old) }
+    {
+        match self.pieces.push(piece) {
+            Ok(()) => Ok(()),
+            Err(_) => Err(NoMemory),
+        }
+    }
+
+    /// The calls so far.
+    pub fn pieces(&self) -> &Pieces
+        ensures { result.now ≡ self.now.pieces }
+    {
+        &self.pieces
+    }
+
+    /// The writes so far, in their order.
+    pub fn writes(&self) -> &Writes
+        ensures { result.now ≡ self.now.writes }
+    {
+        self.own.writes()
+    }
+
+    /// The calls and the writes, moved out.
+    pub fn into_parts(self) -> (Pieces, Writes)
+        ensures pieces { result.0 ≡ self.pieces }
+        ensures writes { result.1 ≡ self.writes }
+    {
+        let Txn { pieces, own, .. } = self;
+        (pieces, own.into_writes())
+    }
+
+    /// Gives up all that was done and read. It takes no memory.
+    pub fn roll_back(&mut self)
+        ensures empty { self.new ≡ empty }
+        ensures no_reads { AreNotes empty.notes [] }
+    {
+        *self = Txn::new(self.alloc);
+    }
+
+    /// A place that was read and has something else committed now than at the read, or two reads of
+    /// which found different things; `None` exactly where there is no such place. Linear in the
+    /// places that were read, and in the rows of the tables that were read whole. No memory is taken.
+    pub fn conflicts(&self, tables: &Tables) -> Option<&Place>
+        ensures { (reads : List Read) → AreNotes self.now.notes reads → IsConflict reads tables.now.rows (option_copied result) }
+    {
+        self.notes.first_changed(tables)
+    }
+
+    /// Runs the statements of a call, each on the committed tables with the transaction's own writes
+    /// over them, up to the first that is refused. A refusal takes the call's writes back; what was
+    /// read and drawn stays so. A statement on one row takes the logarithm of the rows and of the
+    /// transaction's writes; one on a whole table is linear in its rows and in the transaction's own of
+    /// that table. After a fault some of the statements have run.
+    pub fn run<F: DrawFrom>(
+        &mut self,
+        tables: &Tables,
+        settings: &Settings,
+        statements: &Statements,
+        draws: &mut F,
+    ) -> Result<Ran, TxnFault>
+        requires { IsTrue (writes_fit tables.now.schemas self.old.writes) }
+        ensures ran { IfOk result (λ ran. HasRun tables.now (F.names draws.old) settings.now self.old statements.now ran.answers ran.draws self.new × DrewAll F.drew draws.old ran.draws draws.new) }
+        ensures ended { IfErr result (λ ended. HasEnded tables.now (F.names draws.old) settings.now self.old statements.now F.drew draws.old ended draws.new) }
+        ensures fits { OnOk result (IsTrue (writes_fit tables.now.schemas self.new.writes)) }
+        ensures names { F.names draws.new ≡ F.names draws.old }
+    {
+        let _ = tables.schemas();
+        let count = self.count();
+        let mut answers = Vec::new(self.alloc);
+        let mut drawn = Vec::new(self.alloc);
+        for statement in statements.as_slice() {
+            let answer = self.run_statement(tables, settings, statement, draws, &mut drawn)?;
+            let is_refused = is_refusal(&answer);
+            answers.push(answer)?;
+            if is_refused {
+                self.take_back(count);
+                return Ok(what_ran(answers, drawn));
+            }
+        }
+        Ok(what_ran(answers, drawn))
+    }
+
+    /// How many writes.
+    fn count(&self) -> usize
+        ensures { result ≡ length self.now.writes }
+    {
+        self.own.len()
+    }
+
+    /// Takes the writes behind the first `count` back.
+    fn take_back(&mut self, count: usize)
+        requires { count ≤ length self.old.writes }
+        ensures { self.new ≡ record self.old { writes = take count self.old.writes } }
+    {
+        self.own.keep_first(count);
+    }
+
+    /// Runs one statement.
+    fn run_statement<F: DrawFrom>(
+        &mut self,
+        tables: &Tables,
+        settings: &Settings,
+        statement: &Statement,
+        source: &mut F,
+        drawn: &mut Vec<Draw>,
+    ) -> Result<Answer, TxnFault>
+        requires { AreTables tables.now.rows }
+        ensures done { IfOk result (λ answer. HasDone F.drew tables.now (F.names source.old) settings.now self.old statement.now source.old drawn.old.items answer self.new source.new drawn.new.items) }
+        ensures ended { IfErr result (λ ended. Ends F.drew (λ given. option_map (λ one. one.rest) (mean1 (shape_of tables.now (F.names source.old)) (with_writes tables.now.rows self.old.writes) settings.now statement.now given)) source.old ended source.new) }
+        ensures names { F.names source.new ≡ F.names source.old }
+    {
+        match plan_of(self.alloc, tables, settings, statement, source, drawn) {
+            Ok(plan) => Ok(self.work(tables, plan)?),
+            Err(Stop::Refused(fault)) => Ok(Answer::Refused(fault)),
+            Err(Stop::Ended(fault)) => Err(fault),
+        }
+    }
+
+    /// Notes the place of a plan, and does it.
+    fn work(&mut self, tables: &Tables, plan: Plan) -> Result<Answer, NoMemory>
+        requires { AreTables tables.now.rows }
+        ensures { IfOk result (λ answer. HasWorked tables.now self.old plan answer self.new) }
+    {
+        let place = plan.place(self.alloc)?;
+        self.notes.note_if_any(tables, place)?;
+        let effect = effect_on(self.alloc, tables, &self.own, plan)?;
+        let Effect { answer, write } = effect;
+        self.own.put_if_any(write)?;
+        Ok(answer)
+    }
+}
+
+fn what_ran(answers: Vec<Answer>, drawn: Vec<Draw>) -> Ran
+    ensures { result ≡ record { answers = answers.items; draws = drawn.items } }
+{
+    Ran {
+        answers: Answers::from_vec(answers),
+        draws: Draws::from_vec(drawn),
+    }
+}
