@@ -1,4 +1,4 @@
-use Rattle.std.proofs.Common.{Err, ap}
+use Rattle.std.proofs.Common.{subst}
 use Rattle.table_txn.specs.declared.fault.TxnFault.{TxnFault}
 use Rattle.table_txn.specs.Drawing.{EndedBy}
 use Rattle.table_txn.specs.Listed.{TakesFirst}
@@ -18,5 +18,6 @@ returns-in-Ok-clause-alone c =
 -- no draw is asked for, so none is refused
 pub unreachable-requires : goal.unreachable-requires
 unreachable-requires c =
-    let ended = c.in-Err-Stopped.ensures.ended (ap Err c.in-Err-Stopped.field-0-is) in
-    ended.because.1 (none_asked c.args.tables.now c.new.result c.args.settings.now c.args.transaction.now c.args.statements.now ended.given ended.more c.requires.literal ended.asked)
+    let ended = c.in-Err-Stopped.ensures.ended in
+    (subst (λ (f : TxnFault). EndedBy TakesFirst ended.between f c.run.new.draws ended.more) c.in-Err-Stopped.field-0-is ended.because).1
+    (none_asked c.args.tables.now c.new.result c.args.settings.now c.args.transaction.now c.args.statements.now ended.given ended.more c.requires.literal ended.asked)
