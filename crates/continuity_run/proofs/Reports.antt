@@ -1,8 +1,7 @@
 -- The report of a run keeps to the headline.
-use Rattle.std.proofs.Common.{◌≡◌, ℕ, List, [], ◌∷◌, ◌++◌, Bool, true, false, Option, Some, refl, sym, subst, ap, ◌∙◌, IsTrue}
+use Rattle.std.proofs.Common.{◌≡◌, List, [], ◌∷◌, Bool, true, false, Some, refl, sym, subst, ap, ◌∙◌}
 use Rattle.std.specs.Prelude.{map, ◌&&◌, nat_le, length}
 use Rattle.std.specs.List.{list_all}
-use Rattle.svc_values.specs.declared.value.Value.{Value}
 use Rattle.svc_values.specs.declared.call.Call.{Call}
 use Rattle.svc_values.specs.Calls.{is_made}
 use Rattle.stmt_meaning.specs.declared.tables.PlainRow.{PlainRow}

@@ -1,6 +1,6 @@
 -- The rows of a document fit its tables, and no table and key stands twice.
-use Rattle.std.proofs.Common.{◌≡◌, ℕ, List, [], ◌∷◌, ◌++◌, map, Bool, true, false, refl, sym, ap, ◌∙◌, subst}
-use Rattle.std.specs.Prelude.{Option, Some, None, filter, find, ◌&&◌, ◌||◌, not, nat_le, length, if◌then◌else◌}
+use Rattle.std.proofs.Common.{◌≡◌, ℕ, List, [], ◌∷◌, ◌++◌, map, Bool, true, false, refl, sym, ap, ◌∙◌}
+use Rattle.std.specs.Prelude.{Some, ◌&&◌, ◌||◌, nat_le, length, if◌then◌else◌}
 use Rattle.std.specs.List.{list_all, list_any, flat_map}
 use Rattle.std.specs.Str.{bytes_eq}
 use Rattle.std.proofs.lemmas.Bool.{not-true}
@@ -112,9 +112,10 @@ none_of_keys name key (row ∷ rows) none =
 apart_rows : (name : List ℕ) (rows : List (List Value)) (others : List DocTable) → have_distinct_keys same_value key_of rows ≡ true → list_any (λ u. bytes_eq u.name name) others ≡ false
     → AreApart (flat_map rows_of_table others) → AreApart (map (plain_row name) rows ++ flat_map rows_of_table others)
 apart_rows name [] others keys none apart = apart
-apart_rows name (row ∷ rows) others keys none apart =
-    (rows_at-append (place.Row name (key_of row)) (map (plain_row name) rows) (flat_map rows_of_table others) (none_of_keys name (key_of row) rows (not-true _ (first_true _ _ keys))) (none_in_others name (key_of row) others none),
-     apart_rows name rows others (second_true _ _ keys) none apart)
+apart_rows name (row ∷ rows) others keys none apart = (
+  rows_at-append (place.Row name (key_of row)) (map (plain_row name) rows) (flat_map rows_of_table others) (none_of_keys name (key_of row) rows (not-true _ (first_true _ _ keys))) (none_in_others name (key_of row) others none),
+  apart_rows name rows others (second_true _ _ keys) none apart,
+)
 
 pub start_apart : (tables : List DocTable) → list_all is_table tables ≡ true → have_distinct_keys bytes_eq (λ t. t.name) tables ≡ true → AreApart (flat_map rows_of_table tables)
 start_apart [] each apart = tt

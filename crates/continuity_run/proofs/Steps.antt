@@ -1,5 +1,5 @@
 -- One call more of the run: what the code has done is the run's step.
-use Rattle.std.proofs.Common.{◌≡◌, ℕ, ◌+◌, List, [], ◌∷◌, ◌++◌, length, Bool, true, false, Some, if◌then◌else◌, refl, sym, ap, ◌∙◌, subst}
+use Rattle.std.proofs.Common.{◌≡◌, List, [], ◌∷◌, ◌++◌, Bool, true, false, Some, if◌then◌else◌, refl, sym, ap, ◌∙◌, subst}
 use Rattle.std.specs.Option.{option_map}
 use Rattle.std.specs.Prelude.{Result, Ok, Err, IfOk}
 use Rattle.std.proofs.lemmas.List.Elements.{All-nil}
@@ -16,9 +16,9 @@ use Rattle.stmt_meaning.proofs.MeanLocal.{mean-tables}
 use Rattle.stmt_meaning.proofs.Writes.{with_writes-append}
 use Rattle.table_store.specs.Stored.{Stored}
 use Rattle.table_txn.specs.Reads.{Read}
-use Rattle.table_txn.specs.Transactions.{Transaction, empty}
+use Rattle.table_txn.specs.Transactions.{Transaction}
 use Rattle.continuity_run.specs.declared.run.Progress.{Progress}
-use Rattle.continuity_run.specs.Progress.{shape_now, seen_by, run_seen, IsAlone, HasWorked, IsNoted, IsCommitted, IsNext}
+use Rattle.continuity_run.specs.Progress.{shape_now, run_seen, IsAlone, HasWorked, IsNoted, IsCommitted, IsNext}
 use Rattle.continuity_run.specs.Run.{Run, step, after_call, committed_run, open_run}
 use Rattle.continuity_run.proofs.NoDraws.{KeptIf, kept}
 
@@ -54,7 +54,7 @@ noted_next old statements commit t answers all new w alone closed ends n =
     let now : Transaction = record t { pieces = t.pieces ++ (record { call = call.Work statements commit; answers = all; draws = [] }) ∷ [] } in
     let same : all ≡ meant.answers = closed ∙ ap (closed_by commit) w.answered in
     let is : open_run (run_seen old) (call.Work statements commit) meant ≡ run_seen new =
-        rw (n.same_tables, n.noted, n.same_settings, n.same_began, n.same_entries, n.shown, w.same_pieces, w.wrote, same, tables_after old statements t answers w, settings_after old statements t answers w) refl in
+    rw (n.same_tables, n.noted, n.same_settings, n.same_began, n.same_entries, n.shown, w.same_pieces, w.wrote, same, tables_after old statements t answers w, settings_after old statements t answers w) refl in
     record {
       stepped = steps old (call.Work statements commit) meant (run_seen new) (call_means old statements commit t answers w)
           (stepped_by (run_seen old) (call.Work statements commit) meant false (sym (ap ends_committed same) ∙ ends) (run_seen new) is);
@@ -70,7 +70,7 @@ committed_next old statements commit t answers all new w closed ends n =
     let meant = whole commit w.meant in
     let same : all ≡ meant.answers = closed ∙ ap (closed_by commit) w.answered in
     let is : committed_run (run_seen old) (call.Work statements commit) meant ≡ run_seen new =
-        rw (n.tables, n.next, n.same_settings, n.began, n.entry, n.shown, w.same_pieces, w.wrote, same, tables_after old statements t answers w, settings_after old statements t answers w) refl in
+    rw (n.tables, n.next, n.same_settings, n.began, n.entry, n.shown, w.same_pieces, w.wrote, same, tables_after old statements t answers w, settings_after old statements t answers w) refl in
     record {
       stepped = steps old (call.Work statements commit) meant (run_seen new) (call_means old statements commit t answers w)
           (stepped_by (run_seen old) (call.Work statements commit) meant true (sym (ap ends_committed same) ∙ ends) (run_seen new) is);

@@ -19,7 +19,6 @@ use Rattle.stmt_meaning.specs.Meaning.{Meant, mean}
 use Rattle.stmt_meaning.specs.Serial.{Serial}
 use Rattle.continuity_run.specs.declared.document.Client.{Client}
 use Rattle.continuity_run.specs.declared.document.Request.{Request}
-use Rattle.continuity_run.specs.declared.document.DocTable.{DocTable}
 use Rattle.continuity_run.specs.declared.document.Document.{Document}
 use Rattle.continuity_run.specs.declared.report.ShownCall.{ShownCall}
 use Rattle.continuity_run.specs.declared.report.RequestReport.{RequestReport}

@@ -1,5 +1,5 @@
 -- How a report is written as JSON.
-use Rattle.std.specs.Prelude.{◌≡◌, ℕ, List, [], ◌∷◌, codes}
+use Rattle.std.specs.Prelude.{ℕ, List, [], ◌∷◌, codes}
 use Rattle.serde_json.specs.Data.{Data, null}
 use Rattle.json_form.specs.Writing.{text, whole, flag, list, list_by, members}
 use Rattle.svc_values.specs.declared.value.Value.{Value}

@@ -16,8 +16,8 @@ use crate::start::{start_of, tables_at};
 use std::alloc::Global;
 use stmt_meaning::ends_refused;
 use svc_values::{
-    Answer, Answers, Call, Draws, Entry, Listed, Ltxid, Names, NoMemory, Piece, Settings, Statements,
-    TryCopy, ends_committed,
+    Answer, Answers, Call, Draws, Entry, Listed, Ltxid, Names, NoMemory, Piece, Settings,
+    Statements, TryCopy, ends_committed,
 };
 use table_store::Tables;
 use table_txn::{ListDraws, Txn, TxnFault};

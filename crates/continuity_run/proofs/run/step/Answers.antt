@@ -3,7 +3,6 @@ use Rattle.std.specs.Prelude.{IfOk}
 use Rattle.svc_values.specs.declared.call.Call.{Call}
 use Rattle.svc_values.specs.declared.call.Call.TheVariants as call
 use Rattle.svc_values.specs.Endings.{ends_committed}
-use Rattle.continuity_run.specs.declared.run.Progress.{Progress}
 use Rattle.continuity_run.specs.Progress.{IsNext, IsNoted, IsCommitted}
 use Rattle.continuity_run.proofs.Steps.{committed_next, noted_next, if_ok}
 use Rattle.continuity_run.proofs.run.step.Goals as goal

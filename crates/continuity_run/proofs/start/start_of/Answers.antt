@@ -1,4 +1,4 @@
-use Rattle.std.proofs.Common.{◌≡◌, ◌∙◌, sym, subst, List, map, IsTrue}
+use Rattle.std.proofs.Common.{◌∙◌, sym, subst, List, map, IsTrue}
 use Rattle.svc_values.specs.declared.schema.Schema.{Schema}
 use Rattle.stmt_meaning.specs.declared.tables.PlainRow.{PlainRow}
 use Rattle.stmt_meaning.specs.Fitting.{tables_fit}

@@ -1,4 +1,4 @@
-use Rattle.std.proofs.Common.{◌≡◌, ◌+◌, ◌-◌, ◌≤◌, ◌<◌, length, drop, take, arith, length-append, length-drop, ◌∙◌}
+use Rattle.std.proofs.Common.{◌≡◌, length, drop, arith, length-append, length-drop}
 use Rattle.std.proofs.Math.ListN.{drop_of_length-le}
 use Rattle.std.proofs.lemmas.Grind.{common_steps}
 use Rattle.continuity_run.proofs.Moves.{copied}
