@@ -1,7 +1,7 @@
 //! A disk in memory. It keeps what each write covered, so that each moment since it was made can be read off it.
-ghost use Rattle.std.specs.Prelude.{◌≡◌, ◌+◌, ◌-◌, ◌^◌, ◌<◌, ◌≤◌, ◌⊎◌, ◌↔◌, List, [], ℕ, Some, None, length, min, OnOk, OnErr, IfOk, IsErrOf, IsTrue, IsFalse, Contains};
+ghost use Rattle.std.specs.Prelude.{◌≡◌, ◌+◌, ◌-◌, ◌^◌, ◌<◌, ◌≤◌, ◌⊎◌, ◌↔◌, List, [], ℕ, Some, None, length, take, drop, min, OnOk, OnErr, IfOk, IsErrOf, IsTrue, IsFalse, Contains};
 ghost use Rattle.disk_model.specs.Moment.{MayLeave, Torn, with_bytes, next_moment};
-ghost use Rattle.disk_model.specs.Disk.{HasRisen, Allows, Lowered, IsSettled, SameBytes, Meanwhile, Caused, new_disk};
+ghost use Rattle.disk_model.specs.Disk.{HasRisen, Allows, Lowered, IsSettled, SameBytes, Meanwhile, Caused, OnlyReads, new_disk};
 ghost use Rattle.disk_model.specs.Log.{IsLog, is_prop_log, is_nil};
 ghost use Rattle.disk_model.specs.Picks.{IsPicked};
 
@@ -31,12 +31,13 @@ pub struct MemDisk {
 }
 
 impl MemDisk {
-    ghost use Rattle.disk_model.specs.Mem.{mem_state};
+    ghost use Rattle.disk_model.specs.Mem.{mem_state, calls_of, failing_of};
 
     /// An empty disk.
     pub fn new(alloc: Global) -> Self
         ensures state { mem_state result ≡ new_disk [] }
         ensures settled { IsSettled (mem_state result) }
+        ensures calls { calls_of result ≡ 0 }
     {
         MemDisk::holding(alloc, Vec::new(alloc))
     }
@@ -45,6 +46,7 @@ impl MemDisk {
     pub fn of(alloc: Global, bytes: &[u8]) -> Result<Self, AllocError>
         ensures state { IfOk result (λ disk. mem_state disk ≡ new_disk bytes.now) }
         ensures settled { IfOk result (λ disk. IsSettled (mem_state disk)) }
+        ensures calls { IfOk result (λ disk. calls_of disk ≡ 0) }
     {
         if bytes.len() > MAX_SIZE {
             return Err(AllocError);
@@ -56,6 +58,7 @@ impl MemDisk {
         requires { length bytes.items ≤ 2 ^ 62 }
         ensures state { mem_state result ≡ new_disk bytes.items }
         ensures settled { IsSettled (mem_state result) }
+        ensures calls { calls_of result ≡ 0 }
     {
         MemDisk {
             alloc,
@@ -73,7 +76,10 @@ impl MemDisk {
     /// `fail` named before. The first such call of the disk has the number 1.
     pub fn fail(&mut self, calls: &[u64]) -> Result<(), AllocError>
         ensures failing { OnOk result (mem_state self.new ≡ record (mem_state self.old) { quiet = is_nil calls.now }) }
+        ensures numbers { OnOk result (failing_of self.new ≡ calls.now) }
         ensures refused { OnErr result (mem_state self.new ≡ mem_state self.old) }
+        ensures same_numbers { OnErr result (failing_of self.new ≡ failing_of self.old) }
+        ensures calls { calls_of self.new ≡ calls_of self.old }
     {
         self.failing = calls.to_vec(self.alloc)?;
         Ok(())
@@ -120,7 +126,7 @@ fn lower(stop: &mut Option<u64>)
 }
 
 impl Disk for MemDisk {
-    ghost use Rattle.disk_model.specs.Mem.{mem_state};
+    ghost use Rattle.disk_model.specs.Mem.{mem_state, IsCounted, FailsNext};
     ghost use Rattle.disk_model.specs.Kept.{reads_now_of};
 
     ghost state = { mem_state };
@@ -133,7 +139,15 @@ impl Disk for MemDisk {
         self.bytes.len() as u64
     }
 
-    fn read(&mut self, at: u64, into: &mut [u8]) -> Result<(), DiskFault> {
+    /// As `Disk` says; and it fails exactly where its stop is reached or its number is to fail.
+    fn read(&mut self, at: u64, into: &mut [u8]) -> Result<(), DiskFault>
+        requires { at + length into.old ≤ length (mem_state self.old).now.seen }
+        ensures bytes { OnOk result (into.new ≡ take (length into.old) (drop at (mem_state self.old).now.seen)) }
+        ensures failed { OnErr result (IsErrOf result DiskFault.Failed) }
+        ensures only_reads { OnlyReads (IsErrOf result DiskFault.Failed) (mem_state self.old) (mem_state self.new) }
+        ensures counted { IsCounted self.old self.new }
+        ensures fails { IsErrOf result DiskFault.Failed ↔ FailsNext self.old }
+    {
         if has_fault(&mut self.calls, &mut self.faults, &self.failing, self.stop) {
             return Err(DiskFault::Failed);
         }
@@ -142,7 +156,8 @@ impl Disk for MemDisk {
         Ok(())
     }
 
-    /// As `Disk` says; and where it is refused nothing changes but the count of faults.
+    /// As `Disk` says; and where it is refused nothing changes but the counts of calls and faults. It fails exactly
+    /// where its stop is reached or its number is to fail.
     fn write_at(&mut self, at: u64, bytes: &[u8]) -> Result<(), DiskFault>
         requires { at ≤ length (mem_state self.old).now.seen }
         ensures written { OnOk result ((mem_state self.new).now
@@ -157,6 +172,8 @@ impl Disk for MemDisk {
         ensures stop_err { OnErr result ((mem_state self.new).stop ≡ (mem_state self.old).stop) }
         ensures stopped { (mem_state self.old).stop ≡ Some 0 → IsErrOf result DiskFault.Failed }
         ensures cause { Caused 1 (IsErrOf result DiskFault.Failed) (mem_state self.old) (mem_state self.new) }
+        ensures counted { IsCounted self.old self.new }
+        ensures fails { IsErrOf result DiskFault.Failed ↔ FailsNext self.old }
     {
         if has_fault(&mut self.calls, &mut self.faults, &self.failing, self.stop) {
             return Err(DiskFault::Failed);
@@ -172,7 +189,8 @@ impl Disk for MemDisk {
         Ok(())
     }
 
-    /// As `Disk` says; and where it fails nothing changes but the count of faults. It takes no memory.
+    /// As `Disk` says; and where it fails nothing changes but the counts of calls and faults. It fails exactly where
+    /// its stop is reached or its number is to fail. It takes no memory.
     fn sync(&mut self) -> Result<(), DiskFault>
         ensures durable { OnOk result (IsSettled (mem_state self.new)) }
         ensures seen { (mem_state self.new).now.seen ≡ (mem_state self.old).now.seen }
@@ -184,6 +202,8 @@ impl Disk for MemDisk {
         ensures stop_err { OnErr result ((mem_state self.new).stop ≡ (mem_state self.old).stop) }
         ensures stopped { (mem_state self.old).stop ≡ Some 0 → IsErrOf result DiskFault.Failed }
         ensures cause { Caused 1 (IsErrOf result DiskFault.Failed) (mem_state self.old) (mem_state self.new) }
+        ensures counted { IsCounted self.old self.new }
+        ensures fails { IsErrOf result DiskFault.Failed ↔ FailsNext self.old }
     {
         if has_fault(&mut self.calls, &mut self.faults, &self.failing, self.stop) {
             return Err(DiskFault::Failed);
@@ -195,13 +215,16 @@ impl Disk for MemDisk {
 }
 
 impl StopDisk for MemDisk {
-    ghost use Rattle.disk_model.specs.Mem.{mem_state};
+    ghost use Rattle.disk_model.specs.Mem.{mem_state, SameCalls};
 
     fn left(&self) -> Option<u64> {
         self.stop
     }
 
-    fn stop_after(&mut self, calls: Option<u64>) {
+    fn stop_after(&mut self, calls: Option<u64>)
+        ensures state { mem_state self.new ≡ record (mem_state self.old) { stop = calls } }
+        ensures same_calls { SameCalls self.old self.new }
+    {
         self.stop = calls;
     }
 
@@ -223,6 +246,8 @@ impl StopDisk for MemDisk {
         ensures quiet { (mem_state self.new).quiet ≡ (mem_state self.old).quiet }
         ensures pick { (mem_state self.new).pick ≡ Some pick }
         ensures picked { IsPicked pick (mem_state self.old).now (mem_state self.new).now.seen }
+        ensures anew { (mem_state self.new).past ≡ [] }
+        ensures same_calls { SameCalls self.old self.new }
     {
         tear(&mut self.bytes, &mut self.log, pick);
         self.stop = None;
