@@ -1,5 +1,5 @@
 -- How far a journal has come, by its records and after one more.
-use Rattle.std.proofs.Common.{◌≡◌, ◌⊎◌, ℕ, ◌+◌, List, [], ◌∷◌, ◌++◌, length, Option, Some, None, inl, inr, refl, sym, ◌∙◌, ap, arith, append_assoc, length-append, append-nil}
+use Rattle.std.proofs.Common.{◌≡◌, ◌⊎◌, ℕ, ◌+◌, List, [], ◌∷◌, ◌++◌, length, drop, Option, Some, None, inl, inr, refl, sym, ◌∙◌, ap, arith, append_assoc, length-append, append-nil}
 use Rattle.std.specs.Prelude.{Result, Ok, Err, option_and_then}
 use Rattle.redo_store.specs.declared.walk.Walk.{Walk}
 use Rattle.redo_store.specs.Records.{length_bytes, spelling_of, records_of, whole_records, whole_from, with_last}
@@ -32,6 +32,11 @@ judged-append so_far last place (payload ∷ first) rest e =
     chosen (after_payload so_far payload) place (λ next. judged next behind first) (λ next. judged next behind (first ++ rest)) last (judged last (place + length (spelling_of (payload ∷ first))) rest)
     (λ next whole. judged-append next last behind first rest whole ∙ ap (λ n. judged last n rest) (omega (arith, length-spelling_of payload first)))
     e
+
+-- one more, last
+pub judged_push : (done : List (List ℕ)) (payload : List ℕ) (so_far next : Progress) → judged Empty 8 done ≡ Ok so_far → after_payload so_far payload ≡ Some next → judged Empty 8 (done ++ payload ∷ []) ≡ Ok next
+judged_push done payload so_far next judges may =
+    judged-append Empty so_far 8 done (payload ∷ []) judges ∙ ap (λ (o : Option Progress). if_next o (8 + length (spelling_of done)) (λ (p : Progress). Ok p)) may
 
 -- ---- an image, by its records
 
@@ -81,10 +86,12 @@ pub damaged_record : (image : List ℕ) (done : List (List ℕ)) (payload : List
     → judged Empty 8 done ≡ Ok so_far → HasRead walk (done ++ payload ∷ []) image → after_payload so_far payload ≡ None → place ≡ 8 + length (spelling_of done) → progress_of image ≡ Err place
 unfolding progress_of
 damaged_record image done payload walk so_far place judges read misplaced at =
-    let more = read.whole ∙ append_assoc done (payload ∷ []) (whole_from 0 _) in
-    ap (λ (l : List (List ℕ)). with_gates (judged Empty 8 l) (records_of image)) more
-    ∙ ap (λ (r : Result Progress ℕ). with_gates r (records_of image)) (judged-append Empty so_far 8 done (payload ∷ whole_from 0 _) judges ∙ ap (λ (o : Option Progress). if_next o _ _) misplaced)
-    ∙ ap (λ n. Err n) (sym at)
+    let behind : List (List ℕ) = whole_from 0 (drop walk.place image) in
+    let here : ℕ = 8 + length (spelling_of done) in
+    let on : Progress → Result Progress ℕ = λ next. judged next (here + 9 + length payload) behind in
+    ap (λ (l : List (List ℕ)). with_gates (judged Empty 8 l) (records_of image)) (read.whole ∙ append_assoc done (payload ∷ []) behind)
+    ∙ ap (λ (r : Result Progress ℕ). with_gates r (records_of image)) (judged-append Empty so_far 8 done (payload ∷ behind) judges ∙ ap (λ (o : Option Progress). if_next o here on) misplaced)
+    ∙ ap (λ (n : ℕ). Err n) (sym at)
 
 -- ---- one record more
 

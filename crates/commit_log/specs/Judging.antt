@@ -3,6 +3,7 @@ use Rattle.std.specs.Prelude.{◌≡◌, ℕ, List, map, Ok}
 use Rattle.ltxid_book.specs.Sessions.{state_in}
 use Rattle.ltxid_book.specs.Journal.{IsBookOf, BlocksStand}
 use Rattle.redo_store.specs.declared.walk.Walk.{Walk}
+use Rattle.redo_store.specs.Records.{records_of}
 use Rattle.redo_store.specs.Walk.{HasRead}
 use Rattle.commit_log.specs.declared.judge.Judge.{Judge}
 use Rattle.commit_log.specs.Bases.{shape_of}
@@ -25,3 +26,8 @@ pub record HasJudged (judge : Judge) (walk : Walk) (image : List ℕ) : Type 0 w
   pub read : HasRead walk done image
   pub judges : judged Empty 8 done ≡ Ok (progress_in judge)
   pub keeps : Keeps judge
+
+-- and these are all of the image
+pub record HasJudgedAll (judge : Judge) (walk : Walk) (image : List ℕ) : Type 0 where
+  pub judged_all : HasJudged judge walk image
+  pub all : records_of image ≡ Ok judged_all.done

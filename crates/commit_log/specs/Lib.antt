@@ -3,6 +3,7 @@ pub mod BaseBytes
 pub mod RecordBytes
 pub mod Rules
 pub mod Journals
+pub mod Keys
 pub mod Growth
 pub mod Adding
 pub mod Judging

@@ -1,74 +1,16 @@
 //! Whether a base keeps its rules.
-ghost use Rattle.std.specs.Prelude.{◌≡◌, ℕ, List, IfOk, map, true, false};
+ghost use Rattle.std.specs.Prelude.{◌≡◌, ◌&&◌, IfOk, map};
 ghost use Rattle.std.specs.List.{list_all};
 ghost use Rattle.svc_values.specs.Kinds.{row_fits};
 ghost use Rattle.svc_values.specs.Schemas.{is_declared as is_declared_lem};
-ghost use Rattle.stmt_meaning.specs.Operands.{is_name_of};
 ghost use Rattle.stmt_meaning.specs.Plans.{key_of as key_of_lem};
-ghost use Rattle.commit_log.specs.Bases.{names_differ, keys_differ as keys_differ_lem, is_table as is_table_lem, is_sequence as is_sequence_lem, is_base as is_base_lem, schemas_of as schemas_of_lem, sequence_name, shape_of as shape_of_lem};
+ghost use Rattle.commit_log.specs.Bases.{names_differ, table_name, keys_differ as keys_differ_lem, is_table as is_table_lem, is_sequence as is_sequence_lem, is_base as is_base_lem, schemas_of as schemas_of_lem, sequence_name, shape_of as shape_of_lem};
 
 use crate::base::{Base, BaseSequence, BaseTable};
+use crate::keys::Keys;
+use crate::named::are_distinct;
 use std::alloc::Global;
-use std::collections::BTreeSet;
-use svc_values::{Column, Name, Names, NoMemory, Row, Schema, Schemas, Shape, TryCopy, Value};
-
-// What has a name.
-trait Named {
-    ghost name_of: { Self → List ℕ };
-
-    fn name(&self) -> &Name
-        ensures { result.now ≡ name_of self.now };
-}
-
-impl Named for BaseTable {
-    ghost use Rattle.commit_log.specs.Bases.{table_name};
-
-    ghost name_of = { table_name };
-
-    fn name(&self) -> &Name {
-        &self.schema.name
-    }
-}
-
-impl Named for BaseSequence {
-    ghost use Rattle.commit_log.specs.Bases.{sequence_name};
-
-    ghost name_of = { sequence_name };
-
-    fn name(&self) -> &Name {
-        &self.name
-    }
-}
-
-impl Named for Column {
-    ghost use Rattle.commit_log.specs.Bases.{column_name};
-
-    ghost name_of = { column_name };
-
-    fn name(&self) -> &Name {
-        &self.name
-    }
-}
-
-// Whether one of the items has this name.
-fn has_name<T: Named>(items: &[T], name: &Name) -> bool
-    ensures { result ≡ is_name_of (map T.name_of items.now) name.now }
-{
-    match items {
-        [] => false,
-        [first, rest @ ..] => *first.name() == *name || has_name(rest, name),
-    }
-}
-
-// Whether no two items have one name. Quadratic in the items, of which there are at most 32.
-fn are_distinct<T: Named>(items: &[T]) -> bool
-    ensures { result ≡ names_differ (map T.name_of items.now) }
-{
-    match items {
-        [] => true,
-        [first, rest @ ..] => !has_name(rest, first.name()) && are_distinct(rest),
-    }
-}
+use svc_values::{Names, NoMemory, Row, Schema, Schemas, Shape, TryCopy, Value};
 
 // Whether there is a column, and no two have one name.
 fn is_declared(schema: &Schema) -> bool
@@ -91,13 +33,13 @@ fn key_of(alloc: Global, row: &Row) -> Result<Value, NoMemory>
 fn keys_differ(alloc: Global, rows: &[Row]) -> Result<bool, NoMemory>
     ensures { IfOk result (λ differ. differ ≡ keys_differ_lem rows.now) }
 {
-    let mut taken = BTreeSet::new(alloc);
+    let mut taken = Keys::new(alloc);
     for row in rows {
         let key = key_of(alloc, row)?;
-        if taken.contains(&key) {
+        if taken.has(&key) {
             return Ok(false);
         }
-        taken.insert(key)?;
+        taken.add(key)?;
     }
     Ok(true)
 }
@@ -109,14 +51,21 @@ fn rows_fit(schema: &Schema, rows: &[Row]) -> bool
     rows.iter().all(|row| schema.fits(row))
 }
 
+// Whether the table is declared as it may be, and its rows fit.
+fn has_fitting_rows(table: &BaseTable) -> bool
+    ensures { result ≡ (is_declared_lem table.now.schema && list_all (row_fits table.now.schema.columns) table.now.rows) }
+{
+    is_declared(&table.schema) && rows_fit(&table.schema, table.rows.as_slice())
+}
+
+#[tactic(auto, unfolding(crate::specs::Bases::is_table))]
 fn is_table(alloc: Global, table: &BaseTable) -> Result<bool, NoMemory>
     ensures { IfOk result (λ is. is ≡ is_table_lem table.now) }
 {
-    let rows = table.rows.as_slice();
-    if !is_declared(&table.schema) || !rows_fit(&table.schema, rows) {
+    if !has_fitting_rows(table) {
         return Ok(false);
     }
-    keys_differ(alloc, rows)
+    keys_differ(alloc, table.rows.as_slice())
 }
 
 fn are_tables(alloc: Global, tables: &[BaseTable]) -> Result<bool, NoMemory>
@@ -137,16 +86,31 @@ fn is_sequence(sequence: &BaseSequence) -> bool
     sequence.start >= 0 && sequence.start <= 1_000_000_000
 }
 
+fn are_sequences(sequences: &[BaseSequence]) -> bool
+    ensures { result ≡ list_all is_sequence_lem sequences.now }
+{
+    sequences.iter().all(is_sequence)
+}
+
+// Whether names stand once, and sequences begin as they may.
+fn has_fitting_names(base: &Base) -> bool
+    ensures { result ≡ ((names_differ (map table_name base.now.tables) && names_differ (map sequence_name base.now.sequences)) && list_all is_sequence_lem base.now.sequences) }
+{
+    let sequences = base.sequences.as_slice();
+    are_distinct(base.tables.as_slice())
+        && are_distinct(sequences)
+        && are_sequences(sequences)
+}
+
 // Whether a store may begin with this base: n log n for n rows.
+#[tactic(auto, unfolding(crate::specs::Bases::is_base))]
 pub fn is_base(alloc: Global, base: &Base) -> Result<bool, NoMemory>
     ensures { IfOk result (λ is. is ≡ is_base_lem base.now) }
 {
-    let tables = base.tables.as_slice();
-    let sequences = base.sequences.as_slice();
-    if !are_distinct(tables) || !are_distinct(sequences) || !sequences.iter().all(is_sequence) {
+    if !has_fitting_names(base) {
         return Ok(false);
     }
-    are_tables(alloc, tables)
+    are_tables(alloc, base.tables.as_slice())
 }
 
 // The declarations of a base.

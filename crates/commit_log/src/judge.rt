@@ -164,7 +164,10 @@ impl Judge {
         ensures kept { OnOk result (Keeps self.new) }
         ensures misplaced { IsErrOf result Misfit.Misplaced → after (progress_in self.old) (Record.Commit entry) ≡ None }
     {
-        if !self.is_opened || !self.can_commit(&entry) {
+        if !self.is_opened {
+            return Err(Misfit::Misplaced);
+        }
+        if !self.can_commit(&entry) {
             return Err(Misfit::Misplaced);
         }
         self.book.commit(&entry.ltxid, entry.completed)?;

@@ -19,10 +19,12 @@ mod base;
 mod base_bytes;
 mod checks;
 mod journal;
+mod keys;
 mod judge;
 mod judging;
 pub mod laws;
 mod log;
+mod named;
 mod records;
 #[cfg(test)]
 mod tests;

@@ -162,7 +162,7 @@ impl Log {
     // Adds a record, whichever it is.
     fn put<D: Disk>(&mut self, disk: &mut D, adding: Adding) -> Result<(), LogFault>
         requires ready { CanAppend self.old.redo (D.state disk.old) }
-        requires made { IsMadeRecord (record_in adding.entry) }
+        requires made { IsMadeRecord (record_in adding) }
         ensures added { OnOk result (HasAlso (D.state disk.old).now.seen (record_in adding.entry) (D.state disk.new).now.seen) }
         ensures refused { IsErrOf result LogFault.NoMemory → records_of (D.state disk.new).now.seen ≡ records_of (D.state disk.old).now.seen }
         ensures stands { IsOldOrWith (D.state disk.old).now.seen (record_in adding.entry) (D.state disk.new).now.seen }

@@ -70,7 +70,7 @@ pub fn record_of(alloc: Global, payload: &[u8]) -> Result<Option<Record>, NoMemo
 
 // Writes the spelling of a record at the end. After want of memory a part of it may stand there.
 fn put_record(adding: Adding, out: &mut Vec<u8>) -> Result<(), NoMemory>
-    requires { IsMadeRecord (record_in adding.entry) }
+    requires { IsMadeRecord (record_in adding) }
     ensures written { OnOk result (out.new.items ≡ out.old.items ++ spell_record (record_in adding.entry)) }
     ensures fitting { OnOk result (FitsRecord (record_in adding.entry)) }
 {
@@ -92,7 +92,7 @@ fn put_record(adding: Adding, out: &mut Vec<u8>) -> Result<(), NoMemory>
 
 // The bytes of a record.
 pub fn payload_of(alloc: Global, adding: Adding) -> Result<Vec<u8>, NoMemory>
-    requires { IsMadeRecord (record_in adding.entry) }
+    requires { IsMadeRecord (record_in adding) }
     ensures bytes { IfOk result (λ payload. payload.items ≡ spell_record (record_in adding.entry)) }
     ensures fitting { OnOk result (FitsRecord (record_in adding.entry)) }
 {
