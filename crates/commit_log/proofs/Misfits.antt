@@ -20,3 +20,6 @@ when_some o x P is met = subst (λ p. IfSome p P) is met
 pub on_ok : {T E : Type 0} (r : Result T E) (P Q : Type 0) → (P → Q) → OnOk r P → OnOk r Q
 on_ok (Ok v) P Q then met = then met
 on_ok (Err e) P Q then met = tt
+
+pub not_stopped : {T : Type 0} (r : Result T RedoFault) → r ≡ Err redo_fault.NoMemory → r ≡ Err redo_fault.Stopped → ⊥
+not_stopped r no_memory stopped = cc

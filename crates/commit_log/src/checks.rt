@@ -97,9 +97,7 @@ fn has_fitting_names(base: &Base) -> bool
     ensures { result ≡ ((names_differ (map table_name base.now.tables) && names_differ (map sequence_name base.now.sequences)) && list_all is_sequence_lem base.now.sequences) }
 {
     let sequences = base.sequences.as_slice();
-    are_distinct(base.tables.as_slice())
-        && are_distinct(sequences)
-        && are_sequences(sequences)
+    are_distinct(base.tables.as_slice()) && are_distinct(sequences) && are_sequences(sequences)
 }
 
 // Whether a store may begin with this base: n log n for n rows.
