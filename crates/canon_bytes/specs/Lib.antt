@@ -1,6 +1,7 @@
 pub mod Again
 pub mod AnswerBytes
 pub mod CallBytes
+pub mod ColumnBytes
 pub mod DownBytes
 pub mod Draws
 pub mod Entries

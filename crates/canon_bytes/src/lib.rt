@@ -12,6 +12,7 @@
 mod answers;
 mod calls;
 mod canon;
+mod columns;
 mod down;
 mod draws;
 mod entries;

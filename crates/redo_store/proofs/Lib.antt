@@ -1,4 +1,5 @@
 pub mod Grammar
 pub mod Gates
 pub mod Appending
-pub mod Walk
+pub mod Whole
+pub mod Walking

@@ -1,3 +1,4 @@
 pub mod Records
 pub mod Store
 pub mod Redo
+pub mod Walk

@@ -40,6 +40,17 @@ records_from place zero (gate ∷ behind) =
 unfoldable pub records_of : List ℕ → Result (List (List ℕ)) ℕ
 records_of image = if bytes_eq (take 8 image) magic then records_from 8 0 (drop 8 image) else Err 0
 
+-- The payloads of the whole records from the front of the bytes on, up to the first gate that is closed or damaged. The
+-- first `skip` bytes belong to the record before.
+abbrev pub whole_from : ℕ → List ℕ → List (List ℕ)
+whole_from skip [] = []
+whole_from (suc skip) (byte ∷ behind) = whole_from skip behind
+whole_from zero (gate ∷ behind) = if gate == 1 then (if is_whole behind then payload_of behind ∷ whole_from (8 + length_of (take 8 behind)) behind else []) else []
+
+-- the payloads of the whole records of an image, also of one that is damaged behind them: none where it doesn't begin as a store
+unfoldable pub whole_records : List ℕ → List (List ℕ)
+whole_records image = if bytes_eq (take 8 image) magic then whole_from 0 (drop 8 image) else []
+
 -- the bytes of open records with these payloads
 abbrev pub spelling_of : List (List ℕ) → List ℕ
 spelling_of [] = []

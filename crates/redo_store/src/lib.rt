@@ -18,6 +18,8 @@ mod record;
 mod redo;
 #[cfg(test)]
 mod tests;
+mod walk;
 
 pub use fault::RedoFault;
 pub use redo::Redo;
+pub use walk::Walk;

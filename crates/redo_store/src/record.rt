@@ -1,7 +1,7 @@
 //! A record's bytes, written and read.
 ghost use Rattle.std.specs.Prelude.{◌≡◌, ◌+◌, ◌≤◌, ◌<◌, ◌^◌, ◌++◌, ◌∷◌, [], ℕ, length, take, drop, OnOk, OnErr, IfOk, IsErrOf, Err, MatchOption};
 ghost use Rattle.disk_model.specs.Disk.{OnlyReads};
-ghost use Rattle.redo_store.specs.Records.{magic, length_bytes, length_of, records_from, records_of};
+ghost use Rattle.redo_store.specs.Records.{magic, length_bytes, length_of, records_from, whole_from};
 ghost use Rattle.redo_store.specs.Store.{HasRecord, HasClosedGate};
 
 use crate::fault::RedoFault;
@@ -45,7 +45,7 @@ fn length_in(spelling: &[u8; 8]) -> u64
 // Reads what the bytes begin with.
 pub fn check_magic<D: Disk>(disk: &mut D) -> Result<(), RedoFault>
     ensures magic { OnOk result (take 8 (D.state disk.old).now.seen ≡ magic) }
-    ensures damaged { (place : ℕ) → IsErrOf result (RedoFault.Damaged place) → records_of (D.state disk.old).now.seen ≡ Err place }
+    ensures damaged { (place : ℕ) → IsErrOf result (RedoFault.Damaged place) → (place ≡ 0) × (take 8 (D.state disk.old).now.seen ≡ magic → ⊥) }
     ensures no_memory { IsErrOf result RedoFault.NoMemory → ⊥ }
     ensures only_reads { OnlyReads (IsErrOf result RedoFault.Stopped) (D.state disk.old) (D.state disk.new) }
 {
@@ -68,15 +68,14 @@ pub fn record_at<D: Disk>(
     disk: &mut D,
     place: u64,
 ) -> Result<Option<Vec<u8>>, RedoFault>
-    requires { place ≤ length (D.state disk.old).now.seen }
     ensures found { IfOk result (λ found. MatchOption found
         (HasClosedGate place (D.state disk.old).now.seen)
         (λ payload. HasRecord place payload.items (D.state disk.old).now.seen)) }
     ensures damaged { (at : ℕ) → IsErrOf result (RedoFault.Damaged at)
-        → (at ≡ place) × (records_from place 0 (drop place (D.state disk.old).now.seen) ≡ Err place) }
+        → (at ≡ place) × (records_from place 0 (drop place (D.state disk.old).now.seen) ≡ Err place) × (whole_from 0 (drop place (D.state disk.old).now.seen) ≡ []) }
     ensures only_reads { OnlyReads (IsErrOf result RedoFault.Stopped) (D.state disk.old) (D.state disk.new) }
 {
-    let rest = disk.size() - place;
+    let rest = disk.size().saturating_sub(place);
     if rest == 0 {
         return Err(RedoFault::Damaged(place));
     }

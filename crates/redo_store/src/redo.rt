@@ -1,12 +1,13 @@
 //! The store.
-ghost use Rattle.std.specs.Prelude.{◌≡◌, ◌+◌, ◌≤◌, ◌<◌, ◌^◌, ◌++◌, ◌∷◌, [], ◌⊎◌, ℕ, List, length, OnOk, OnErr, IfOk, IsErrOf, Ok, Err, map, false, IsFalse};
+ghost use Rattle.std.specs.Prelude.{◌≡◌, ◌+◌, ◌≤◌, ◌<◌, ◌^◌, ◌++◌, ◌∷◌, [], ◌⊎◌, ℕ, List, length, OnOk, OnErr, IfOk, IsErrOf, Ok, Err, map, false, true, IsFalse};
 ghost use Rattle.disk_model.specs.Moment.{Torn, with_bytes};
 ghost use Rattle.disk_model.specs.Disk.{Meanwhile, LeftSince, moment, IsSettled, Lowered, Caused, OnlyReads};
 ghost use Rattle.redo_store.specs.Records.{magic, records_of, with_last};
 ghost use Rattle.redo_store.specs.Store.{IsOldOrNew};
 
 use crate::fault::RedoFault;
-use crate::record::{HEAD, MAGIC, OPEN, body_of, check_magic, record_at};
+use crate::record::{OPEN, body_of};
+use crate::walk::Walk;
 use disk_model::{Disk, DiskFault};
 use std::alloc::Global;
 
@@ -57,19 +58,25 @@ impl Redo {
         ensures ready { IsSettled (D.state disk.old) → IfOk result (λ opened. CanAppend opened.0 (D.state disk.new)) }
         ensures only_reads { OnlyReads (IsErrOf result RedoFault.Stopped) (D.state disk.old) (D.state disk.new) }
     {
-        check_magic(disk)?;
+        let mut walk = Walk::begin(alloc, disk)?;
         let mut records = Vec::new(alloc);
-        let mut tail = MAGIC.len() as u64;
-        while let Some(payload) = record_at(alloc, disk, tail)? {
-            tail += HEAD + payload.len() as u64;
+        while let Some(payload) = walk.next(disk)? {
             records.push(payload)?;
         }
-        let redo = Redo {
+        let redo = walk.finish();
+        Ok((redo, records))
+    }
+
+    // A store of which the records end at this gate.
+    pub(crate) fn behind(alloc: Global, tail: u64) -> Redo
+        ensures tail { result.tail ≡ tail }
+        ensures live { result.live ≡ true }
+    {
+        Redo {
             alloc,
             tail,
             live: true,
-        };
-        Ok((redo, records))
+        }
     }
 
     /// Adds a record, in four device calls: its body, a sync, its gate, a sync.

@@ -1,5 +1,5 @@
 use Rattle.std.proofs.Common.{sym}
-use Rattle.redo_store.proofs.Walk.{spelled_by}
+use Rattle.redo_store.proofs.Walking.{spelled_by}
 use Rattle.redo_store.specs.Records.{length_of}
 use Rattle.redo_store.proofs.record.length_in.Goals as goal
 

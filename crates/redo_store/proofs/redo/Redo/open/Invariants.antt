@@ -1,6 +1,6 @@
 use Rattle.std.proofs.Common.{◌-◌, ℕ, length, map, Vec, Global}
 use Rattle.disk_model.specs.Disk.{OnlyReads}
-use Rattle.redo_store.proofs.Walk.{Walked}
+use Rattle.redo_store.specs.Walk.{HasRead}
 use Rattle.redo_store.proofs.redo.Redo.open.Given as goal
 
 abbrev pub invariant-loop-records : goal.invariant-loop-records
@@ -8,8 +8,8 @@ invariant-loop-records g l =
     let first = g.D.Disk.state l.fn.disk in
     record {
       only_reads : OnlyReads ⊥ first (g.D.Disk.state l.disk);
-      walked : Walked first.now.seen l.tail (map (λ (v : Vec ℕ Global). v.items) l.records.items);
+      read : HasRead l.walk (map (λ (v : Vec ℕ Global). v.items) l.records.items) first.now.seen;
     }
 
 abbrev pub decreases-loop-records : goal.decreases-loop-records
-decreases-loop-records g l = length (g.D.Disk.state l.fn.disk).now.seen - l.tail
+decreases-loop-records g l = length (g.D.Disk.state l.fn.disk).now.seen - l.walk.place

@@ -1,0 +1,5 @@
+pub mod Steps
+pub mod Growing
+pub mod Differing
+pub mod Committing
+pub mod Misfits

@@ -1,0 +1,6 @@
+use Rattle.std.proofs.Common.{◌≡◌, take, map}
+use Rattle.commit_log.specs.Bases.{sequence_name}
+use Rattle.commit_log.proofs.checks.names_of.Given as goal
+
+abbrev pub invariant-loop-sequence : goal.invariant-loop-sequence
+invariant-loop-sequence l = l.names.items ≡ map sequence_name (take l.sequence-index l.sequence-items)

@@ -1,0 +1,33 @@
+-- What a judge of records keeps beside the journal.
+use Rattle.std.specs.Prelude.{◌≡◌, ℕ, List, map, Ok}
+use Rattle.ltxid_book.specs.Sessions.{state_in}
+use Rattle.ltxid_book.specs.Journal.{IsBookOf, BlocksStand}
+use Rattle.redo_store.specs.declared.walk.Walk.{Walk}
+use Rattle.redo_store.specs.Records.{records_of}
+use Rattle.redo_store.specs.Walk.{HasRead}
+use Rattle.commit_log.specs.declared.judge.Judge.{Judge}
+use Rattle.commit_log.specs.Bases.{shape_of}
+use Rattle.commit_log.specs.Rules.{Progress, Empty, Begun, committed}
+use Rattle.commit_log.specs.Journals.{judged}
+
+-- how far it has come
+abbrev pub progress_in : Judge → Progress
+progress_in judge = Begun judge.journal judge.is_opened
+
+-- its book says of each session what the journal does, and its shape is that of the base
+pub record Keeps (judge : Judge) : Type 0 where
+  pub book : IsBookOf (state_in judge.book) (map committed judge.journal.entries) judge.journal.blocked
+  pub blocks : BlocksStand (map committed judge.journal.entries) judge.journal.blocked
+  pub shape : judge.shape ≡ shape_of judge.journal.base
+
+-- it has judged the records that the walk has gone over, and keeps what they say
+pub record HasJudged (judge : Judge) (walk : Walk) (image : List ℕ) : Type 0 where
+  pub done : List (List ℕ)
+  pub read : HasRead walk done image
+  pub judges : judged Empty 8 done ≡ Ok (progress_in judge)
+  pub keeps : Keeps judge
+
+-- and these are all of the image
+pub record HasJudgedAll (judge : Judge) (walk : Walk) (image : List ℕ) : Type 0 where
+  pub judged_all : HasJudged judge walk image
+  pub all : records_of image ≡ Ok judged_all.done

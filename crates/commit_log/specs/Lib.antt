@@ -1,0 +1,11 @@
+pub mod Bases
+pub mod BaseBytes
+pub mod RecordBytes
+pub mod Rules
+pub mod Journals
+pub mod Keys
+pub mod Growth
+pub mod Adding
+pub mod Judging
+pub mod Logs
+pub mod Laws

@@ -1,0 +1,185 @@
+//! A journal under way: records are judged one by one and added to it.
+ghost use Rattle.std.specs.Prelude.{◌≡◌, Some, None, OnOk, IfOk, IsErrOf, IsTrue, [], map, false};
+ghost use Rattle.svc_values.specs.Identifiers.{IsLtxid};
+ghost use Rattle.stmt_meaning.specs.Fitting.{writes_fit as writes_fit_lem};
+ghost use Rattle.canon_bytes.specs.Entries.{FitsEntry};
+ghost use Rattle.commit_log.specs.Bases.{shape_of as shape_of_lem};
+ghost use Rattle.commit_log.specs.Rules.{Empty, new_journal as new_journal_lem, after, may_open, may_commit};
+ghost use Rattle.commit_log.specs.Journals.{after_payload};
+ghost use Rattle.commit_log.specs.Judging.{progress_in, Keeps};
+
+use crate::base::Base;
+use crate::checks::{is_base, shape_of};
+use crate::journal::{Blocks, Entries, Journal, Lines, Ltxids};
+use crate::records::{Record, record_of};
+use ltxid_book::Book;
+use redo_store::RedoFault;
+use std::alloc::Global;
+use stmt_meaning::write_fits;
+use svc_values::{Entry, ListFault, NoMemory, Shape, Write};
+
+// Why a record was not added. The judge is of no more use.
+#[derive(Clone, Copy)]
+pub enum Misfit {
+    NoMemory,
+    Misplaced,
+}
+
+impl Misfit {
+    // The fault of a store with such a record at the place.
+    pub fn at(self, place: u64) -> RedoFault
+        ensures no_memory { self ≡ Misfit.NoMemory → result ≡ RedoFault.NoMemory }
+        ensures misplaced { self ≡ Misfit.Misplaced → result ≡ RedoFault.Damaged place }
+    {
+        match self {
+            Misfit::NoMemory => RedoFault::NoMemory,
+            Misfit::Misplaced => RedoFault::Damaged(place),
+        }
+    }
+}
+
+impl From<NoMemory> for Misfit {
+    ghost use Rattle.commit_log.specs.declared.judge.Misfit.TheVariants as misfit;
+
+    ghost from_gives = { λ _ e. e ≡ misfit.NoMemory };
+
+    fn from(_: NoMemory) -> Misfit {
+        Misfit::NoMemory
+    }
+}
+
+impl From<ListFault> for Misfit {
+    ghost use Rattle.commit_log.specs.declared.judge.Misfit.TheVariants as misfit;
+
+    ghost from_gives = { λ _ e. e ≡ misfit.NoMemory };
+
+    fn from(_: ListFault) -> Misfit {
+        Misfit::NoMemory
+    }
+}
+
+// A journal under way. Beside it stands what judges the next record at once: the state of each session, and the
+// declarations of the base.
+#[derive(Drop)]
+pub struct Judge {
+    journal: Journal,
+    is_opened: bool,
+    book: Book,
+    shape: Shape,
+}
+
+// A journal of nothing but its base.
+fn new_journal(alloc: Global, base: Base) -> Journal
+    ensures { result ≡ new_journal_lem base }
+{
+    Journal {
+        base,
+        incarnation: 0,
+        entries: Entries::new(alloc),
+        blocked: Ltxids::new(alloc),
+        reserved: Blocks::new(alloc),
+        alerts: Lines::new(alloc),
+    }
+}
+
+// Whether each write fits what is declared.
+fn writes_fit(shape: &Shape, writes: &[Write]) -> bool
+    ensures { result ≡ writes_fit_lem shape.now.schemas writes.now }
+{
+    writes.iter().all(|write| write_fits(shape, write))
+}
+
+impl Judge {
+    // Judges the first record, which has to be a base that keeps its rules.
+    pub fn begin(alloc: Global, payload: &[u8]) -> Result<Judge, Misfit>
+        ensures begun { IfOk result (λ judge. after_payload Empty payload.now ≡ Some (progress_in judge)) }
+        ensures kept { IfOk result Keeps }
+        ensures misplaced { IsErrOf result Misfit.Misplaced → after_payload Empty payload.now ≡ None }
+    {
+        let Some(Record::Base(base)) = record_of(alloc, payload)? else {
+            return Err(Misfit::Misplaced);
+        };
+        if !is_base(alloc, &base)? {
+            return Err(Misfit::Misplaced);
+        }
+        let shape = shape_of(alloc, &base)?;
+        Ok(Judge {
+            journal: new_journal(alloc, base),
+            is_opened: false,
+            book: Book::new(alloc),
+            shape,
+        })
+    }
+
+    // Judges one more record, and adds it. Beside the record's bytes it looks at its session and at the declarations
+    // alone.
+    pub fn take(&mut self, alloc: Global, payload: &[u8]) -> Result<(), Misfit>
+        requires { Keeps self.old }
+        ensures taken { OnOk result (after_payload (progress_in self.old) payload.now ≡ Some (progress_in self.new)) }
+        ensures kept { OnOk result (Keeps self.new) }
+        ensures misplaced { IsErrOf result Misfit.Misplaced → after_payload (progress_in self.old) payload.now ≡ None }
+    {
+        match record_of(alloc, payload)? {
+            None => Err(Misfit::Misplaced),
+            Some(Record::Base(_)) => Err(Misfit::Misplaced),
+            Some(Record::Opened(incarnation)) => self.open(incarnation),
+            Some(Record::Commit(entry)) => self.commit(entry),
+        }
+    }
+
+    // Adds an opening.
+    fn open(&mut self, incarnation: u64) -> Result<(), Misfit>
+        requires { Keeps self.old }
+        ensures taken { OnOk result (after (progress_in self.old) (Record.Opened incarnation) ≡ Some (progress_in self.new)) }
+        ensures kept { OnOk result (Keeps self.new) }
+        ensures misplaced { IsErrOf result Misfit.Misplaced → after (progress_in self.old) (Record.Opened incarnation) ≡ None }
+    {
+        if incarnation > 1 << 63 {
+            return Err(Misfit::Misplaced);
+        }
+        if self.is_opened && self.journal.incarnation >= incarnation {
+            return Err(Misfit::Misplaced);
+        }
+        self.journal.incarnation = incarnation;
+        self.is_opened = true;
+        Ok(())
+    }
+
+    // Whether the commit may come next in a journal that was opened.
+    pub fn can_commit(&self, entry: &Entry) -> bool
+        requires kept { Keeps self.now }
+        requires ltxid { IsLtxid entry.now.ltxid }
+        ensures { result ≡ may_commit self.now.journal entry.now }
+    {
+        entry.ltxid.incarnation <= self.journal.incarnation
+            && (self.book.can_commit(&entry.ltxid)
+                && writes_fit(&self.shape, entry.writes.as_slice()))
+    }
+
+    // Adds a commit.
+    fn commit(&mut self, entry: Entry) -> Result<(), Misfit>
+        requires kept { Keeps self.old }
+        requires fits { FitsEntry entry }
+        ensures taken { OnOk result (after (progress_in self.old) (Record.Commit entry) ≡ Some (progress_in self.new)) }
+        ensures kept { OnOk result (Keeps self.new) }
+        ensures misplaced { IsErrOf result Misfit.Misplaced → after (progress_in self.old) (Record.Commit entry) ≡ None }
+    {
+        if !self.is_opened {
+            return Err(Misfit::Misplaced);
+        }
+        if !self.can_commit(&entry) {
+            return Err(Misfit::Misplaced);
+        }
+        self.book.commit(&entry.ltxid, entry.completed)?;
+        self.journal.entries.push(entry)?;
+        Ok(())
+    }
+
+    // The journal. It takes no memory.
+    pub fn into_journal(self) -> Journal
+        ensures { result ≡ self.journal }
+    {
+        let Judge { journal, .. } = self;
+        journal
+    }
+}

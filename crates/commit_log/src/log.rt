@@ -1,0 +1,181 @@
+//! The log: a store that is opened for commits.
+ghost use Rattle.std.specs.Prelude.{◌≡◌, ◌+◌, ◌<◌, ◌^◌, ◌⊎◌, [], ◌∷◌, ℕ, List, IsTrue, IsFalse, OnOk, IfOk, IsErrOf, Ok, Err};
+ghost use Rattle.disk_model.specs.Disk.{Meanwhile, LeftSince, moment, IsSettled, SameBytes, Lowered, Caused, OnlyReads};
+ghost use Rattle.redo_store.specs.Records.{records_of};
+ghost use Rattle.redo_store.specs.Redo.{CanAppend, is_live as is_live_store};
+ghost use Rattle.canon_bytes.specs.Entries.{IsMadeEntry};
+ghost use Rattle.commit_log.specs.declared.journal.Journal.{Journal as Held};
+ghost use Rattle.commit_log.specs.declared.records.Record.TheVariants as kept;
+ghost use Rattle.commit_log.specs.Bases.{IsBase};
+ghost use Rattle.commit_log.specs.RecordBytes.{IsMadeRecord};
+ghost use Rattle.commit_log.specs.Rules.{new_journal, may_commit};
+ghost use Rattle.commit_log.specs.Journals.{journal_of};
+ghost use Rattle.commit_log.specs.Adding.{record_in, HasAlso, IsOldOrWith};
+ghost use Rattle.commit_log.specs.Growth.{with_records, with_opening, opening_of, IsGrown};
+
+use crate::base::Base;
+use crate::journal::Journal;
+use crate::judging::judge_all;
+use crate::records::{Adding, payload_of};
+use disk_model::Disk;
+use redo_store::{Redo, RedoFault as LogFault, Walk};
+use std::alloc::Global;
+use svc_values::Entry;
+
+/// A store that was opened. It holds no record: the journal is handed out at the opening.
+#[derive(Drop)]
+pub struct Log {
+    alloc: Global,
+    redo: Redo,
+}
+
+impl Log {
+    ghost use Rattle.commit_log.specs.Logs.{is_live, CanLog};
+
+    /// Whether a commit may be added. After `Stopped` it may not, and the store is to be opened again.
+    pub fn is_live(&self) -> bool
+        ensures { result ≡ is_live self.now }
+    {
+        self.redo.is_live()
+    }
+
+    /// Makes a store with this base on an empty disk, in six device calls.
+    ///
+    /// The bytes of the base are made before the first of them. Nothing is claimed of a crash before it has answered
+    /// `Ok`. After `Stopped` the disk may hold any part of the store.
+    pub fn create<D: Disk>(alloc: Global, disk: &mut D, base: &Base) -> Result<(), LogFault>
+        requires empty { (D.state disk.old).now.seen ≡ [] }
+        requires base { IsBase base.now }
+
+        // The journal is that of the base alone, and it is durable.
+        ensures made { OnOk result (journal_of (D.state disk.new).now.seen ≡ Ok (new_journal base.now)) }
+        ensures settled { OnOk result (IsSettled (D.state disk.new)) }
+
+        // For want of memory the disk is as it was, or holds a store without a record.
+        ensures refused { IsErrOf result LogFault.NoMemory → (D.state disk.new ≡ D.state disk.old) ⊎ (records_of (D.state disk.new).now.seen ≡ Ok []) }
+
+        // It succeeds only with no stop or one of at least six, which it lowers by six.
+        ensures stop { OnOk result (Lowered 6 (D.state disk.old).stop (D.state disk.new).stop) }
+        ensures cause { Caused 6 (IsErrOf result LogFault.Stopped) (D.state disk.old) (D.state disk.new) }
+        ensures whole { (place : ℕ) → IsErrOf result (LogFault.Damaged place) → ⊥ }
+    {
+        let Ok(payload) = payload_of(alloc, Adding::Base(base)) else {
+            return Err(LogFault::NoMemory);
+        };
+        Redo::create(disk)?;
+        let mut redo = Walk::begin(alloc, disk)?.finish();
+        redo.append(disk, &payload)
+    }
+
+    /// Reads the journal, and changes nothing.
+    ///
+    /// Time and memory grow with the records, for each commit with the logarithm of the number of sessions, and for a
+    /// base of n rows with n log n.
+    pub fn read<D: Disk>(alloc: Global, disk: &mut D) -> Result<Journal, LogFault>
+        ensures journal { IfOk result (λ journal. journal_of (D.state disk.old).now.seen ≡ Ok journal) }
+
+        // The place is the first at which the bytes are no journal.
+        ensures damaged { (place : ℕ) → IsErrOf result (LogFault.Damaged place) → journal_of (D.state disk.old).now.seen ≡ Err place }
+        ensures only_reads { OnlyReads (IsErrOf result LogFault.Stopped) (D.state disk.old) (D.state disk.new) }
+    {
+        let (_, judge) = judge_all(alloc, disk)?;
+        Ok(judge.into_journal())
+    }
+
+    /// Opens the store: reads the journal, and adds an opening with the next incarnation, in four device calls.
+    ///
+    /// The journal is the one with this opening. It costs what `read` does.
+    pub fn open<D: Disk>(alloc: Global, disk: &mut D) -> Result<(Log, Journal), LogFault>
+        requires settled { IsSettled (D.state disk.old) }
+        requires room { (journal : Held) → journal_of (D.state disk.old).now.seen ≡ Ok journal → journal.incarnation < 2 ^ 63 }
+        ensures journal { IfOk result (λ opened. journal_of (D.state disk.new).now.seen ≡ Ok opened.1) }
+        ensures opened { IfOk result (λ opened. with_opening (journal_of (D.state disk.old).now.seen) ≡ Ok opened.1) }
+        ensures ready { IfOk result (λ opened. CanLog opened.0 (D.state disk.new)) }
+
+        // A damaged store is not written, and the place is the first at which the bytes are no journal.
+        ensures damaged { (place : ℕ) → IsErrOf result (LogFault.Damaged place) → journal_of (D.state disk.old).now.seen ≡ Err place }
+        ensures unwritten { (place : ℕ) → journal_of (D.state disk.old).now.seen ≡ Err place → SameBytes (D.state disk.old) (D.state disk.new) }
+
+        // For want of memory the journal is as it was, and nothing is pending.
+        ensures refused { IsErrOf result LogFault.NoMemory → (journal_of (D.state disk.new).now.seen ≡ journal_of (D.state disk.old).now.seen) × IsSettled (D.state disk.new) }
+
+        // Whatever it answers, a read then gives the old journal, or this journal with the opening.
+        ensures stands { let old = (D.state disk.old).now.seen in IsGrown old (opening_of (journal_of old)) (D.state disk.new).now.seen }
+
+        // A crash at any moment of the call leaves the old journal, or this journal with the opening.
+        ensures any_moment { let old = (D.state disk.old).now.seen in Meanwhile (D.state disk.old) (D.state disk.new) (IsGrown old (opening_of (journal_of old))) }
+
+        // The same, said of the time since the call began.
+        ensures since { let old = (D.state disk.old).now.seen in (image : List ℕ) → LeftSince (D.state disk.new) (moment (D.state disk.old)) image → IsGrown old (opening_of (journal_of old)) image }
+
+        // It succeeds only with no stop or one of at least four, which it lowers by four.
+        ensures stop { OnOk result (Lowered 4 (D.state disk.old).stop (D.state disk.new).stop) }
+        ensures cause { Caused 4 (IsErrOf result LogFault.Stopped) (D.state disk.old) (D.state disk.new) }
+    {
+        let (redo, judge) = judge_all(alloc, disk)?;
+        let mut journal = judge.into_journal();
+        let mut log = Log { alloc, redo };
+        let incarnation = journal.incarnation + 1;
+        log.put(disk, Adding::Opened(incarnation))?;
+        journal.incarnation = incarnation;
+        Ok((log, journal))
+    }
+
+    /// Adds a committed transaction, in four device calls.
+    ///
+    /// It takes the memory for the record before the first of them, in proportion to the entry alone. The caller sees to it
+    /// that the commit may come next in the journal of the disk.
+    pub fn commit<D: Disk>(&mut self, disk: &mut D, entry: &Entry) -> Result<(), LogFault>
+        requires ready { CanLog self.old (D.state disk.old) }
+        requires made { IsMadeEntry entry.now }
+        requires may { (journal : Held) → journal_of (D.state disk.old).now.seen ≡ Ok journal → IsTrue (may_commit journal entry.now) }
+
+        // At Ok the entry is there, last, and durable.
+        ensures added { OnOk result (journal_of (D.state disk.new).now.seen ≡ with_records (kept.Commit entry.now ∷ []) (journal_of (D.state disk.old).now.seen)) }
+
+        // For want of memory it changes no journal.
+        ensures refused { IsErrOf result LogFault.NoMemory → journal_of (D.state disk.new).now.seen ≡ journal_of (D.state disk.old).now.seen }
+
+        // Whatever it answers, a read then gives the old journal, or this journal with the entry last.
+        ensures stands { IsGrown (D.state disk.old).now.seen (kept.Commit entry.now ∷ []) (D.state disk.new).now.seen }
+
+        // After Ok and NoMemory it goes on with its disk; after Stopped the store is to be opened again.
+        ensures ready { (IsErrOf result LogFault.Stopped → ⊥) → CanLog self.new (D.state disk.new) }
+        ensures stopped { IsErrOf result LogFault.Stopped → IsFalse (is_live self.new) }
+
+        // A crash at any moment of the call leaves the old journal, or this journal with the entry last.
+        ensures any_moment { Meanwhile (D.state disk.old) (D.state disk.new) (IsGrown (D.state disk.old).now.seen (kept.Commit entry.now ∷ [])) }
+
+        // The same, said of the time since the call began.
+        ensures since { (image : List ℕ) → LeftSince (D.state disk.new) (moment (D.state disk.old)) image → IsGrown (D.state disk.old).now.seen (kept.Commit entry.now ∷ []) image }
+
+        // It succeeds only with no stop or one of at least four, which it lowers by four.
+        ensures stop { OnOk result (Lowered 4 (D.state disk.old).stop (D.state disk.new).stop) }
+
+        // Stopped has its cause in the disk; with no stop or one of at least four a quiet disk has no fault.
+        ensures cause { Caused 4 (IsErrOf result LogFault.Stopped) (D.state disk.old) (D.state disk.new) }
+        ensures whole { (place : ℕ) → IsErrOf result (LogFault.Damaged place) → ⊥ }
+    {
+        self.put(disk, Adding::Commit(entry))
+    }
+
+    // Adds a record, whichever it is.
+    fn put<D: Disk>(&mut self, disk: &mut D, adding: Adding) -> Result<(), LogFault>
+        requires ready { CanAppend self.old.redo (D.state disk.old) }
+        requires made { IsMadeRecord (record_in adding) }
+        ensures added { OnOk result (HasAlso (D.state disk.old).now.seen (record_in adding.entry) (D.state disk.new).now.seen) }
+        ensures refused { IsErrOf result LogFault.NoMemory → records_of (D.state disk.new).now.seen ≡ records_of (D.state disk.old).now.seen }
+        ensures stands { IsOldOrWith (D.state disk.old).now.seen (record_in adding.entry) (D.state disk.new).now.seen }
+        ensures ready { (IsErrOf result LogFault.Stopped → ⊥) → CanAppend self.new.redo (D.state disk.new) }
+        ensures stopped { IsErrOf result LogFault.Stopped → IsFalse (is_live_store self.new.redo) }
+        ensures any_moment { Meanwhile (D.state disk.old) (D.state disk.new) (IsOldOrWith (D.state disk.old).now.seen (record_in adding.entry)) }
+        ensures stop { OnOk result (Lowered 4 (D.state disk.old).stop (D.state disk.new).stop) }
+        ensures cause { Caused 4 (IsErrOf result LogFault.Stopped) (D.state disk.old) (D.state disk.new) }
+        ensures whole { (place : ℕ) → IsErrOf result (LogFault.Damaged place) → ⊥ }
+    {
+        let Ok(payload) = payload_of(self.alloc, adding) else {
+            return Err(LogFault::NoMemory);
+        };
+        self.redo.append(disk, &payload)
+    }
+}

@@ -1,0 +1,4 @@
+//! What no clause says: that calls succeed, and the values of worked cases.
+
+mod images;
+mod stops;

@@ -1,0 +1,260 @@
+//! Images made by hand, and what a reading says of them.
+
+use super::stops::no_tables;
+use crate::{Log, LogFault};
+use disk_model::MemDisk;
+use std::alloc::{AllocError, Global};
+use std::test::Fail;
+
+// A store over a base without tables and sequences, opened once.
+const OPENED: [u8; 53] = [
+    0x54, 0x47, 0x53, 0x54, 0x4f, 0x52, 0x45, 0x31, // TGSTORE1
+    1, 0, 0, 0, 0, 0, 0, 0, 17, // at 8
+    1, 0, 0, 0, 0, 0, 0, 0, 0, 0, 0, 0, 0, 0, 0, 0, 0, // two empty lists
+    1, 0, 0, 0, 0, 0, 0, 0, 9, // at 34
+    2, 0, 0, 0, 0, 0, 0, 0, 1, // the first opening
+    0, // the closed gate at 52
+];
+
+// What a reading of the bytes says: the last opening and the number of entries, or the place of the damage.
+fn said(alloc: Global, bytes: &[u8]) -> Result<String, AllocError> {
+    let mut disk = MemDisk::of(alloc, bytes)?;
+    match Log::read(alloc, &mut disk) {
+        Ok(journal) => {
+            let incarnation = journal.incarnation;
+            let count = journal.entries.len();
+            format!(in alloc; "opened {incarnation}, entries {count}")
+        }
+        Err(LogFault::Damaged(place)) => format!(in alloc; "damaged at {place}"),
+        Err(fault) => format!(in alloc; "{fault}"),
+    }
+}
+
+#[test]
+fn the_bytes_of_a_store_that_was_made_and_opened(rt: HostRuntime) -> Result<(), Fail> {
+    let alloc = rt.alloc();
+    let mut disk = MemDisk::new(alloc);
+    Log::create(alloc, &mut disk, &no_tables(alloc))?;
+    assert_eq!(rt; said(alloc, disk.bytes())?.as_str(), "opened 0, entries 0");
+    let (log, journal) = Log::open(alloc, &mut disk)?;
+    assert!(rt; log.is_live());
+    assert_eq!(rt; journal.incarnation, 1);
+    assert_eq!(rt; disk.bytes(), OPENED.as_slice());
+    Ok(())
+}
+
+#[test]
+fn each_part_of_a_store_is_damaged_at_the_gate_that_lost_its_record(
+    rt: HostRuntime,
+) -> Result<(), Fail> {
+    let alloc = rt.alloc();
+    assert_eq!(rt; said(alloc, &OPENED)?.as_str(), "opened 1, entries 0");
+    for (count, _) in OPENED.iter().enumerate() {
+        let place = match count {
+            0..=7 => 0,
+            8..=34 => 8,
+            _ => 34,
+        };
+        assert_eq!(rt;
+            said(alloc, &OPENED[..count])?,
+            format!(in alloc; "damaged at {place}")?,
+            "{count} bytes"
+        );
+    }
+    Ok(())
+}
+
+// What a reading says where the byte at this place is one more.
+fn expected(place: usize) -> &'static str {
+    match place {
+        // The magic.
+        0..=7 => "damaged at 0",
+        // The first gate closed, its length, the tag, and the counts of two lists.
+        8..=33 => "damaged at 8",
+        // The second gate closed: the store was never opened.
+        34 => "opened 0, entries 0",
+        // Its length, and its tag.
+        35..=43 => "damaged at 34",
+        // Another incarnation.
+        44 => "opened 72057594037927937, entries 0",
+        45 => "opened 281474976710657, entries 0",
+        46 => "opened 1099511627777, entries 0",
+        47 => "opened 4294967297, entries 0",
+        48 => "opened 16777217, entries 0",
+        49 => "opened 65537, entries 0",
+        50 => "opened 257, entries 0",
+        51 => "opened 2, entries 0",
+        // The last gate open, with nothing behind it.
+        _ => "damaged at 52",
+    }
+}
+
+#[test]
+fn each_byte_of_a_store_changed(rt: HostRuntime) -> Result<(), Fail> {
+    let alloc = rt.alloc();
+    for (place, byte) in OPENED.iter().enumerate() {
+        let mut bytes = OPENED;
+        bytes[place] = byte.wrapping_add(1);
+        assert_eq!(rt;
+            said(alloc, &bytes)?.as_str(),
+            expected(place),
+            "at {place}"
+        );
+    }
+    Ok(())
+}
+
+fn push_number(out: &mut Vec<u8>, number: u8) -> Result<(), AllocError> {
+    out.extend_from_slice(&[0, 0, 0, 0, 0, 0, 0, number])?;
+    Ok(())
+}
+
+// The bytes of a record that a text describes: a digit is a byte, a digit behind a point is a number of eight bytes, and a
+// letter is a name or a text of that letter.
+fn bytes_of(alloc: Global, text: &str) -> Result<Vec<u8>, AllocError> {
+    let mut out = Vec::new(alloc);
+    let mut is_number = false;
+    for byte in text.as_bytes() {
+        match byte {
+            b'.' => is_number = true,
+            b'0'..=b'9' => {
+                if is_number {
+                    push_number(&mut out, *byte - b'0')?;
+                } else {
+                    out.push(*byte - b'0')?;
+                }
+                is_number = false;
+            }
+            _ => {
+                push_number(&mut out, 1)?;
+                out.push(*byte)?;
+            }
+        }
+    }
+    Ok(out)
+}
+
+// A store of these records, with this gate behind them.
+fn store_of(alloc: Global, records: &[&str], gate: u8) -> Result<Vec<u8>, AllocError> {
+    let mut bytes = b"TGSTORE1".to_vec(alloc)?;
+    for record in records {
+        let payload = bytes_of(alloc, record)?;
+        bytes.push(1)?;
+        bytes.extend_from_slice(&(payload.len() as u64).to_be_bytes())?;
+        bytes.extend_from_slice(&payload)?;
+    }
+    bytes.push(gate)?;
+    Ok(bytes)
+}
+
+// A table t with the column k of integers and a row of key 5, and a sequence s from 9 on. Its record ends at 104.
+const TABLE: &str = "1.1t.1k1.1.11.5.1s.91";
+
+#[test]
+fn records_that_may_come_next_and_those_that_may_not(rt: HostRuntime) -> Result<(), Fail> {
+    let alloc = rt.alloc();
+    let cases: [(&[&str], &str); 24] = [
+        (&[], "damaged at 8"),
+        (&["1.0.0"], "opened 0, entries 0"),
+        (&["1.0.00"], "damaged at 8"),
+        (&["2.1"], "damaged at 8"),
+        (&["1.0.0", "1.0.0"], "damaged at 34"),
+        // Incarnations: the first may be 0, and they rise.
+        (&["1.0.0", "2.0"], "opened 0, entries 0"),
+        (&["1.0.0", "2.0", "2.0"], "damaged at 52"),
+        (&["1.0.0", "2.1", "2.3"], "opened 3, entries 0"),
+        (&["1.0.0", "2.3", "2.1"], "damaged at 52"),
+        (&["1.0.0", "2.10"], "damaged at 34"),
+        // A commit needs an opening that is not below its incarnation.
+        (&["1.0.0", "3.1.1.01.0.0.0"], "damaged at 34"),
+        (&["1.0.0", "2.1", "3.1.1.01.0.0.0"], "opened 1, entries 1"),
+        (&["1.0.0", "2.3", "3.1.1.01.0.0.0"], "opened 3, entries 1"),
+        (&["1.0.0", "2.1", "3.2.1.01.0.0.0"], "damaged at 52"),
+        // It has its session's next number.
+        (
+            &["1.0.0", "2.1", "3.1.1.01.0.0.0", "3.1.1.10.0.0.0"],
+            "opened 1, entries 2",
+        ),
+        (
+            &["1.0.0", "2.1", "3.1.1.01.0.0.0", "3.1.2.01.0.0.0"],
+            "opened 1, entries 2",
+        ),
+        (
+            &["1.0.0", "2.1", "3.1.1.01.0.0.0", "3.1.1.01.0.0.0"],
+            "damaged at 111",
+        ),
+        (&["1.0.0", "2.1", "3.1.1.11.0.0.0"], "damaged at 52"),
+        (&["1.0.0", "2.1", "3.1.1.02.0.0.0"], "damaged at 52"),
+        // Tags without a record.
+        (&["1.0.0", "2.1", "0"], "damaged at 52"),
+        (&["1.0.0", "2.1", "4.1.1.0"], "damaged at 52"),
+        (&["1.0.0", "2.1", "5s.9"], "damaged at 52"),
+        (&["1.0.0", "2.1", "6k"], "damaged at 52"),
+        (&["1.0.0", ""], "damaged at 34"),
+    ];
+    for (records, expected) in cases {
+        let bytes = store_of(alloc, records, 0)?;
+        assert_eq!(rt; said(alloc, &bytes)?.as_str(), expected);
+    }
+    Ok(())
+}
+
+#[test]
+fn writes_and_whether_they_fit(rt: HostRuntime) -> Result<(), Fail> {
+    let alloc = rt.alloc();
+    let cases = [
+        // A row of key 5, and the row of key 5 taken away.
+        ("3.1.1.01.0.0.1t1.51.11.5", "opened 1, entries 1"),
+        ("3.1.1.01.0.0.1t1.50", "opened 1, entries 1"),
+        // No such table, a key of another kind, another key, two values, and a second write that does not fit.
+        ("3.1.1.01.0.0.1u1.50", "damaged at 122"),
+        ("3.1.1.01.0.0.1t2k0", "damaged at 122"),
+        ("3.1.1.01.0.0.1t1.51.11.6", "damaged at 122"),
+        ("3.1.1.01.0.0.1t1.51.21.51.5", "damaged at 122"),
+        ("3.1.1.01.0.0.2t1.50t2k0", "damaged at 122"),
+    ];
+    for (commit, expected) in cases {
+        let bytes = store_of(alloc, &[TABLE, "2.1", commit], 0)?;
+        assert_eq!(rt; said(alloc, &bytes)?.as_str(), expected);
+    }
+    Ok(())
+}
+
+#[test]
+fn bases_that_keep_the_rules_and_those_that_do_not(rt: HostRuntime) -> Result<(), Fail> {
+    let alloc = rt.alloc();
+    let cases = [
+        (TABLE, "opened 0, entries 0"),
+        ("1.1t.1k1.2.11.5.11.6.0", "opened 0, entries 0"),
+        // A key, a column, a table and a sequence twice.
+        ("1.1t.1k1.2.11.5.11.5.0", "damaged at 8"),
+        ("1.1t.2k1k1.0.0", "damaged at 8"),
+        ("1.2t.1k1.0t.1k1.0.0", "damaged at 8"),
+        ("1.0.2s.01s.01", "damaged at 8"),
+        // No column, a row without a value, and one of another kind.
+        ("1.1t.0.0.0", "damaged at 8"),
+        ("1.1t.1k1.1.0.0", "damaged at 8"),
+        ("1.1t.1k1.1.12k.0", "damaged at 8"),
+    ];
+    for (base, expected) in cases {
+        let bytes = store_of(alloc, &[base], 0)?;
+        assert_eq!(rt; said(alloc, &bytes)?.as_str(), expected);
+    }
+    Ok(())
+}
+
+#[test]
+fn the_first_damage_is_told(rt: HostRuntime) -> Result<(), Fail> {
+    let alloc = rt.alloc();
+    // An open gate with nothing behind it, behind records that may come next and behind one that may not.
+    let whole = store_of(alloc, &["1.0.0", "2.1"], 1)?;
+    assert_eq!(rt; said(alloc, &whole)?.as_str(), "damaged at 52");
+    let misplaced = store_of(alloc, &["1.0.0", "4"], 1)?;
+    assert_eq!(rt; said(alloc, &misplaced)?.as_str(), "damaged at 34");
+    // A length of eight bytes ff.
+    let mut long = store_of(alloc, &["1.0.0"], 1)?;
+    long.extend_from_slice(&[0xff; 8])?;
+    long.extend_from_slice(&[2, 0, 0, 0, 0, 0, 0, 0, 1, 0])?;
+    assert_eq!(rt; said(alloc, &long)?.as_str(), "damaged at 34");
+    Ok(())
+}
