@@ -1,5 +1,5 @@
 -- How journals grow, at a moment and from call to call.
-use Rattle.std.proofs.Common.{◌≡◌, ◌⊎◌, ℕ, ◌+◌, ◌^◌, ◌<◌, ◌≤◌, zero, suc, List, [], ◌∷◌, ◌++◌, length, take, Option, Some, None, inl, inr, refl, sym, ◌∙◌, ap, subst, arith, length-append, fold}
+use Rattle.std.proofs.Common.{◌≡◌, ℕ, ◌+◌, ◌^◌, ◌<◌, ◌≤◌, zero, suc, List, [], ◌∷◌, ◌++◌, length, take, Some, None, inl, inr, refl, sym, ◌∙◌, ap, subst, arith, length-append, fold}
 use Rattle.std.specs.Prelude.{Bool, true, false, not, ◌&&◌, ◌||◌, nat_le, nat_lt, IsTrue, Result, Ok, Err, if◌then◌else◌}
 use Rattle.std.proofs.lemmas.Bool.{le-leb, lt-ltb}
 use Rattle.svc_values.specs.declared.entry.Entry.{Entry}
@@ -11,7 +11,7 @@ use Rattle.commit_log.specs.declared.journal.Journal.{Journal}
 use Rattle.commit_log.specs.declared.base.Base.{Base}
 use Rattle.commit_log.specs.declared.records.Record.{Record}
 use Rattle.commit_log.specs.declared.records.Record.TheVariants as kept
-use Rattle.commit_log.specs.Bases.{is_base, IsBase}
+use Rattle.commit_log.specs.Bases.{IsBase}
 use Rattle.commit_log.specs.Rules.{Progress, Empty, Begun, new_journal, with_record, may_open, may_commit, after}
 use Rattle.commit_log.specs.Journals.{journal_in, journal_of, progress_of}
 use Rattle.commit_log.specs.Adding.{HasAlso, IsOldOrWith}

@@ -1,5 +1,5 @@
 -- The fault that a record which was not added gives, and what is known of an option by its case.
-use Rattle.std.proofs.Common.{◌≡◌, ◌⊎◌, ℕ, Option, Some, None, inl, inr, refl, subst, sym, ◌∙◌}
+use Rattle.std.proofs.Common.{◌≡◌, ℕ, Option, Some, None, refl, subst}
 use Rattle.std.specs.Prelude.{Result, Ok, Err, OnOk, IfSome, IfNone}
 use Rattle.redo_store.specs.declared.fault.RedoFault.{RedoFault}
 use Rattle.redo_store.specs.declared.fault.RedoFault.TheVariants as redo_fault

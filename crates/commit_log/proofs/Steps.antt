@@ -1,5 +1,5 @@
 -- How far a journal has come, by its records and after one more.
-use Rattle.std.proofs.Common.{◌≡◌, ◌⊎◌, ℕ, ◌+◌, List, [], ◌∷◌, ◌++◌, length, drop, Option, Some, None, inl, inr, refl, sym, ◌∙◌, ap, arith, append_assoc, length-append, append-nil}
+use Rattle.std.proofs.Common.{◌≡◌, ℕ, ◌+◌, List, [], ◌∷◌, ◌++◌, length, drop, Option, Some, None, refl, sym, ◌∙◌, ap, arith, append_assoc, length-append, append-nil}
 use Rattle.std.specs.Prelude.{Result, Ok, Err, option_and_then}
 use Rattle.redo_store.specs.declared.walk.Walk.{Walk}
 use Rattle.redo_store.specs.Records.{length_bytes, spelling_of, records_of, whole_records, whole_from, with_last}

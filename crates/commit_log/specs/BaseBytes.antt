@@ -1,7 +1,6 @@
 -- The bytes of a base: a list of tables, each its name, its columns and its rows, and a list of sequences.
 use Rattle.std.proofs.Common.{◌≡◌, refl, append_assoc}
 use Rattle.std.specs.Prelude.{ℕ, List, ◌++◌, Result, Ok}
-use Rattle.svc_values.specs.declared.schema.Schema.{Schema}
 use Rattle.canon_bytes.specs.Numbers.{spell_i64, spell_bool, FitsI64, i64_at, bool_at}
 use Rattle.canon_bytes.specs.TextBytes.{spell_bytes, FitsName, name_at}
 use Rattle.canon_bytes.specs.Lists.{spell_list, FitsList, list_at}

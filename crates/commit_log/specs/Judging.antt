@@ -1,10 +1,12 @@
 -- What a judge of records keeps beside the journal.
 use Rattle.std.specs.Prelude.{◌≡◌, ℕ, List, map, Ok}
+use Rattle.ltxid_book.specs.declared.State.{State}
 use Rattle.ltxid_book.specs.Sessions.{state_in}
 use Rattle.ltxid_book.specs.Journal.{IsBookOf, BlocksStand}
 use Rattle.redo_store.specs.declared.walk.Walk.{Walk}
 use Rattle.redo_store.specs.Records.{records_of}
 use Rattle.redo_store.specs.Walk.{HasRead}
+use Rattle.commit_log.specs.declared.journal.Journal.{Journal}
 use Rattle.commit_log.specs.declared.judge.Judge.{Judge}
 use Rattle.commit_log.specs.Bases.{shape_of}
 use Rattle.commit_log.specs.Rules.{Progress, Empty, Begun, committed}
@@ -14,10 +16,14 @@ use Rattle.commit_log.specs.Journals.{judged}
 abbrev pub progress_in : Judge → Progress
 progress_in judge = Begun judge.journal judge.is_opened
 
--- its book says of each session what the journal does, and its shape is that of the base
+-- the book says of each session what the journal does, and each block of the journal stands
+pub record IsBookFor (book : List ((ℕ × ℕ) × State)) (journal : Journal) : Type 0 where
+  pub sessions : IsBookOf (state_in book) (map committed journal.entries) journal.blocked
+  pub blocks : BlocksStand (map committed journal.entries) journal.blocked
+
+-- its book is one for its journal, and its shape is that of the base
 pub record Keeps (judge : Judge) : Type 0 where
-  pub book : IsBookOf (state_in judge.book) (map committed judge.journal.entries) judge.journal.blocked
-  pub blocks : BlocksStand (map committed judge.journal.entries) judge.journal.blocked
+  pub book_for : IsBookFor judge.book judge.journal
   pub shape : judge.shape ≡ shape_of judge.journal.base
 
 -- it has judged the records that the walk has gone over, and keeps what they say

@@ -109,8 +109,8 @@ fn push_number(out: &mut Vec<u8>, number: u8) -> Result<(), AllocError> {
     Ok(())
 }
 
-// The bytes of a record that a text describes: a digit is a byte, a digit behind a point is a number of eight bytes, and a
-// letter is a name or a text of that letter.
+// The bytes of a record that a text describes: a digit is a byte, a digit behind a point is a number of eight bytes, a
+// letter is a name or a text of that letter, and a dash is nothing.
 fn bytes_of(alloc: Global, text: &str) -> Result<Vec<u8>, AllocError> {
     let mut out = Vec::new(alloc);
     let mut is_number = false;
@@ -125,6 +125,7 @@ fn bytes_of(alloc: Global, text: &str) -> Result<Vec<u8>, AllocError> {
                 }
                 is_number = false;
             }
+            b'-' => {}
             _ => {
                 push_number(&mut out, 1)?;
                 out.push(*byte)?;
@@ -134,10 +135,10 @@ fn bytes_of(alloc: Global, text: &str) -> Result<Vec<u8>, AllocError> {
     Ok(out)
 }
 
-// A store of these records, with this gate behind them.
-fn store_of(alloc: Global, records: &[&str], gate: u8) -> Result<Vec<u8>, AllocError> {
+// A store of records that stand apart in a text, with this gate behind them.
+fn store_of(alloc: Global, records: &str, gate: u8) -> Result<Vec<u8>, AllocError> {
     let mut bytes = b"TGSTORE1".to_vec(alloc)?;
-    for record in records {
+    for record in records.split_whitespace() {
         let payload = bytes_of(alloc, record)?;
         bytes.push(1)?;
         bytes.extend_from_slice(&(payload.len() as u64).to_be_bytes())?;
@@ -147,98 +148,67 @@ fn store_of(alloc: Global, records: &[&str], gate: u8) -> Result<Vec<u8>, AllocE
     Ok(bytes)
 }
 
-// A table t with the column k of integers and a row of key 5, and a sequence s from 9 on. Its record ends at 104.
-const TABLE: &str = "1.1t.1k1.1.11.5.1s.91";
+// Stores, each by its records and by what a reading says; and lines that say what they are.
+const STORES: &str = "\
+ => damaged at 8
+1.0.0 => opened 0, entries 0
+1.0.00 => damaged at 8
+2.1 => damaged at 8
+- => damaged at 8
+1.0.0 - => damaged at 34
+1.0.0 1.0.0 => damaged at 34
+# incarnations rise, and the first may be 0
+1.0.0 2.0 => opened 0, entries 0
+1.0.0 2.0 2.0 => damaged at 52
+1.0.0 2.1 2.3 => opened 3, entries 0
+1.0.0 2.3 2.1 => damaged at 52
+1.0.0 2.10 => damaged at 34
+# a commit needs an opening that is not below its incarnation, and its session's next number
+1.0.0 3.1.1.01.0.0.0 => damaged at 34
+1.0.0 2.1 3.1.1.01.0.0.0 => opened 1, entries 1
+1.0.0 2.3 3.1.1.01.0.0.0 => opened 3, entries 1
+1.0.0 2.1 3.2.1.01.0.0.0 => damaged at 52
+1.0.0 2.1 3.1.1.01.0.0.0 3.1.1.10.0.0.0 => opened 1, entries 2
+1.0.0 2.1 3.1.1.01.0.0.0 3.1.2.01.0.0.0 => opened 1, entries 2
+1.0.0 2.1 3.1.1.01.0.0.0 3.1.1.01.0.0.0 => damaged at 111
+1.0.0 2.1 3.1.1.11.0.0.0 => damaged at 52
+1.0.0 2.1 3.1.1.02.0.0.0 => damaged at 52
+# tags without a record
+1.0.0 2.1 0 => damaged at 52
+1.0.0 2.1 4.1.1.0 => damaged at 52
+1.0.0 2.1 5s.9 => damaged at 52
+1.0.0 2.1 6k => damaged at 52
+# a base with a table t, a column k of integers, a row of key 5 and a sequence s
+1.1t.1k1.1.11.5.1s.91 => opened 0, entries 0
+1.1t.1k1.2.11.5.11.6.0 => opened 0, entries 0
+# a key, a column, a table and a sequence twice
+1.1t.1k1.2.11.5.11.5.0 => damaged at 8
+1.1t.2k1k1.0.0 => damaged at 8
+1.2t.1k1.0t.1k1.0.0 => damaged at 8
+1.0.2s.01s.01 => damaged at 8
+# no column, no value, and a value of another kind
+1.1t.0.0.0 => damaged at 8
+1.1t.1k1.1.0.0 => damaged at 8
+1.1t.1k1.1.12k.0 => damaged at 8
+# a row of key 5 written, and taken away
+1.1t.1k1.1.11.5.1s.91 2.1 3.1.1.01.0.0.1t1.51.11.5 => opened 1, entries 1
+1.1t.1k1.1.11.5.1s.91 2.1 3.1.1.01.0.0.1t1.50 => opened 1, entries 1
+# no such table, a key of another kind, another key, two values, a second write that does not fit
+1.1t.1k1.1.11.5.1s.91 2.1 3.1.1.01.0.0.1u1.50 => damaged at 122
+1.1t.1k1.1.11.5.1s.91 2.1 3.1.1.01.0.0.1t2k0 => damaged at 122
+1.1t.1k1.1.11.5.1s.91 2.1 3.1.1.01.0.0.1t1.51.11.6 => damaged at 122
+1.1t.1k1.1.11.5.1s.91 2.1 3.1.1.01.0.0.1t1.51.21.51.5 => damaged at 122
+1.1t.1k1.1.11.5.1s.91 2.1 3.1.1.01.0.0.2t1.50t2k0 => damaged at 122
+";
 
 #[test]
-fn records_that_may_come_next_and_those_that_may_not(rt: HostRuntime) -> Result<(), Fail> {
+fn records_and_what_a_reading_says_of_them(rt: HostRuntime) -> Result<(), Fail> {
     let alloc = rt.alloc();
-    let cases: [(&[&str], &str); 24] = [
-        (&[], "damaged at 8"),
-        (&["1.0.0"], "opened 0, entries 0"),
-        (&["1.0.00"], "damaged at 8"),
-        (&["2.1"], "damaged at 8"),
-        (&["1.0.0", "1.0.0"], "damaged at 34"),
-        // Incarnations: the first may be 0, and they rise.
-        (&["1.0.0", "2.0"], "opened 0, entries 0"),
-        (&["1.0.0", "2.0", "2.0"], "damaged at 52"),
-        (&["1.0.0", "2.1", "2.3"], "opened 3, entries 0"),
-        (&["1.0.0", "2.3", "2.1"], "damaged at 52"),
-        (&["1.0.0", "2.10"], "damaged at 34"),
-        // A commit needs an opening that is not below its incarnation.
-        (&["1.0.0", "3.1.1.01.0.0.0"], "damaged at 34"),
-        (&["1.0.0", "2.1", "3.1.1.01.0.0.0"], "opened 1, entries 1"),
-        (&["1.0.0", "2.3", "3.1.1.01.0.0.0"], "opened 3, entries 1"),
-        (&["1.0.0", "2.1", "3.2.1.01.0.0.0"], "damaged at 52"),
-        // It has its session's next number.
-        (
-            &["1.0.0", "2.1", "3.1.1.01.0.0.0", "3.1.1.10.0.0.0"],
-            "opened 1, entries 2",
-        ),
-        (
-            &["1.0.0", "2.1", "3.1.1.01.0.0.0", "3.1.2.01.0.0.0"],
-            "opened 1, entries 2",
-        ),
-        (
-            &["1.0.0", "2.1", "3.1.1.01.0.0.0", "3.1.1.01.0.0.0"],
-            "damaged at 111",
-        ),
-        (&["1.0.0", "2.1", "3.1.1.11.0.0.0"], "damaged at 52"),
-        (&["1.0.0", "2.1", "3.1.1.02.0.0.0"], "damaged at 52"),
-        // Tags without a record.
-        (&["1.0.0", "2.1", "0"], "damaged at 52"),
-        (&["1.0.0", "2.1", "4.1.1.0"], "damaged at 52"),
-        (&["1.0.0", "2.1", "5s.9"], "damaged at 52"),
-        (&["1.0.0", "2.1", "6k"], "damaged at 52"),
-        (&["1.0.0", ""], "damaged at 34"),
-    ];
-    for (records, expected) in cases {
-        let bytes = store_of(alloc, records, 0)?;
-        assert_eq!(rt; said(alloc, &bytes)?.as_str(), expected);
-    }
-    Ok(())
-}
-
-#[test]
-fn writes_and_whether_they_fit(rt: HostRuntime) -> Result<(), Fail> {
-    let alloc = rt.alloc();
-    let cases = [
-        // A row of key 5, and the row of key 5 taken away.
-        ("3.1.1.01.0.0.1t1.51.11.5", "opened 1, entries 1"),
-        ("3.1.1.01.0.0.1t1.50", "opened 1, entries 1"),
-        // No such table, a key of another kind, another key, two values, and a second write that does not fit.
-        ("3.1.1.01.0.0.1u1.50", "damaged at 122"),
-        ("3.1.1.01.0.0.1t2k0", "damaged at 122"),
-        ("3.1.1.01.0.0.1t1.51.11.6", "damaged at 122"),
-        ("3.1.1.01.0.0.1t1.51.21.51.5", "damaged at 122"),
-        ("3.1.1.01.0.0.2t1.50t2k0", "damaged at 122"),
-    ];
-    for (commit, expected) in cases {
-        let bytes = store_of(alloc, &[TABLE, "2.1", commit], 0)?;
-        assert_eq!(rt; said(alloc, &bytes)?.as_str(), expected);
-    }
-    Ok(())
-}
-
-#[test]
-fn bases_that_keep_the_rules_and_those_that_do_not(rt: HostRuntime) -> Result<(), Fail> {
-    let alloc = rt.alloc();
-    let cases = [
-        (TABLE, "opened 0, entries 0"),
-        ("1.1t.1k1.2.11.5.11.6.0", "opened 0, entries 0"),
-        // A key, a column, a table and a sequence twice.
-        ("1.1t.1k1.2.11.5.11.5.0", "damaged at 8"),
-        ("1.1t.2k1k1.0.0", "damaged at 8"),
-        ("1.2t.1k1.0t.1k1.0.0", "damaged at 8"),
-        ("1.0.2s.01s.01", "damaged at 8"),
-        // No column, a row without a value, and one of another kind.
-        ("1.1t.0.0.0", "damaged at 8"),
-        ("1.1t.1k1.1.0.0", "damaged at 8"),
-        ("1.1t.1k1.1.12k.0", "damaged at 8"),
-    ];
-    for (base, expected) in cases {
-        let bytes = store_of(alloc, &[base], 0)?;
-        assert_eq!(rt; said(alloc, &bytes)?.as_str(), expected);
+    for line in STORES.lines() {
+        if let Some((records, expected)) = line.split_once(" => ") {
+            let bytes = store_of(alloc, records, 0)?;
+            assert_eq!(rt; said(alloc, &bytes)?.as_str(), expected, "{line}");
+        }
     }
     Ok(())
 }
@@ -247,12 +217,12 @@ fn bases_that_keep_the_rules_and_those_that_do_not(rt: HostRuntime) -> Result<()
 fn the_first_damage_is_told(rt: HostRuntime) -> Result<(), Fail> {
     let alloc = rt.alloc();
     // An open gate with nothing behind it, behind records that may come next and behind one that may not.
-    let whole = store_of(alloc, &["1.0.0", "2.1"], 1)?;
+    let whole = store_of(alloc, "1.0.0 2.1", 1)?;
     assert_eq!(rt; said(alloc, &whole)?.as_str(), "damaged at 52");
-    let misplaced = store_of(alloc, &["1.0.0", "4"], 1)?;
+    let misplaced = store_of(alloc, "1.0.0 4", 1)?;
     assert_eq!(rt; said(alloc, &misplaced)?.as_str(), "damaged at 34");
     // A length of eight bytes ff.
-    let mut long = store_of(alloc, &["1.0.0"], 1)?;
+    let mut long = store_of(alloc, "1.0.0", 1)?;
     long.extend_from_slice(&[0xff; 8])?;
     long.extend_from_slice(&[2, 0, 0, 0, 0, 0, 0, 0, 1, 0])?;
     assert_eq!(rt; said(alloc, &long)?.as_str(), "damaged at 34");

@@ -1,5 +1,5 @@
 //! Commits, and commits that are stopped.
-ghost use Rattle.std.specs.Prelude.{◌≡◌, ◌<◌, ◌≤◌, ◌^◌, IsErrOf};
+ghost use Rattle.std.specs.Prelude.{◌≡◌, ◌<◌, ◌≤◌, ◌^◌, IfOk};
 ghost use Rattle.canon_bytes.specs.Entries.{IsMadeEntry};
 ghost use Rattle.commit_log.specs.Bases.{IsBase};
 ghost use Rattle.commit_log.specs.Logs.{CanLog};
@@ -48,7 +48,7 @@ fn commit_next<D: Disk>(
 ) -> Result<bool, LogFault>
     requires ready { CanLog log.old (D.state disk.old) }
     requires made { IsMadeEntry entry.now }
-    ensures { (IsErrOf result LogFault.Stopped → ⊥) → CanLog log.new (D.state disk.new) }
+    ensures { IfOk result (λ _. CanLog log.new (D.state disk.new)) }
 {
     let (_, judge) = judge_all(alloc, disk)?;
     if !judge.can_commit(entry) {
@@ -64,13 +64,15 @@ fn commits_are_read_back(rt: HostRuntime) -> Result<(), Fail> {
     let mut disk = MemDisk::new(alloc);
     let base = no_tables(alloc);
     Log::create(alloc, &mut disk, &base)?;
+    let (_, opened) = Log::open(alloc, &mut disk)?;
+    assert_eq!(rt; opened.incarnation, 1);
     let (mut log, _) = Log::open(alloc, &mut disk)?;
     let first = commit_of(alloc, 0);
     assert!(rt; commit_next(alloc, &mut log, &mut disk, &first)?);
     assert!(rt; !commit_next(alloc, &mut log, &mut disk, &first)?);
     let second = commit_of(alloc, 1);
     assert!(rt; commit_next(alloc, &mut log, &mut disk, &second)?);
-    let (_, journal) = Log::open(alloc, &mut disk)?;
+    let journal = Log::read(alloc, &mut disk)?;
     assert_eq!(rt; journal.incarnation, 2);
     assert!(rt; journal.base == base);
     assert!(rt; journal.entries.as_slice() == [first, second].as_slice());

@@ -1,7 +1,6 @@
-use Rattle.std.proofs.Common.{◌≡◌, ◌&&◌, true, length, sym, ap, ◌∙◌, arith}
+use Rattle.std.proofs.Common.{◌≡◌, true, length, arith}
 use Rattle.std.specs.Prelude.{nat_le}
 use Rattle.std.proofs.lemmas.Bool.Decides.{nat_tests}
-use Rattle.svc_values.specs.Kinds.{have_distinct_names}
 use Rattle.commit_log.proofs.Differing.{columns_differ}
 use Rattle.commit_log.proofs.checks.is_declared.Goals as goal
 

@@ -1,4 +1,4 @@
-use Rattle.std.proofs.Common.{◌≡◌, ℕ, ◌+◌, [], ◌∷◌, ◌++◌, List, refl, sym, ap, ◌∙◌, rules, arith, Option, None}
+use Rattle.std.proofs.Common.{◌≡◌, ℕ, [], ◌∷◌, ◌++◌, refl, sym, ap, ◌∙◌, rules, None}
 use Rattle.std.specs.Prelude.{Ok, Err}
 use Rattle.redo_store.specs.Records.{records_of, whole_records}
 use Rattle.redo_store.specs.Walk.{HasRead}

@@ -1,5 +1,5 @@
 use Rattle.std.proofs.Common.{◌≡◌, ℕ, [], List, refl, sym, ap, subst, ◌∙◌, rules}
-use Rattle.std.specs.Prelude.{Ok, Err}
+use Rattle.std.specs.Prelude.{Err}
 use Rattle.disk_model.specs.Moment.{Moment, MayLeave}
 use Rattle.redo_store.specs.Records.{records_of}
 use Rattle.redo_store.specs.Walk.{HasRead}

@@ -1,4 +1,4 @@
-use Rattle.std.proofs.Common.{◌≡◌, ℕ, ◌+◌, [], ◌∷◌, ◌++◌, List, refl, sym, ap, subst, ◌∙◌, rules, arith, Option, None}
+use Rattle.std.proofs.Common.{◌≡◌, [], ◌∷◌, ◌++◌, sym, ap, subst, ◌∙◌, rules, None}
 use Rattle.std.specs.Prelude.{Ok, Err}
 use Rattle.disk_model.specs.Moment.{Moment}
 use Rattle.disk_model.proofs.Causes.{reads_for, reads_then}

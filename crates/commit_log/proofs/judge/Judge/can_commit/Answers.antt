@@ -1,4 +1,4 @@
-use Rattle.std.proofs.Common.{◌≡◌, sym, ap, ◌∙◌}
+use Rattle.std.proofs.Common.{sym, ap, ◌∙◌}
 use Rattle.std.proofs.lemmas.Bool.{le-leb, lt-leb}
 use Rattle.stmt_meaning.specs.Fitting.{writes_fit}
 use Rattle.ltxid_book.specs.Sessions.{state_in, may_commit as can_commit}

@@ -1,8 +1,10 @@
-use Rattle.std.proofs.Common.{◌≡◌, true, refl, sym, ◌∙◌}
-use Rattle.commit_log.specs.declared.judge.Judge.{Judge}
+use Rattle.std.proofs.Common.{◌≡◌, List, sym, ap, subst, ◌∙◌}
+use Rattle.svc_values.specs.declared.entry.Entry.{Entry}
 use Rattle.commit_log.specs.declared.journal.Journal.{Journal}
-use Rattle.commit_log.specs.Rules.{may_commit}
-use Rattle.commit_log.proofs.Committing.{book_lets, keeps_commit}
+use Rattle.commit_log.specs.declared.records.Record.TheVariants as kept
+use Rattle.commit_log.specs.Rules.{with_record}
+use Rattle.commit_log.specs.Judging.{IsBookFor}
+use Rattle.commit_log.proofs.Committing.{book_lets, notes_commit}
 use Rattle.commit_log.proofs.judge.Judge.commit.Goals as goal
 
 pub commit-requires-clause-may : goal.commit-requires-clause-may
@@ -10,8 +12,9 @@ commit-requires-clause-may c = book_lets c.args.self.now c.args.entry c.requires
 
 pub returns-clause-kept : goal.returns-clause-kept
 returns-clause-kept c =
-    let old : Judge = c.args.self.now in
-    let journal : Journal = record old.journal { entries = c.push.new.self } in
-    let new : Judge = record { journal = journal; is_opened = old.is_opened; book = c.commit.new.self; shape = old.shape } in
-    let lets = book_lets old c.args.entry c.requires.kept (sym c.can_commit.ensures ∙ c.if-not-can_commit.false) in
-    keeps_commit old new c.args.entry c.requires.kept lets c.in_ok-commit.ensures.ok c.in_ok-push.ensures.ok refl c.requires.kept.shape
+    let judge = c.args.self.now in
+    let lets = book_lets judge c.args.entry c.requires.kept (sym c.can_commit.ensures ∙ c.if-not-can_commit.false) in
+    let noted = notes_commit judge.book c.commit.new.self judge.journal c.args.entry c.requires.kept.book_for lets c.in_ok-commit.ensures.ok in
+    let pushed : Journal = record judge.journal { entries = c.push.new.self } in
+    let more : with_record judge.journal (kept.Commit c.args.entry) ≡ pushed = ap (λ (l : List Entry). let journal : Journal = record judge.journal { entries = l } in journal) (sym c.in_ok-push.ensures.ok) in
+    record { book_for = subst (IsBookFor c.commit.new.self) more noted; shape = c.requires.kept.shape }

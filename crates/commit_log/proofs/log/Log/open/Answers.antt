@@ -1,5 +1,5 @@
 use Rattle.std.proofs.Common.{◌≡◌, ℕ, ◌+◌, List, sym, ap, subst, ◌∙◌, rules, arith}
-use Rattle.std.specs.Prelude.{Result, Ok, true}
+use Rattle.std.specs.Prelude.{Ok}
 use Rattle.disk_model.specs.Moment.{Moment}
 use Rattle.redo_store.specs.Records.{records_of}
 use Rattle.commit_log.specs.declared.journal.Journal.{Journal}
