@@ -1,6 +1,6 @@
 -- Which draws reading asks for, and how it goes on with more of them.
-use Rattle.std.proofs.Common.{◌≡◌, ℕ, ℤ, pos, Bool, true, false, cond, List, [], ◌∷◌, ◌++◌, refl, sym, ap, ◌∙◌, append_assoc, append-nil}
-use Rattle.std.specs.Prelude.{Option, Some, None, Result, Ok, Err}
+use Rattle.std.proofs.Common.{◌≡◌, ℕ, pos, Bool, true, false, cond, List, [], ◌∷◌, ◌++◌, refl, ap, ◌∙◌, append-nil}
+use Rattle.std.specs.Prelude.{Some, None, Result, Ok, Err}
 use Rattle.svc_values.specs.declared.value.Value.{Value}
 use Rattle.svc_values.specs.declared.draw.Draw.{Draw}
 use Rattle.svc_values.specs.declared.draw.Draw.TheVariants as draw
@@ -13,7 +13,7 @@ use Rattle.svc_values.specs.declared.answer.StatementFault.{StatementFault}
 use Rattle.svc_values.specs.declared.answer.StatementFault.TheVariants as fault
 use Rattle.svc_values.specs.SameLaws.{bytes_decide}
 use Rattle.stmt_meaning.specs.declared.plan.Plan.{Plan}
-use Rattle.stmt_meaning.specs.Operands.{Read, ◌>>=◌, is_of_kind, is_name_of, drawn_value, take_draw, Wanted, Known, Drawn, wanted, wanted_draw, taken, value_of, values_of}
+use Rattle.stmt_meaning.specs.Operands.{Read, ◌>>=◌, is_of_kind, drawn_value, take_draw, Wanted, Known, Drawn, wanted, wanted_draw, taken, value_of, values_of}
 use Rattle.stmt_meaning.specs.Plans.{Aim, aim_of, operands_of, plan_for, plan_at, plan_of}
 use Rattle.table_txn.specs.Drawing.{is_there}
 

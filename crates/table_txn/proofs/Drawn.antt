@@ -1,19 +1,14 @@
 -- What reading from a source came to, put together.
-use Rattle.std.proofs.Common.{◌≡◌, ◌⊎◌, inl, inr, ℕ, Bool, true, false, List, [], ◌∷◌, ◌++◌, refl, sym, ap, ◌∙◌, subst, append_assoc, append-nil}
-use Rattle.std.specs.Prelude.{Option, Some, None, Result, Ok, Err, option_map}
+use Rattle.std.proofs.Common.{◌≡◌, inl, inr, ℕ, true, List, [], ◌∷◌, ◌++◌, refl, sym, ap, ◌∙◌, subst, append-nil}
+use Rattle.std.specs.Prelude.{Some, Ok, Err, option_map}
 use Rattle.svc_values.specs.declared.value.Value.{Value}
 use Rattle.svc_values.specs.declared.draw.Draw.{Draw}
 use Rattle.svc_values.specs.declared.draw.DrawKind.{DrawKind}
-use Rattle.svc_values.specs.declared.answer.StatementFault.{StatementFault}
-use Rattle.svc_values.specs.declared.answer.StatementFault.TheVariants as refusal
-use Rattle.stmt_meaning.specs.Operands.{Read, is_of_kind, drawn_value, wanted_draw, taken}
+use Rattle.stmt_meaning.specs.Operands.{Read, drawn_value, wanted_draw, taken}
 use Rattle.table_txn.specs.declared.fault.DrawFromFault.{DrawFromFault}
 use Rattle.table_txn.specs.declared.fault.DrawFromFault.TheVariants as fault
-use Rattle.table_txn.specs.declared.fault.TxnFault.{TxnFault}
 use Rattle.table_txn.specs.declared.fault.TxnFault.TheVariants as txn_fault
-use Rattle.table_txn.specs.declared.operands.Stop.{Stop}
-use Rattle.table_txn.specs.declared.operands.Stop.TheVariants as stop
-use Rattle.table_txn.specs.Drawing.{Drew, Gave, Lacked, Halted, is_there, HasDrawn, DrewAll, AreAsked, EndedBy, Ends}
+use Rattle.table_txn.specs.Drawing.{Drew, Gave, is_there, HasDrawn, DrewAll, Ends}
 use Rattle.table_txn.specs.Steps.{ReadsAll, HasRead, left_of}
 use Rattle.table_txn.specs.Stops.{stop_of_draw}
 use Rattle.table_txn.proofs.Asking.{Enough, EnoughAfter, one_draw, one_draw-kind, taken_there, wanted_away}

@@ -1,7 +1,7 @@
 -- What is kept of places, as notes.
 use Rattle.std.proofs.Common.{◌≡◌, ◌⊎◌, inl, inr, ℕ, Bool, true, false, not, cond, List, [], ◌∷◌, get_or, refl, sym, ap, ◌∙◌, subst}
-use Rattle.std.specs.Prelude.{Option, Some, None, IsSome, option_map, ◌&&◌, ◌||◌, map}
-use Rattle.std.specs.List.{list_all, All}
+use Rattle.std.specs.Prelude.{Option, Some, None, IsSome, option_map, ◌&&◌, ◌||◌}
+use Rattle.std.specs.List.{All}
 use Rattle.std.proofs.lemmas.List.Elements.{All-map}
 use Rattle.std.specs.BTreeMap.{BTreeMap, WritesThrough, Updates, is_at, insert_entry}
 use Rattle.std.specs.Map.{lookup, set_value}
@@ -19,13 +19,13 @@ use Rattle.stmt_meaning.specs.declared.tables.Place.{Place}
 use Rattle.stmt_meaning.specs.declared.tables.Place.TheVariants as place
 use Rattle.stmt_meaning.specs.contracts.tables.PlaceOrd.TheImpl.{cmp-value as cmp-place}
 use Rattle.stmt_meaning.specs.Tables.{rows_at}
-use Rattle.table_store.specs.Rows.{Keyed, plain_row, plain_rows, row_if_any}
+use Rattle.table_store.specs.Rows.{Keyed, plain_rows, row_if_any}
 use Rattle.table_txn.specs.declared.found.Found.{Found}
 use Rattle.table_txn.specs.declared.found.Found.TheVariants as found
 use Rattle.table_txn.specs.declared.notes.Noted.{Noted}
 use Rattle.table_txn.specs.Places.{same_place, same_row, same_rows}
 use Rattle.table_txn.specs.Notes.{Note, note_of, noted, HasNoted, AreApart, first_changed}
-use Rattle.table_txn.specs.Found.{is_for, found_rows, same_optional, same_keyed, same_found, IsFoundAt, note, notes_of, are_for, IsNoted, IsNotNoted}
+use Rattle.table_txn.specs.Found.{is_for, found_rows, same_optional, same_keyed, same_found, IsFoundAt, note, notes_of, are_for, IsNoted}
 use Rattle.table_txn.proofs.Same.{both, both_if, cmp_place_is, same_place_decides, same_place_sym}
 
 -- ---- what is compared as the same

@@ -1,5 +1,5 @@
 -- Notes and the reads that they stand for.
-use Rattle.std.proofs.Common.{◌≡◌, ◌⊎◌, inl, inr, ℕ, zero, suc, ◌<◌, Bool, true, false, not, cond, List, [], ◌∷◌, ◌++◌, length, refl, sym, ap, ◌∙◌, subst, arith}
+use Rattle.std.proofs.Common.{◌≡◌, ◌⊎◌, inl, inr, zero, suc, Bool, true, false, not, cond, List, [], ◌∷◌, ◌++◌, refl, sym, ap, ◌∙◌, subst, arith}
 use Rattle.std.specs.Prelude.{Option, Some, None, ◌↔◌, ◌||◌, filter, map, option_to_list}
 use Rattle.std.specs.List.{All, AllByRecursion, Contains}
 use Rattle.std.proofs.lemmas.Bool.{cases_Bool}
@@ -9,7 +9,7 @@ use Rattle.stmt_meaning.specs.declared.tables.PlainRow.{PlainRow}
 use Rattle.stmt_meaning.specs.declared.tables.Place.{Place}
 use Rattle.stmt_meaning.specs.Tables.{rows_at}
 use Rattle.table_txn.specs.Places.{same_place, same_rows}
-use Rattle.table_txn.specs.Reads.{Read, read_at, reads_at, HasChanged, IsConflict}
+use Rattle.table_txn.specs.Reads.{Read, read_at, reads_at, IsConflict}
 use Rattle.table_txn.specs.Notes.{Note, found_at, note_of, IsNoteOf, AreNotes, noted, HasNoted, HasNotedIfAny, AreApart, first_changed}
 use Rattle.table_txn.proofs.Same.{same_place_decides, same_rows_decide}
 

@@ -1,34 +1,21 @@
 -- Committed rows with writes over them, at one key and over a whole table.
-use Rattle.std.proofs.Common.{◌≡◌, ◌⊎◌, inl, inr, ℕ, zero, suc, ◌+◌, ◌<◌, Bool, true, false, not, cond, List, [], ◌∷◌, ◌++◌, length, refl, sym, ap, ◌∙◌, subst, append_assoc, append-nil, arith}
-use Rattle.std.specs.Prelude.{Option, Some, None, filter, map, slice_get, option_and_then, option_to_list, ◌&&◌}
-use Rattle.std.specs.List.{AllByRecursion}
-use Rattle.std.specs.Map.{values_of}
-use Rattle.std.specs.Str.{bytes_eq}
-use Rattle.std.specs.declared.cmp.Ordering.{Ordering}
-use Rattle.std.specs.declared.cmp.Ordering.TheVariants.{Less, Equal, Greater}
-use Rattle.std.specs.Ordering.{nat_cmp, match_ordering}
-use Rattle.std.specs.Cmp.Lexicographic.{slice_cmp}
+use Rattle.std.proofs.Common.{◌≡◌, ◌⊎◌, inl, inr, ℕ, zero, suc, ◌<◌, Bool, true, false, cond, List, [], ◌∷◌, ◌++◌, length, refl, sym, ap, ◌∙◌, subst, append_assoc, append-nil, arith}
+use Rattle.std.specs.Prelude.{Option, Some, None, map, slice_get, option_and_then}
 use Rattle.std.proofs.lemmas.Bool.{cases_Bool}
-use Rattle.std.proofs.lemmas.Cmp.{nat_list_cmp_total, tied_itself}
 use Rattle.std.proofs.lemmas.List.{length_push}
 use Rattle.svc_values.specs.declared.value.Value.{Value}
 use Rattle.svc_values.specs.declared.entry.Write.{Write}
-use Rattle.svc_values.specs.Order.{value_cmp}
-use Rattle.svc_values.specs.Same.{same_value}
-use Rattle.svc_values.specs.SameLaws.{bytes_decide, same_value_decides}
 use Rattle.stmt_meaning.specs.declared.tables.PlainRow.{PlainRow}
 use Rattle.stmt_meaning.specs.declared.tables.Place.TheVariants as place
-use Rattle.stmt_meaning.specs.Tables.{is_at, rows_at, comes_before, with_write, with_writes, ComesFirst, AreTables}
+use Rattle.stmt_meaning.specs.Tables.{is_at, rows_at, with_write, with_writes}
 use Rattle.stmt_meaning.specs.Effects.{first_of}
 use Rattle.stmt_meaning.specs.Meaning.{seen_at}
-use Rattle.stmt_meaning.proofs.Local.{AreTables-filter, AreTables-with_writes}
-use Rattle.table_store.specs.Rows.{Keyed, plain_row, plain_rows, rows_if_any, row_if_any}
+use Rattle.table_store.specs.Rows.{row_if_any}
 use Rattle.table_store.specs.Shelves.{is_place}
 use Rattle.table_store.proofs.Places.{at_place}
 use Rattle.table_store.proofs.Writes.{own_place, filter_with_write}
 use Rattle.table_store.proofs.Keeps.{with_writes-last}
-use Rattle.table_txn.specs.Own.{or_else, last_at, last_write, row_over}
-use Rattle.table_txn.proofs.Same.{both, both_if}
+use Rattle.table_txn.specs.Own.{last_at, last_write}
 use Rattle.table_txn.proofs.OwnLaws.{last_at-push, place_is, own_place as is_own, at_end}
 
 -- what holds of no write, and of one more, holds of all

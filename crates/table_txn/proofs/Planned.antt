@@ -1,6 +1,6 @@
 -- The plan of a statement whose operands are read from a source.
-use Rattle.std.proofs.Common.{◌≡◌, inl, ℕ, List, [], ◌∷◌, ◌++◌, refl, sym, ap, ◌∙◌, subst, append-nil}
-use Rattle.std.specs.Prelude.{Option, Some, None, Result, Ok, Err, option_map}
+use Rattle.std.proofs.Common.{◌≡◌, ℕ, List, [], ◌++◌, refl, sym, ap, ◌∙◌, append-nil}
+use Rattle.std.specs.Prelude.{Some, None, Result, Ok, Err, option_map}
 use Rattle.svc_values.specs.declared.value.Value.{Value}
 use Rattle.svc_values.specs.declared.schema.Shape.{Shape}
 use Rattle.svc_values.specs.declared.draw.Draw.{Draw}
@@ -13,10 +13,9 @@ use Rattle.stmt_meaning.specs.Answers.{IsRefusedAs}
 use Rattle.stmt_meaning.specs.Operands.{Read, ◌>>=◌, values_of}
 use Rattle.stmt_meaning.specs.Plans.{Aim, aim_of, operands_of, plan_for, plan_at, plan_of}
 use Rattle.table_txn.specs.declared.fault.TxnFault.{TxnFault}
-use Rattle.table_txn.specs.declared.fault.TxnFault.TheVariants as txn_fault
 use Rattle.table_txn.specs.declared.operands.Stop.{Stop}
 use Rattle.table_txn.specs.declared.operands.Stop.TheVariants as stop
-use Rattle.table_txn.specs.Drawing.{Drew, DrewAll, Ends}
+use Rattle.table_txn.specs.Drawing.{Drew, Ends}
 use Rattle.table_txn.specs.Steps.{ReadsAll, HasRead, left_of}
 use Rattle.table_txn.specs.Stops.{stop_of_plan}
 use Rattle.table_txn.proofs.Drawn.{lacking}

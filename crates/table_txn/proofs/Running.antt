@@ -1,6 +1,6 @@
 -- The statements of a call, one after the other.
-use Rattle.std.proofs.Common.{◌≡◌, inl, inr, ℕ, ◌+◌, ◌<◌, ◌≤◌, Bool, true, false, cond, List, [], ◌∷◌, ◌++◌, length, take, drop, get_or, refl, sym, ap, ◌∙◌, subst, append_assoc, append-nil, arith}
-use Rattle.std.specs.Prelude.{Option, Some, None, option_map, map, ◌&&◌}
+use Rattle.std.proofs.Common.{◌≡◌, inl, ℕ, ◌+◌, ◌<◌, ◌≤◌, Bool, true, false, cond, List, [], ◌∷◌, ◌++◌, length, take, drop, get_or, refl, sym, ap, ◌∙◌, subst, append_assoc, append-nil}
+use Rattle.std.specs.Prelude.{Option, Some, None, option_map}
 use Rattle.std.specs.List.{list_all}
 use Rattle.std.proofs.lemmas.List.{drop_more, take_at, map-append}
 use Rattle.std.proofs.Math.ListN.{drop_of_length-le}
@@ -28,7 +28,7 @@ use Rattle.table_txn.specs.declared.fault.TxnFault.TheVariants as txn_fault
 use Rattle.table_txn.specs.Drawing.{Drew, DrewAll, EndedBy, Ends}
 use Rattle.table_txn.specs.Notes.{AreNotes}
 use Rattle.table_txn.specs.Reads.{Read, read_at, reads_at}
-use Rattle.table_txn.specs.Transactions.{Transaction, shape_of, meaning, HasRun, HasEnded}
+use Rattle.table_txn.specs.Transactions.{Transaction, shape_of, meaning, HasRun}
 use Rattle.table_txn.specs.Steps.{HasDone}
 use Rattle.table_txn.proofs.Same.{both, both_if}
 use Rattle.table_txn.proofs.Drawn.{drew_append}

@@ -1,18 +1,16 @@
 -- A scan over committed rows with writes over them, one key after the other.
 use Rattle.std.proofs.Common.{◌≡◌, ◌⊎◌, inl, inr, ℕ, zero, suc, ◌<◌, Bool, true, false, not, cond, List, [], ◌∷◌, ◌++◌, length, refl, sym, ap, ◌∙◌, subst, append-nil, arith}
-use Rattle.std.specs.Prelude.{Option, Some, None, filter, map, fold, slice_get, option_and_then, option_to_list, option_map, ◌&&◌}
+use Rattle.std.specs.Prelude.{Option, Some, None, filter, map, fold, slice_get, option_and_then, option_to_list, ◌&&◌}
 use Rattle.std.specs.List.{AllByRecursion}
 use Rattle.std.specs.List.Sorted.{IsStrictlySortedBy}
 use Rattle.std.specs.Map.{values_of, keys_of, lookup}
-use Rattle.std.specs.Str.{bytes_eq}
 use Rattle.std.specs.BTreeMap.{is_at as is_key}
 use Rattle.std.specs.BTreeMap.Range.{entries_between, range_contains, is_past_end}
 use Rattle.std.specs.declared.cmp.Ordering.{Ordering}
 use Rattle.std.specs.declared.cmp.Ordering.TheVariants.{Less, Equal, Greater}
 use Rattle.std.specs.declared.ops.Bound.{Bound}
-use Rattle.std.specs.declared.ops.Bound.TheVariants.{Included, Excluded, Unbounded}
-use Rattle.std.specs.Ordering.{nat_cmp, is_eq, is_le, is_lt}
-use Rattle.std.specs.Cmp.Lexicographic.{slice_cmp}
+use Rattle.std.specs.declared.ops.Bound.TheVariants.{Excluded, Unbounded}
+use Rattle.std.specs.Ordering.{is_eq, is_le, is_lt}
 use Rattle.std.proofs.lemmas.Bool.{cases_Bool}
 use Rattle.std.proofs.lemmas.List.{map-append}
 use Rattle.svc_values.specs.declared.value.Value.{Value}
@@ -26,7 +24,7 @@ use Rattle.stmt_meaning.specs.declared.plan.TableWork.{TableWork}
 use Rattle.stmt_meaning.specs.declared.scan.Scan.{Scan}
 use Rattle.stmt_meaning.specs.declared.tables.PlainRow.{PlainRow}
 use Rattle.stmt_meaning.specs.declared.tables.Place.TheVariants as place
-use Rattle.stmt_meaning.specs.Tables.{is_at, rows_at, with_write, with_writes, AreTables}
+use Rattle.stmt_meaning.specs.Tables.{is_at, rows_at, with_writes, AreTables}
 use Rattle.stmt_meaning.specs.Effects.{table_answer}
 use Rattle.stmt_meaning.specs.Meaning.{seen_at}
 use Rattle.stmt_meaning.specs.Scans.{scanned, next_scan, last_answer}
@@ -40,8 +38,8 @@ use Rattle.table_store.proofs.Keeps.{with_writes-last}
 use Rattle.table_txn.specs.Found.{keyed_or_none}
 use Rattle.table_txn.specs.Own.{last_at, last_write}
 use Rattle.table_txn.specs.Scanning.{AnswersAs}
-use Rattle.table_txn.proofs.Same.{both, both_if}
-use Rattle.table_txn.proofs.OwnLaws.{last_at-push, place_is, own_place as is_own}
+use Rattle.table_txn.proofs.Same.{both}
+use Rattle.table_txn.proofs.OwnLaws.{last_at-push, own_place as is_own}
 use Rattle.table_txn.proofs.Over.{each_more, last_within, over_row, stands}
 use Rattle.table_txn.proofs.Picks.{pick, filter_filter, pick_all, Up, up_of, from, from_up, flip, tied, three_parts, last_part}
 

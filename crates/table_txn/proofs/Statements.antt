@@ -1,5 +1,5 @@
 -- One statement of a transaction.
-use Rattle.std.proofs.Common.{◌≡◌, inl, inr, ℕ, Bool, true, false, cond, List, [], ◌∷◌, ◌++◌, refl, sym, ap, ◌∙◌, subst, append-nil}
+use Rattle.std.proofs.Common.{◌≡◌, inl, ℕ, List, [], ◌++◌, refl, sym, ap, ◌∙◌, subst, append-nil}
 use Rattle.std.specs.Prelude.{Option, Some, None, Result, Ok, Err, option_map, option_to_list}
 use Rattle.svc_values.specs.declared.value.Value.{Value}
 use Rattle.svc_values.specs.declared.schema.Shape.{Shape}
@@ -14,17 +14,15 @@ use Rattle.stmt_meaning.specs.declared.tables.PlainRow.{PlainRow}
 use Rattle.stmt_meaning.specs.Tables.{with_writes}
 use Rattle.stmt_meaning.specs.Operands.{Read, ◌>>=◌, values_of}
 use Rattle.stmt_meaning.specs.Plans.{Aim, aim_of, operands_of, place_of, plan_for, plan_at, plan_of}
-use Rattle.stmt_meaning.specs.Effects.{effect}
-use Rattle.stmt_meaning.specs.Meaning.{OneDone, done_at, mean1, seen_at}
+use Rattle.stmt_meaning.specs.Meaning.{OneDone, done_at, mean1}
 use Rattle.table_store.specs.Stored.{Stored}
 use Rattle.table_txn.specs.declared.fault.TxnFault.{TxnFault}
 use Rattle.table_txn.specs.declared.fault.TxnFault.TheVariants as txn_fault
-use Rattle.table_txn.specs.Drawing.{Drew, DrewAll, Ends}
+use Rattle.table_txn.specs.Drawing.{Drew, Ends}
 use Rattle.table_txn.specs.Notes.{AreNotes}
-use Rattle.table_txn.specs.Reads.{reads_at}
 use Rattle.table_txn.specs.Transactions.{Transaction, shape_of}
 use Rattle.table_txn.specs.Steps.{ReadsAll, left_of, HasWorked, HasDone}
-use Rattle.table_txn.proofs.Asking.{Enough, plan_of-more, enough_values}
+use Rattle.table_txn.proofs.Asking.{plan_of-more, enough_values}
 use Rattle.table_txn.proofs.NotesLaws.{notes_after}
 
 -- the draws that are left by what was read

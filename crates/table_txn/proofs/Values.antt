@@ -1,6 +1,6 @@
 -- Values of operands that are read from a source one after the other.
-use Rattle.std.proofs.Common.{◌≡◌, ◌⊎◌, inl, inr, ℕ, ◌+◌, List, [], ◌∷◌, ◌++◌, length, drop, refl, sym, ap, ◌∙◌, subst, append_assoc, append-nil}
-use Rattle.std.specs.Prelude.{◌≢◌, Option, Some, None, Result, Ok, Err, option_map, slice_get}
+use Rattle.std.proofs.Common.{◌≡◌, inl, inr, ℕ, ◌+◌, List, [], ◌∷◌, ◌++◌, length, drop, refl, sym, ap, ◌∙◌, subst, append_assoc, append-nil}
+use Rattle.std.specs.Prelude.{Option, Some, None, Result, Ok, Err, option_map, slice_get}
 use Rattle.svc_values.specs.declared.value.Value.{Value}
 use Rattle.svc_values.specs.declared.draw.Draw.{Draw}
 use Rattle.svc_values.specs.declared.statement.Operand.{Operand}
@@ -11,7 +11,7 @@ use Rattle.table_txn.specs.declared.fault.TxnFault.{TxnFault}
 use Rattle.table_txn.specs.declared.fault.TxnFault.TheVariants as txn_fault
 use Rattle.table_txn.specs.declared.operands.Stop.{Stop}
 use Rattle.table_txn.specs.declared.operands.Stop.TheVariants as stop
-use Rattle.table_txn.specs.Drawing.{Drew, Lacked, Halted, DrewAll, EndedBy, Ends}
+use Rattle.table_txn.specs.Drawing.{Drew, DrewAll, EndedBy, Ends}
 use Rattle.table_txn.specs.Steps.{ReadsAll, HasRead, left_of}
 use Rattle.table_txn.proofs.Asking.{EnoughAfter, taken-more, enough_after}
 use Rattle.table_txn.proofs.Drawn.{drew_append}

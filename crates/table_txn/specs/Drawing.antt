@@ -24,7 +24,7 @@ is_there names (kind.Seq name) = is_name_of names name
 is_there names kind.Clock = true
 is_there names kind.Id = true
 
--- What an answer says. `drew` is the source's own relation of the value before, what the draw came to, and the value after.
+-- What an answer says. `drew` is the source's own relation of the value before, what the draw came to, and the value after. A sequence that is not there is told before anything else.
 abbrev pub HasDrawn : {S : Type 0} → List (List ℕ) → (S → Drew → S → Type 0) → S → DrawKind → Result Draw DrawFromFault → S → Type 0
 HasDrawn names drew old asked (Ok given) new = (is_there names asked ≡ true) × ((is_of_kind asked given ≡ true) × drew old (Gave given) new)
 HasDrawn names drew old asked (Err fault.NoSequence) new = (is_there names asked ≡ false) × (new ≡ old)

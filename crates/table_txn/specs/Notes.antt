@@ -1,5 +1,5 @@
 -- The notes of a transaction: each place that was read stands there once.
-use Rattle.std.specs.Prelude.{◌≡◌, ◌↔◌, Bool, true, false, not, ◌||◌, List, [], ◌∷◌, Option, Some, None, map, filter, find, All, if◌then◌else◌}
+use Rattle.std.specs.Prelude.{◌≡◌, ◌↔◌, Bool, false, not, ◌||◌, List, [], ◌∷◌, Option, Some, None, map, filter, find, All, if◌then◌else◌}
 use Rattle.stmt_meaning.specs.declared.tables.PlainRow.{PlainRow}
 use Rattle.stmt_meaning.specs.declared.tables.Place.{Place}
 use Rattle.stmt_meaning.specs.Tables.{rows_at}

@@ -1,5 +1,5 @@
 -- The writes of a transaction, and where the last one of each table and key stands.
-use Rattle.std.specs.Prelude.{◌≡◌, ℕ, ◌+◌, ◌≤◌, length, Bool, List, [], ◌∷◌, ◌++◌, Option, Some, None, slice_get, option_and_then, if◌then◌else◌}
+use Rattle.std.specs.Prelude.{◌≡◌, ℕ, ◌+◌, ◌≤◌, length, List, [], ◌∷◌, ◌++◌, Option, Some, None, slice_get, option_and_then, if◌then◌else◌}
 use Rattle.std.specs.BTreeMap.{BTreeMap, is_at}
 use Rattle.std.specs.Map.{lookup}
 use Rattle.std.specs.Ordering.{nat_cmp}
@@ -73,11 +73,6 @@ HasSamePlaces old new = (t : List ℕ) (k : Value) → place_kept new t k ≡ pl
 -- the same in one table
 abbrev pub HasKey : Keys → Value → Option ℕ → Keys → Type 0
 HasKey old key at new = (k : Value) → place_in (Some new) k ≡ (if is_at (value_cmp key) k then at else place_in (Some old) k)
-
--- the row of a table and key that a transaction sees: its own last write's, or the committed one
-abbrev pub row_over : Option Write → Option (List Value) → Option (List Value)
-row_over None committed = committed
-row_over (Some write) committed = write.row
 
 -- the last write is taken off, if it is behind the first few
 abbrev pub PopsBehind : List Write → ℕ → Option Write → List Write → Type 0

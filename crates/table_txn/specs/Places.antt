@@ -1,5 +1,5 @@
 -- Places and rows that are the same.
-use Rattle.std.specs.Prelude.{◌≡◌, ℕ, ◌&&◌, Bool, false, List}
+use Rattle.std.specs.Prelude.{◌&&◌, Bool, false, List}
 use Rattle.std.specs.Str.{bytes_eq}
 use Rattle.std.specs.Cmp.Lexicographic.{pointwise}
 use Rattle.svc_values.specs.Same.{same_value}

@@ -1,5 +1,5 @@
 -- Rows that are shown to a scan.
-use Rattle.std.specs.Prelude.{◌≡◌, List, ◌++◌, fold, option_to_list}
+use Rattle.std.specs.Prelude.{◌≡◌, List, ◌++◌, fold}
 use Rattle.svc_values.specs.declared.value.Value.{Value}
 use Rattle.stmt_meaning.specs.declared.scan.Scan.{Scan}
 use Rattle.stmt_meaning.specs.Scans.{next_scan, last_answer}

@@ -1,5 +1,5 @@
 -- One statement of a transaction, and what its operands come to.
-use Rattle.std.specs.Prelude.{◌≡◌, ℕ, List, [], ◌∷◌, ◌++◌, Option, Some, None, Result, Ok, Err, option_to_list, option_map}
+use Rattle.std.specs.Prelude.{◌≡◌, ℕ, List, [], ◌++◌, Option, Some, Result, Ok, Err, option_to_list, option_map}
 use Rattle.svc_values.specs.declared.value.Value.{Value}
 use Rattle.svc_values.specs.declared.draw.Draw.{Draw}
 use Rattle.svc_values.specs.declared.statement.Statement.{Statement}
@@ -19,7 +19,6 @@ use Rattle.table_txn.specs.Notes.{AreNotes, HasNotedIfAny}
 use Rattle.table_txn.specs.Transactions.{Transaction, shape_of}
 use Rattle.table_txn.specs.declared.operands.Stop.{Stop}
 use Rattle.table_txn.specs.declared.operands.Stop.TheVariants as stop
-use Rattle.table_txn.specs.declared.fault.TxnFault.{TxnFault}
 
 -- Reading came to a value or a fault of the statement: it took exactly some draws, which the source gave one after the other, and they are put behind those before.
 pub record ReadsAll {S A : Type 0} (drew : S → Drew → S → Type 0) (read : List Draw → Reading A) (old : S) (before : List Draw) (outcome : Result A StatementFault) (new : S) (after : List Draw) : Type 0 where

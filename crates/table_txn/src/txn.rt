@@ -118,7 +118,7 @@ impl Txn {
     /// over them, up to the first that is refused. A refusal takes the call's writes back; what was
     /// read and drawn stays so. A statement on one row takes the logarithm of the rows and of the
     /// transaction's writes; one on a whole table is linear in its rows and in the transaction's own of
-    /// that table. After a fault some of the statements have run.
+    /// that table. After a fault some of the statements may have run: what is left is to roll back.
     pub fn run<F: DrawFrom>(
         &mut self,
         tables: &Tables,

@@ -1,4 +1,4 @@
-use Rattle.std.proofs.Common.{◌∙◌, sym}
+use Rattle.std.proofs.Common.{◌∙◌}
 use Rattle.std.specs.Option.{option_copied}
 use Rattle.table_txn.proofs.Over.{row_written, row_committed}
 use Rattle.table_txn.proofs.effects.row_at.Goals as goal

@@ -1,4 +1,4 @@
-use Rattle.std.proofs.Common.{◌≡◌, Some, None, refl}
+use Rattle.std.proofs.Common.{None, refl}
 use Rattle.table_txn.proofs.LatestLaws.{key_changed, key_there}
 use Rattle.table_txn.proofs.latest.restore_key.Goals as goal
 

@@ -1,4 +1,3 @@
-use Rattle.std.proofs.Common.{sym, ap, ◌∙◌}
 use Rattle.std.proofs.lemmas.Result.{err_from_is_err_and}
 use Rattle.table_txn.proofs.Drawn.{lacked_after, not_given}
 use Rattle.table_txn.proofs.operands.draw_value.Goals as goal

@@ -1,11 +1,7 @@
 use Rattle.std.proofs.Common.{◌≡◌, List, ◌++◌}
 use Rattle.std.specs.Prelude.{fold}
 use Rattle.std.specs.Map.{values_of}
-use Rattle.std.specs.Option.{option_copied}
-use Rattle.std.specs.Range.Bound.{bound_map}
-use Rattle.std.specs.BTreeMap.Range.{entries_between}
 use Rattle.svc_values.specs.declared.value.Value.{Value}
-use Rattle.svc_values.specs.Order.{value_cmp}
 use Rattle.stmt_meaning.specs.Scans.{next_scan, last_answer}
 use Rattle.table_txn.proofs.scanning.show_between.Given as goal
 

@@ -1,5 +1,5 @@
-use Rattle.std.proofs.Common.{◌≡◌, List, [], ap, sym, subst, ◌∙◌}
-use Rattle.std.specs.Prelude.{Option, Some, None, slice_get}
+use Rattle.std.proofs.Common.{◌≡◌, ap, sym, subst, ◌∙◌}
+use Rattle.std.specs.Prelude.{slice_get}
 use Rattle.std.specs.Option.{option_copied}
 use Rattle.std.specs.Range.Bound.{bound_map}
 use Rattle.std.proofs.lemmas.Result.{IfOk-weaker}
@@ -9,7 +9,7 @@ use Rattle.std.specs.List.Sorted.{IsStrictlySortedBy}
 use Rattle.std.specs.declared.ops.Bound.TheVariants.{Excluded}
 use Rattle.svc_values.specs.Order.{value_cmp}
 use Rattle.svc_values.specs.contracts.value.ValueOrd.TheImpl.{cmp-value}
-use Rattle.table_txn.proofs.Picks.{forward, forward_open}
+use Rattle.table_txn.proofs.Picks.{forward}
 use Rattle.table_txn.proofs.ScanSteps.{first_keys, key_from, left_next, answers_first, answers_next, answers_settled, answers_last}
 use Rattle.table_txn.proofs.scanning.show_over.Goals as goal
 

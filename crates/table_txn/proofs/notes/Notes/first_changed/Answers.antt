@@ -1,4 +1,4 @@
-use Rattle.std.proofs.Common.{◌≡◌, true, false, Some, sym, ap, subst, ◌∙◌, cond}
+use Rattle.std.proofs.Common.{Some, sym, ap, subst, ◌∙◌, cond}
 use Rattle.table_txn.specs.Notes.{first_changed, AreApart}
 use Rattle.table_txn.specs.Found.{kept, notes_of}
 use Rattle.table_txn.proofs.FoundLaws.{changed_here, rest_fits, entries_apart}

@@ -1,6 +1,5 @@
-use Rattle.std.proofs.Common.{◌≡◌, ◌++◌, ◌∷◌, [], take, ap, sym, ◌∙◌}
+use Rattle.std.proofs.Common.{◌≡◌, ◌++◌, ◌∷◌, [], take, ap, ◌∙◌}
 use Rattle.std.specs.Prelude.{slice_get, Some}
-use Rattle.svc_values.specs.declared.entry.Write.{Write}
 use Rattle.table_txn.proofs.OwnLaws.{own_kept, own_pushed, own_refused, at_end}
 use Rattle.table_txn.proofs.own.OwnWrites.put.Goals as goal
 
