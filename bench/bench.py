@@ -2,7 +2,7 @@
 """Times the built programs on large inputs, each at two sizes, so that growth shows.
 
 Usage: bench/bench.py [NAME ..]   with no name, all. Build the programs before, by `rt run` in
-crates/continuity and in crates/wire_bench.
+crates/continuity, in crates/wire_bench and in crates/log_bench.
 """
 
 import json
@@ -113,6 +113,7 @@ CASES = {
     "calls": lambda: document_case("calls of one request", calls_document, [(256, 10_000), (1_024, 10_000)]),
     "answers": lambda: program_case("wire_bench", [["answers", "100000"], ["answers", "1000000"]], "answer"),
     "stream": lambda: program_case("wire_bench", [["stream", "1000000"], ["stream", "4000000"]], "byte"),
+    "commits": lambda: program_case("log_bench", [["10000"], ["100000"]], "commit"),
     "frame": lambda: program_case("wire_bench", [["frame", "1000000"], ["frame", "4000000"]], "byte"),
 }
 
