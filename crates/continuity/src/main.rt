@@ -3,11 +3,13 @@
 #![tactic(auto)]
 
 mod adapters;
+mod line;
 #[cfg(test)]
 mod tests;
 
 use adapters::{Input, Output};
 use continuity_run::{Status, continuity};
+use line::Line;
 use std::process::ExitCode;
 use std::rt::Env;
 use std::{env, io};
@@ -23,15 +25,7 @@ fn words_of(rt: &(impl Env + AllocGlobal)) -> io::Result<Vec<String>> {
 fn tell(rt: &impl Eprint, status: &Status) -> io::Result<()> {
     match status {
         Status::Done => Ok(()),
-        Status::NoMemory => eprintln!(rt; "continuity: no memory"),
-        Status::Words => eprintln!(rt; "continuity: words"),
-        Status::Read => eprintln!(rt; "continuity: read"),
-        Status::Write => eprintln!(rt; "continuity: write"),
-        Status::Document { code, path } => {
-            let code = code.number();
-            let path = path.as_str();
-            eprintln!(rt; "continuity: document: {code} at {path}")
-        }
+        _ => rt.eprintln(Line(status)),
     }
 }
 

@@ -1,5 +1,6 @@
 use crate::adapters::{Input, Output};
-use continuity_run::{Sink, Source};
+use crate::line::Line;
+use continuity_run::{MemSink, MemSource, Sink, Source, Status, continuity};
 use std::test::Fail;
 
 #[test]
@@ -13,5 +14,28 @@ fn the_adapters_pass_bytes_on(rt: HostRuntime) -> Result<(), Fail> {
     assert_eq!(rt; sink.write(b"bytes out").ok(), Some(9));
     drop(sink);
     assert_eq!(rt; held.as_slice(), b"bytes out".as_slice());
+    Ok(())
+}
+
+#[test]
+fn each_end_without_a_report_has_its_line(rt: HostRuntime) -> Result<(), Fail> {
+    let alloc = rt.alloc();
+    for (status, line) in [
+        (Status::NoMemory, "continuity: no memory"),
+        (Status::Words, "continuity: words"),
+        (Status::Read, "continuity: read"),
+        (Status::Write, "continuity: write"),
+    ] {
+        let told = Line(&status).to_string(alloc)?;
+        assert_eq!(rt; told.as_str(), line);
+    }
+    let words = [String::from_str(alloc, "run")?];
+    let none = Vec::new(alloc);
+    let bytes = b"{\"clients\":[".to_vec(alloc)?;
+    let mut source = MemSource::new(bytes, none, 5);
+    let mut sink = MemSink::new(alloc, Vec::new(alloc), Vec::new(alloc), 5);
+    let status = continuity(alloc, &words, &mut source, &mut sink);
+    let told = Line(&status).to_string(alloc)?;
+    assert_eq!(rt; told.as_str(), "continuity: document: 2 at ");
     Ok(())
 }
