@@ -41,7 +41,7 @@ fn track(alloc: Global, why: Option<Why>, replays: u64, first: Option<u64>) -> T
     }
 }
 
-/// A request that lost session 1 by event 7 and asks on session 2, with nothing recorded.
+// A request that lost session 1 by event 7 and asks on session 2, with nothing recorded.
 fn asked(alloc: Global, why: Option<Why>, replays: u64, first: Option<u64>) -> Asked
     ensures few { length result.track.recorder.calls ≤ result.track.call }
     ensures tick { result.track.first ≡ first }
@@ -83,7 +83,7 @@ fn note(alloc: Global, track: &mut Track, digest: [u8; 32]) -> Result<(), Fail>
     Ok(())
 }
 
-/// Two calls are recorded, and call 5 is to be sent.
+// Two calls are recorded, and call 5 is to be sent.
 fn record(alloc: Global, track: &mut Track) -> Result<(), Fail>
     requires { track.old.recorder.calls ≡ [] }
     ensures { OnOk result ((length track.new.recorder.calls ≤ track.new.call) × (track.new.first ≡ track.old.first)) }
@@ -94,7 +94,7 @@ fn record(alloc: Global, track: &mut Track) -> Result<(), Fail>
     Ok(())
 }
 
-/// The replay of two calls on session 2, after session 1 was lost by event 7.
+// The replay of two calls on session 2, after session 1 was lost by event 7.
 fn replaying(alloc: Global) -> Result<Replaying, Fail> {
     let mut live = Live::start(track(alloc, None, 0, None), ltxid(0));
     record(alloc, live.track())?;
@@ -106,7 +106,7 @@ fn replaying(alloc: Global) -> Result<Replaying, Fail> {
     }
 }
 
-/// Takes this digest as the next call's, if one is left.
+// Takes this digest as the next call's, if one is left.
 fn verified(replaying: Replaying, now: &[u8; 32]) -> Result<Replaying, Option<Mismatch>> {
     if replaying.next().is_none() {
         return Err(None);

@@ -26,38 +26,6 @@ impl Model for Fresh {
     ghost view = { λ s. record { track = s.track; ltxid = s.ltxid } };
 }
 
-/// A request that ends: its track, and the event of the loss.
-#[derive(Drop)]
-pub struct Over {
-    pub track: Track,
-    pub event: u64,
-}
-
-/// A repeated call that was answered otherwise than before: its index in the request, from 0, and the
-/// digests of both answers.
-#[derive(Clone, Copy, Debug, PartialEq, Eq)]
-pub struct Mismatch {
-    pub call: u64,
-    pub seen: [u8; 32],
-    pub now: [u8; 32],
-}
-
-/// What the outcome of a lost identifier leads to.
-#[derive(Drop)]
-pub enum Told {
-    /// The lost call was committed and completed.
-    Committed(Fresh),
-    /// It was committed, but it may have had more to answer.
-    Incomplete(Over),
-    /// It was not committed, and there is a reason against a replay.
-    Disabled(Over, Why),
-    /// As many replays were started as may be.
-    Replays(Over),
-    /// Too many ticks have passed since the first submitted call.
-    Late(Over),
-    Replay(Replaying),
-}
-
 impl Fresh {
     // On the session with this identifier.
     pub(crate) fn new(track: Track, ltxid: Ltxid) -> Fresh
@@ -80,4 +48,36 @@ impl Fresh {
     {
         Live::resumed(self.track, self.ltxid)
     }
+}
+
+/// A request that ends: its track, and the event of the loss.
+#[derive(Drop)]
+pub struct Over {
+    pub track: Track,
+    pub event: u64,
+}
+
+/// A repeated call that was answered otherwise than before: its index in the request, from 0, and the
+/// digests of both answers.
+#[derive(Clone, Copy, Debug, PartialEq, Eq)]
+pub struct Mismatch {
+    pub call: u64,
+    pub seen: [u8; 32],
+    pub now: [u8; 32],
+}
+
+/// What the outcome of a lost identifier leads to.
+#[derive(Drop)]
+pub enum Told {
+    /// The lost call was committed and completed.
+    Committed(Fresh),
+    /// It was committed, and the answers of its statements are lost.
+    Incomplete(Over),
+    /// It was not committed, and there is a reason against a replay.
+    Disabled(Over, Why),
+    /// As many replays were started as may be.
+    Replays(Over),
+    /// Too many ticks have passed since the first submitted call.
+    Late(Over),
+    Replay(Replaying),
 }
