@@ -1,0 +1,4 @@
+pub mod Deciding
+pub mod Lending
+pub mod States
+pub mod Verifying
