@@ -1,5 +1,8 @@
 //! A source and a sink in memory, whose calls can be made to fail.
-ghost use Rattle.std.specs.Prelude.{◌≡◌, ◌<◌, ◌≤◌, List, ℕ, Some, [], length, drop, vec_len};
+ghost use Rattle.std.specs.Prelude.{◌≡◌, ◌<◌, ◌≤◌, ◌↔◌, List, ℕ, Some, [], length, drop, vec_len, IfOk, IsTrue, is_err};
+ghost use Rattle.std.specs.Io.{ReadsAtMost, WritesAtMost};
+ghost use Rattle.std.specs.Io.KnownBytes.{ReadConsumes, WriteAppends};
+ghost use Rattle.continuity_run.specs.Causes.{HasCause, NothingHasCause};
 
 use crate::outside::{Failed, Sink, Source};
 use std::alloc::Global;
@@ -18,7 +21,7 @@ pub struct MemSource {
 }
 
 impl MemSource {
-    ghost use Rattle.continuity_run.specs.Memory.{left_in, read_faults};
+    ghost use Rattle.continuity_run.specs.Memory.{left_in, read_faults, reading_of};
 
     /// `fail` lists the calls, numbered from 1, that are to fail; `most` is the greatest number of
     /// bytes for a call.
@@ -26,6 +29,7 @@ impl MemSource {
         requires { 0 < most }
         ensures left { left_in result ≡ bytes.items }
         ensures faults { read_faults result ≡ 0 }
+        ensures reading { reading_of result ≡ record { calls = 0; fail = fail.items; most = most } }
     {
         MemSource {
             bytes,
@@ -39,13 +43,23 @@ impl MemSource {
 }
 
 impl Source for MemSource {
-    ghost use Rattle.continuity_run.specs.Memory.{left_in, read_faults};
+    ghost use Rattle.continuity_run.specs.Memory.{left_in, read_faults, reading_of, read_once, FailsNextRead, next_read};
 
     ghost left = { λ s. Some (left_in s) };
 
     ghost faults = { read_faults };
 
-    fn read(&mut self, into: &mut [u8]) -> Result<usize, Failed> {
+    /// As `Source` says. It fails exactly where its number is to fail, and else gives as many bytes as there is room for, as
+    /// are left, and as a call may give.
+    fn read(&mut self, into: &mut [u8]) -> Result<usize, Failed>
+        requires { 0 < length into.old }
+        ensures bound { ReadsAtMost result into.new }
+        ensures bytes { ReadConsumes (Some (left_in self.old)) (Some (left_in self.new)) result into.new }
+        ensures cause { HasCause (read_faults self.old) (read_faults self.new) result }
+        ensures counted { reading_of self.new ≡ read_once (reading_of self.old) }
+        ensures fails { IsTrue (is_err result) ↔ FailsNextRead (reading_of self.old) }
+        ensures count { IfOk result (λ n. n ≡ next_read (reading_of self.old) (left_in self.old) (length into.old)) }
+    {
         self.calls = self.calls.saturating_add(1);
         if self.fail.contains(&self.calls) {
             self.faults = self.faults.saturating_add(1);
@@ -71,7 +85,7 @@ pub struct MemSink {
 }
 
 impl MemSink {
-    ghost use Rattle.continuity_run.specs.Memory.{held_in, write_faults};
+    ghost use Rattle.continuity_run.specs.Memory.{held_in, write_faults, writing_of};
 
     /// `fail` lists the calls, numbered from 1, that are to fail, and `nothing` those that are to take
     /// nothing; `most` is the greatest number of bytes for a call.
@@ -79,6 +93,7 @@ impl MemSink {
         requires { 0 < most }
         ensures held { held_in result ≡ [] }
         ensures faults { write_faults result ≡ 0 }
+        ensures writing { writing_of result ≡ record { calls = 0; fail = fail.items; nothing = nothing.items; most = most } }
     {
         MemSink {
             bytes: Vec::new(alloc),
@@ -99,13 +114,23 @@ impl MemSink {
 }
 
 impl Sink for MemSink {
-    ghost use Rattle.continuity_run.specs.Memory.{held_in, write_faults};
+    ghost use Rattle.continuity_run.specs.Memory.{held_in, write_faults, writing_of, written_once, FailsNextWrite, IsNextWrite};
 
     ghost held = { λ s. Some (held_in s) };
 
     ghost faults = { write_faults };
 
-    fn write(&mut self, piece: &[u8]) -> Result<usize, Failed> {
+    /// As `Sink` says. It fails where its number is to fail, or memory is refused; and else takes nothing where its number is
+    /// to take nothing, or as many bytes as a call may take.
+    fn write(&mut self, piece: &[u8]) -> Result<usize, Failed>
+        ensures bound { WritesAtMost result piece.now }
+        ensures bytes { WriteAppends (Some (held_in self.old)) (Some (held_in self.new)) result piece.now }
+        ensures cause { HasCause (write_faults self.old) (write_faults self.new) result }
+        ensures nothing { NothingHasCause (write_faults self.old) (write_faults self.new) result piece.now }
+        ensures counted { writing_of self.new ≡ written_once (writing_of self.old) }
+        ensures fails { FailsNextWrite (writing_of self.old) → IsTrue (is_err result) }
+        ensures count { IfOk result (IsNextWrite (writing_of self.old) piece.now) }
+    {
         self.calls = self.calls.saturating_add(1);
         if self.fail.contains(&self.calls) {
             self.faults = self.faults.saturating_add(1);
