@@ -1,0 +1,4 @@
+pub mod Draws
+pub mod Firsts
+pub mod Histories
+pub mod Places

@@ -1,0 +1,83 @@
+-- What a source gave anew over any list of calls: nothing twice.
+use Rattle.std.specs.Prelude.{ℕ, ℤ, pos, ◌≡◌, ◌+ℤ◌, ◌+◌, suc, zero, List, [], ◌∷◌, ◌++◌, length, Option, Some, None, if◌then◌else◌}
+use Rattle.std.specs.Str.{bytes_eq}
+use Rattle.svc_values.specs.declared.draw.Draw.{Draw}
+use Rattle.svc_values.specs.declared.draw.Draw.TheVariants as draw
+use Rattle.svc_values.specs.declared.draw.DrawKind.{DrawKind}
+use Rattle.mutable_values.specs.declared.source.SeqState.{SeqState}
+use Rattle.mutable_values.specs.declared.source.Drawn.{Drawn}
+use Rattle.mutable_values.specs.declared.source.Drawn.TheVariants as drawn
+use Rattle.mutable_values.specs.Sources.{Opening, Told, first_kept, draw_of, sequence_of, reserved_to, identifier}
+
+-- what is done to a source
+pub data Did : Type 0 where
+  Drew : (kept : List Draw) → (asked : DrawKind) → (now : ℕ) → Did
+  Reserved : (name : List ℕ) → (upto : ℤ) → Did
+
+abbrev pub opening_after : Opening → Option Told → Opening
+opening_after opening None = opening
+opening_after opening (Some told) = told.opening
+
+abbrev pub after_one : Opening → Did → Opening
+after_one opening (Drew kept asked now) = opening_after opening (draw_of opening kept asked now)
+after_one opening (Reserved name upto) = reserved_to opening name upto
+
+abbrev pub value_in : Drawn → List Draw
+value_in (drawn.Value one) = one ∷ []
+value_in (drawn.Reserve name upto) = []
+
+-- the value that was told, where no kept one was given
+abbrev pub anew : Option Draw → Option Told → List Draw
+anew (Some one) told = []
+anew None None = []
+anew None (Some told) = value_in told.answer
+
+-- what was drawn anew in one call
+abbrev pub drawn_anew : Opening → Did → List Draw
+drawn_anew opening (Drew kept asked now) = anew (first_kept asked kept) (draw_of opening kept asked now)
+drawn_anew opening (Reserved name upto) = []
+
+-- what was drawn anew over a list of calls, in order
+abbrev pub all_anew : Opening → List Did → List Draw
+all_anew opening [] = []
+all_anew opening (did ∷ more) = drawn_anew opening did ++ all_anew (after_one opening did) more
+
+-- the values among draws that are of the sequence
+abbrev pub value_of : List ℕ → Draw → List ℤ
+value_of name (draw.Seq other value) = if bytes_eq other name then value ∷ [] else []
+value_of name _ = []
+
+abbrev pub values_of : List ℕ → List Draw → List ℤ
+values_of name [] = []
+values_of name (one ∷ more) = value_of name one ++ values_of name more
+
+abbrev pub identifier_of : Draw → List (List ℕ)
+identifier_of (draw.Id id) = id ∷ []
+identifier_of _ = []
+
+abbrev pub identifiers_of : List Draw → List (List ℕ)
+identifiers_of [] = []
+identifiers_of (one ∷ more) = identifier_of one ++ identifiers_of more
+
+-- so many numbers, one after the other, from the first
+abbrev pub counted : ℤ → ℕ → List ℤ
+counted first zero = []
+counted first (suc more) = first ∷ counted (first +ℤ pos 1) more
+
+-- so many identifiers of an incarnation, one after the other, behind those that were drawn
+abbrev pub identified : ℕ → ℕ → ℕ → List (List ℕ)
+identified incarnation before zero = []
+identified incarnation before (suc more) = identifier incarnation (before + 1) ∷ identified incarnation (before + 1) more
+
+-- The new values of a sequence are the numbers from where it stood, one after the other: none is given twice, and none is left out.
+abbrev pub CountsValues : Type 0
+CountsValues =
+    (opening : Opening) (history : List Did) (sequence : SeqState)
+    → sequence_of opening.sequences sequence.name ≡ Some sequence
+    → let values = values_of sequence.name (all_anew opening history) in values ≡ counted sequence.next (length values)
+
+-- The new identifiers are counted from 1 in their incarnation, each once.
+abbrev pub CountsIdentifiers : Type 0
+CountsIdentifiers =
+    (opening : Opening) (history : List Did)
+    → let identifiers = identifiers_of (all_anew opening history) in identifiers ≡ identified opening.incarnation opening.identifiers (length identifiers)

@@ -1,0 +1,3 @@
+pub mod Granting
+pub mod History
+pub mod Sources

@@ -1,0 +1,9 @@
+//! What the service keeps for a replay.
+
+/// Which kinds of values are kept for a replay. Of the sequences those are kept that are declared so besides.
+#[derive(Clone, Copy, Debug, PartialEq, Eq)]
+pub struct Grants {
+    pub seq: bool,
+    pub clock: bool,
+    pub id: bool,
+}
