@@ -4,16 +4,17 @@ use Rattle.std.specs.Prelude.{IsTrue, nat_le}
 use Rattle.std.proofs.lemmas.List.{map_push}
 use Rattle.svc_values.specs.declared.schema.Shape.{Shape}
 use Rattle.svc_values.specs.declared.entry.Entry.{Entry}
+use Rattle.svc_values.specs.declared.entry.Ltxid.{Ltxid}
 use Rattle.stmt_meaning.specs.Fitting.{writes_fit}
 use Rattle.ltxid_book.specs.declared.State.{State}
-use Rattle.ltxid_book.specs.Sessions.{state_in, may_commit as can_commit, after_commit, Says}
+use Rattle.ltxid_book.specs.Sessions.{state_in, may_commit as can_commit, after_commit, after_block, Says}
 use Rattle.ltxid_book.specs.Journal.{Committed, IsBookOf, BlocksStand}
-use Rattle.ltxid_book.proofs.Journal.{follows_commits}
+use Rattle.ltxid_book.proofs.Journal.{follows_commits, follows_blocks}
 use Rattle.commit_log.specs.declared.journal.Journal.{Journal}
 use Rattle.commit_log.specs.declared.judge.Judge.{Judge}
 use Rattle.commit_log.specs.declared.records.Record.TheVariants as kept
 use Rattle.commit_log.specs.Bases.{schemas_of}
-use Rattle.commit_log.specs.Rules.{committed, may_commit, with_record}
+use Rattle.commit_log.specs.Rules.{committed, may_commit, may_block, with_record}
 use Rattle.commit_log.specs.Judging.{IsBookFor, Keeps}
 
 -- whether a commit may come next, by a book that is kept beside the journal
@@ -67,3 +68,14 @@ notes_commit old new journal entry book_for may says =
       sessions = subst (λ (l : List Committed). IsBookOf (state_in new) l journal.blocked) (sym more) sessions;
       blocks = subst (λ (l : List Committed). BlocksStand l journal.blocked) (sym more) follows.1;
     }
+
+-- whether an identifier may be blocked, by a book that is kept beside the journal
+pub block_beside : (book : List ((ℕ × ℕ) × State)) (journal : Journal) (x : Ltxid) → IsBookFor book journal → can_commit (state_in book) x ≡ may_block journal x
+block_beside book journal x book_for = ap (λ (state : State). (x.number == state.next) && not state.blocked) (book_for.sessions x.incarnation x.session)
+
+-- a book that has noted the block is one for the journal with it
+pub notes_block : (old new : List ((ℕ × ℕ) × State)) (journal : Journal) (x : Ltxid) → IsBookFor old journal → IsTrue (can_commit (state_in old) x) → Says new (after_block (state_in old) x)
+    → IsBookFor new (with_record journal (kept.Blocked x))
+notes_block old new journal x book_for may says =
+    let follows = follows_blocks (state_in old) (map committed journal.entries) journal.blocked x book_for.sessions book_for.blocks may in
+    record { sessions = λ incarnation session. says incarnation session ∙ follows.0 incarnation session; blocks = follows.1 }

@@ -2,7 +2,6 @@
 use Rattle.std.proofs.Common.{◌≡◌, ℕ, ◌+◌, ◌^◌, ◌<◌, ◌≤◌, zero, suc, List, [], ◌∷◌, ◌++◌, length, take, Some, None, inl, inr, refl, sym, ◌∙◌, ap, subst, arith, length-append, fold}
 use Rattle.std.specs.Prelude.{Bool, true, false, not, ◌&&◌, ◌||◌, nat_le, nat_lt, IsTrue, Result, Ok, Err, if◌then◌else◌}
 use Rattle.std.proofs.lemmas.Bool.{le-leb, lt-ltb}
-use Rattle.svc_values.specs.declared.entry.Entry.{Entry}
 use Rattle.disk_model.specs.Moment.{Moment, MayLeave}
 use Rattle.disk_model.specs.Disk.{DiskState, Meanwhile, SameBytes, LeftSince, moment, IsSettled}
 use Rattle.disk_model.proofs.Moments.{stays, then as after_that, weaker, since, crash_now}
@@ -12,7 +11,7 @@ use Rattle.commit_log.specs.declared.base.Base.{Base}
 use Rattle.commit_log.specs.declared.records.Record.{Record}
 use Rattle.commit_log.specs.declared.records.Record.TheVariants as kept
 use Rattle.commit_log.specs.Bases.{IsBase}
-use Rattle.commit_log.specs.Rules.{Progress, Empty, Begun, new_journal, with_record, may_open, may_commit, after}
+use Rattle.commit_log.specs.Rules.{Progress, Empty, Begun, new_journal, with_record, may_open, may_come, after}
 use Rattle.commit_log.specs.Journals.{journal_in, journal_of, progress_of}
 use Rattle.commit_log.specs.Adding.{HasAlso, IsOldOrWith}
 use Rattle.commit_log.specs.Growth.{with_records, IsGrown, opening_of}
@@ -89,19 +88,19 @@ journal_of_base old image base is none also =
     let may : after Empty (kept.Base base) ≡ Some (Begun (new_journal base) false) = ap (λ (b : Bool). if b then Some (Begun (new_journal base) false) else None) is in
     ap journal_in (progress_after old image (kept.Base base) Empty (Begun (new_journal base) false) (progress_by_records old [] none) may also)
 
--- a commit that may come next
-pub commit_comes : (journal : Journal) (entry : Entry) → IsTrue (may_commit journal entry) → after (Begun journal true) (kept.Commit entry) ≡ Some (Begun (with_record journal (kept.Commit entry)) true)
-commit_comes journal entry may = ap (λ (b : Bool). if b then Some (Begun (with_record journal (kept.Commit entry)) true) else None) may
+-- a record that may come next, where the store was opened
+pub record_comes : (journal : Journal) (one : Record) → IsTrue (may_come journal true one) → after (Begun journal true) one ≡ Some (Begun (with_record journal one) true)
+record_comes journal one may = ap (λ (b : Bool). if b then Some (Begun (with_record journal one) true) else None) may
+
+or_true : (b : Bool) → (b || true) ≡ true
+or_true true = refl
+or_true false = refl
 
 may_open_next : (journal : Journal) (is_opened : Bool) → journal.incarnation < 2 ^ 63 → may_open journal is_opened (journal.incarnation + 1) ≡ true
 may_open_next journal is_opened room =
     let small : nat_le (journal.incarnation + 1) (2 ^ 63) ≡ true = le-leb (journal.incarnation + 1) (2 ^ 63) (omega (arith, room)) in
     let rises : nat_lt journal.incarnation (journal.incarnation + 1) ≡ true = lt-ltb journal.incarnation (journal.incarnation + 1) (omega arith) in
-    ap (λ (b : Bool). b && (not is_opened || nat_lt journal.incarnation (journal.incarnation + 1))) small ∙ ap (λ (b : Bool). not is_opened || b) rises ∙ either (not is_opened)
-  where
-    either : (b : Bool) → (b || true) ≡ true
-    either true = refl
-    either false = refl
+    ap (λ (b : Bool). b && (not is_opened || nat_lt journal.incarnation (journal.incarnation + 1))) small ∙ ap (λ (b : Bool). not is_opened || b) rises ∙ or_true (not is_opened)
 
 -- ---- the next opening
 
@@ -110,7 +109,9 @@ module _ (old : List ℕ) (journal : Journal) (is_opened : Bool) (begun : progre
   opening = kept.Opened (journal.incarnation + 1)
 
   pub opening_comes : after (Begun journal is_opened) opening ≡ Some (Begun (with_record journal opening) true)
-  opening_comes = ap (λ (b : Bool). if b then Some (Begun (with_record journal opening) true) else None) (may_open_next journal is_opened room)
+  opening_comes =
+      ap (λ (b : Bool). if b then Some (Begun (with_record journal opening) (is_opened || true)) else None) (may_open_next journal is_opened room)
+      ∙ ap (λ (b : Bool). Some (Begun (with_record journal opening) b)) (or_true is_opened)
 
   pub opened_after : (image : List ℕ) → HasAlso old opening image → progress_of image ≡ Ok (Begun (with_record journal opening) true)
   opened_after image also = progress_after old image opening (Begun journal is_opened) (Begun (with_record journal opening) true) begun opening_comes also

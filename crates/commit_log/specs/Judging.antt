@@ -9,7 +9,7 @@ use Rattle.redo_store.specs.Walk.{HasRead}
 use Rattle.commit_log.specs.declared.journal.Journal.{Journal}
 use Rattle.commit_log.specs.declared.judge.Judge.{Judge}
 use Rattle.commit_log.specs.Bases.{shape_of}
-use Rattle.commit_log.specs.Rules.{Progress, Empty, Begun, committed}
+use Rattle.commit_log.specs.Rules.{Progress, Empty, Begun, committed, end_of}
 use Rattle.commit_log.specs.Journals.{judged}
 
 -- how far it has come
@@ -21,10 +21,11 @@ pub record IsBookFor (book : List ((ℕ × ℕ) × State)) (journal : Journal) :
   pub sessions : IsBookOf (state_in book) (map committed journal.entries) journal.blocked
   pub blocks : BlocksStand (map committed journal.entries) journal.blocked
 
--- its book is one for its journal, and its shape is that of the base
+-- its book is one for its journal, its shape is that of the base, and it knows where each sequence's values end
 pub record Keeps (judge : Judge) : Type 0 where
   pub book_for : IsBookFor judge.book judge.journal
   pub shape : judge.shape ≡ shape_of judge.journal.base
+  pub ends : judge.ends.items ≡ map (end_of judge.journal.reserved) judge.journal.base.sequences
 
 -- it has judged the records that the walk has gone over, and keeps what they say
 pub record HasJudged (judge : Judge) (walk : Walk) (image : List ℕ) : Type 0 where

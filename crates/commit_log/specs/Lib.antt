@@ -6,6 +6,7 @@ pub mod Journals
 pub mod Keys
 pub mod Growth
 pub mod Adding
+pub mod Adds
 pub mod Judging
 pub mod Logs
 pub mod Laws

@@ -4,19 +4,20 @@ ghost use Rattle.svc_values.specs.Identifiers.{IsLtxid};
 ghost use Rattle.stmt_meaning.specs.Fitting.{writes_fit as writes_fit_lem};
 ghost use Rattle.canon_bytes.specs.Entries.{FitsEntry};
 ghost use Rattle.commit_log.specs.Bases.{shape_of as shape_of_lem};
-ghost use Rattle.commit_log.specs.Rules.{Empty, new_journal as new_journal_lem, after, may_open, may_commit};
+ghost use Rattle.commit_log.specs.Rules.{Empty, new_journal as new_journal_lem, after, may_open, may_commit, may_block, may_reserve};
 ghost use Rattle.commit_log.specs.Journals.{after_payload};
 ghost use Rattle.commit_log.specs.Judging.{progress_in, Keeps};
 
 use crate::base::Base;
 use crate::checks::{is_base, shape_of};
-use crate::journal::{Blocks, Entries, Journal, Lines, Ltxids};
+use crate::ends::{first_ends, is_next, note};
+use crate::journal::{Block, Blocks, Entries, Journal, Lines, Ltxids};
 use crate::records::{Record, record_of};
 use ltxid_book::Book;
 use redo_store::RedoFault;
 use std::alloc::Global;
 use stmt_meaning::write_fits;
-use svc_values::{Entry, ListFault, NoMemory, Shape, Write};
+use svc_values::{Entry, ListFault, Ltxid, NoMemory, Shape, Text, Write};
 
 // Why a record was not added. The judge is of no more use.
 #[derive(Clone, Copy)]
@@ -58,14 +59,15 @@ impl From<ListFault> for Misfit {
     }
 }
 
-// A journal under way. Beside it stands what judges the next record at once: the state of each session, and the
-// declarations of the base.
+// A journal under way. Beside it stands what judges the next record at once: the state of each session, the declarations
+// of the base, and for each of its sequences where the values end that were set aside.
 #[derive(Drop)]
 pub struct Judge {
     journal: Journal,
     is_opened: bool,
     book: Book,
     shape: Shape,
+    ends: Vec<i64>,
 }
 
 // A journal of nothing but its base.
@@ -103,16 +105,18 @@ impl Judge {
             return Err(Misfit::Misplaced);
         }
         let shape = shape_of(alloc, &base)?;
+        let ends = first_ends(alloc, base.sequences.as_slice())?;
         Ok(Judge {
             journal: new_journal(alloc, base),
             is_opened: false,
             book: Book::new(alloc),
             shape,
+            ends,
         })
     }
 
-    // Judges one more record, and adds it. Beside the record's bytes it looks at its session and at the declarations
-    // alone.
+    // Judges one more record, and adds it. Beside the record's bytes it looks at its session, at the declarations and at
+    // the ends of the sequences alone.
     pub fn take(&mut self, alloc: Global, payload: &[u8]) -> Result<(), Misfit>
         requires { Keeps self.old }
         ensures taken { OnOk result (after_payload (progress_in self.old) payload.now ≡ Some (progress_in self.new)) }
@@ -124,6 +128,9 @@ impl Judge {
             Some(Record::Base(_)) => Err(Misfit::Misplaced),
             Some(Record::Opened(incarnation)) => self.open(incarnation),
             Some(Record::Commit(entry)) => self.commit(entry),
+            Some(Record::Blocked(x)) => self.block(x),
+            Some(Record::Reserved(block)) => self.reserve(block),
+            Some(Record::Alert(line)) => self.alert(line),
         }
     }
 
@@ -172,6 +179,70 @@ impl Judge {
         }
         self.book.commit(&entry.ltxid, entry.completed)?;
         self.journal.entries.push(entry)?;
+        Ok(())
+    }
+
+    // Whether the identifier may be blocked next.
+    pub fn can_block(&self, x: &Ltxid) -> bool
+        requires kept { Keeps self.now }
+        requires ltxid { IsLtxid x.now }
+        ensures { result ≡ may_block self.now.journal x.now }
+    {
+        self.book.can_commit(x)
+    }
+
+    // Adds the block of an identifier.
+    fn block(&mut self, x: Ltxid) -> Result<(), Misfit>
+        requires kept { Keeps self.old }
+        requires fits { IsLtxid x }
+        ensures taken { OnOk result (after (progress_in self.old) (Record.Blocked x) ≡ Some (progress_in self.new)) }
+        ensures kept { OnOk result (Keeps self.new) }
+        ensures misplaced { IsErrOf result Misfit.Misplaced → after (progress_in self.old) (Record.Blocked x) ≡ None }
+    {
+        if !self.can_block(&x) {
+            return Err(Misfit::Misplaced);
+        }
+        self.book.block(&x)?;
+        self.journal.blocked.push(x)?;
+        Ok(())
+    }
+
+    // Whether the block may be set aside next: linear in the sequences of the base, of which there are at most 32.
+    #[tactic(auto, unfolding(crate::specs::Rules::may_reserve))]
+    pub fn can_reserve(&self, block: &Block) -> bool
+        requires { Keeps self.now }
+        ensures { result ≡ may_reserve self.now.journal block.now }
+    {
+        is_next(self.journal.base.sequences.as_slice(), &self.ends, block)
+    }
+
+    // Adds a block of a sequence's values.
+    fn reserve(&mut self, block: Block) -> Result<(), Misfit>
+        requires { Keeps self.old }
+        ensures taken { OnOk result (after (progress_in self.old) (Record.Reserved block) ≡ Some (progress_in self.new)) }
+        ensures kept { OnOk result (Keeps self.new) }
+        ensures misplaced { IsErrOf result Misfit.Misplaced → after (progress_in self.old) (Record.Reserved block) ≡ None }
+    {
+        if !self.can_reserve(&block) {
+            return Err(Misfit::Misplaced);
+        }
+        note(
+            self.journal.base.sequences.as_slice(),
+            &mut self.ends,
+            &block,
+        );
+        self.journal.reserved.push(block)?;
+        Ok(())
+    }
+
+    // Adds a line of text, which may come wherever it likes.
+    fn alert(&mut self, line: Text) -> Result<(), Misfit>
+        requires { Keeps self.old }
+        ensures taken { OnOk result (after (progress_in self.old) (Record.Alert line) ≡ Some (progress_in self.new)) }
+        ensures kept { OnOk result (Keeps self.new) }
+        ensures misplaced { IsErrOf result Misfit.Misplaced → after (progress_in self.old) (Record.Alert line) ≡ None }
+    {
+        self.journal.alerts.push(line)?;
         Ok(())
     }
 

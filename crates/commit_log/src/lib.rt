@@ -1,12 +1,18 @@
-//! The journal of a service: what it began with, its openings and its committed transactions, as the records of a
-//! store that survives a crash at any moment.
+//! The journal of a service: what it began with, its openings, its committed transactions and what else it has to
+//! remember, as the records of a store that survives a crash at any moment.
 //!
 //! # Records
 //!
-//! The payload of a record is a tag byte and canonical bytes: 1 and a base, 2 and the incarnation of an opening, 3 and
-//! the entry of a committed transaction. The first record is a base, and no other is. Incarnations rise and are at most
-//! 2^63. A commit comes in a store that was opened with its incarnation or a later one; its identifier has its
-//! session's next number and is not blocked, and its writes fit the tables of the base.
+//! The payload of a record is a tag byte and canonical bytes:
+//!
+//! 1. A base. The first record is one, and no other is.
+//! 2. The incarnation of an opening. Incarnations rise and are at most 2^63.
+//! 3. The entry of a committed transaction. It comes in a store that was opened with its incarnation or a later one; its
+//!    identifier has its session's next number and is not blocked, and its writes fit the tables of the base.
+//! 4. An identifier that is blocked, and can commit no more. It has its session's next number, and is not blocked yet.
+//! 5. A block of a sequence: its name, and the value `upto` with which the block ends. The sequence is one of the base,
+//!    and `upto` is 16 more than that of its block before, or its start and 15 for its first.
+//! 6. A line of text, at most 64 bytes, which comes anywhere behind the base.
 //!
 //! # Damage
 //!
@@ -18,6 +24,7 @@
 mod base;
 mod base_bytes;
 mod checks;
+mod ends;
 mod journal;
 mod judge;
 mod judging;

@@ -1,17 +1,19 @@
 //! The log: a store that is opened for commits.
-ghost use Rattle.std.specs.Prelude.{◌≡◌, ◌+◌, ◌<◌, ◌^◌, ◌⊎◌, [], ◌∷◌, ℕ, List, IsTrue, IsFalse, OnOk, IfOk, IsErrOf, Ok, Err};
+ghost use Rattle.std.specs.Prelude.{◌≡◌, ◌+◌, ◌<◌, ◌^◌, ◌⊎◌, [], ◌∷◌, ℕ, List, IsFalse, OnOk, IfOk, IsErrOf, Ok, Err};
 ghost use Rattle.disk_model.specs.Disk.{Meanwhile, LeftSince, moment, IsSettled, SameBytes, Lowered, Caused, OnlyReads};
 ghost use Rattle.redo_store.specs.Records.{records_of};
 ghost use Rattle.redo_store.specs.Redo.{CanAppend, is_live as is_live_store};
+ghost use Rattle.svc_values.specs.Identifiers.{IsLtxid};
 ghost use Rattle.canon_bytes.specs.Entries.{IsMadeEntry};
 ghost use Rattle.commit_log.specs.declared.journal.Journal.{Journal as Held};
 ghost use Rattle.commit_log.specs.declared.records.Record.TheVariants as kept;
 ghost use Rattle.commit_log.specs.Bases.{IsBase};
 ghost use Rattle.commit_log.specs.RecordBytes.{IsMadeRecord};
-ghost use Rattle.commit_log.specs.Rules.{new_journal, may_commit};
+ghost use Rattle.commit_log.specs.Rules.{new_journal};
 ghost use Rattle.commit_log.specs.Journals.{journal_of};
 ghost use Rattle.commit_log.specs.Adding.{record_in, HasAlso, IsOldOrWith};
-ghost use Rattle.commit_log.specs.Growth.{with_records, with_opening, opening_of, IsGrown};
+ghost use Rattle.commit_log.specs.Adds.{MayAdd, Adds};
+ghost use Rattle.commit_log.specs.Growth.{with_opening, opening_of, IsGrown};
 
 use crate::base::Base;
 use crate::journal::Journal;
@@ -20,7 +22,7 @@ use crate::records::{Adding, payload_of};
 use disk_model::Disk;
 use redo_store::{Redo, RedoFault as LogFault, Walk};
 use std::alloc::Global;
-use svc_values::Entry;
+use svc_values::{Entry, Ltxid, Name, Text};
 
 /// A store that was opened. It holds no record: the journal is handed out at the opening.
 #[derive(Drop)]
@@ -32,7 +34,7 @@ pub struct Log {
 impl Log {
     ghost use Rattle.commit_log.specs.Logs.{is_live, CanLog};
 
-    /// Whether a commit may be added. After `Stopped` it may not, and the store is to be opened again.
+    /// Whether a record may be added. After `Stopped` it may not, and the store is to be opened again.
     pub fn is_live(&self) -> bool
         ensures { result ≡ is_live self.now }
     {
@@ -128,35 +130,56 @@ impl Log {
     pub fn commit<D: Disk>(&mut self, disk: &mut D, entry: &Entry) -> Result<(), LogFault>
         requires ready { CanLog self.old (D.state disk.old) }
         requires made { IsMadeEntry entry.now }
-        requires may { (journal : Held) → journal_of (D.state disk.old).now.seen ≡ Ok journal → IsTrue (may_commit journal entry.now) }
-
-        // At Ok the entry is there, last, and durable.
-        ensures added { OnOk result (journal_of (D.state disk.new).now.seen ≡ with_records (kept.Commit entry.now ∷ []) (journal_of (D.state disk.old).now.seen)) }
-
-        // For want of memory it changes no journal.
-        ensures refused { IsErrOf result LogFault.NoMemory → journal_of (D.state disk.new).now.seen ≡ journal_of (D.state disk.old).now.seen }
-
-        // Whatever it answers, a read then gives the old journal, or this journal with the entry last.
-        ensures stands { IsGrown (D.state disk.old).now.seen (kept.Commit entry.now ∷ []) (D.state disk.new).now.seen }
-
-        // After Ok and NoMemory it goes on with its disk; after Stopped the store is to be opened again.
-        ensures ready { (IsErrOf result LogFault.Stopped → ⊥) → CanLog self.new (D.state disk.new) }
-        ensures stopped { IsErrOf result LogFault.Stopped → IsFalse (is_live self.new) }
-
-        // A crash at any moment of the call leaves the old journal, or this journal with the entry last.
-        ensures any_moment { Meanwhile (D.state disk.old) (D.state disk.new) (IsGrown (D.state disk.old).now.seen (kept.Commit entry.now ∷ [])) }
-
-        // The same, said of the time since the call began.
-        ensures since { (image : List ℕ) → LeftSince (D.state disk.new) (moment (D.state disk.old)) image → IsGrown (D.state disk.old).now.seen (kept.Commit entry.now ∷ []) image }
-
-        // It succeeds only with no stop or one of at least four, which it lowers by four.
-        ensures stop { OnOk result (Lowered 4 (D.state disk.old).stop (D.state disk.new).stop) }
-
-        // Stopped has its cause in the disk; with no stop or one of at least four a quiet disk has no fault.
-        ensures cause { Caused 4 (IsErrOf result LogFault.Stopped) (D.state disk.old) (D.state disk.new) }
-        ensures whole { (place : ℕ) → IsErrOf result (LogFault.Damaged place) → ⊥ }
+        requires may { MayAdd (D.state disk.old) (kept.Commit entry.now) }
+        ensures { Adds result self.old self.new (D.state disk.old) (D.state disk.new) (kept.Commit entry.now) }
     {
-        self.put(disk, Adding::Commit(entry))
+        self.add(disk, Adding::Commit(entry))
+    }
+
+    /// Adds the block of an identifier, which can commit no more, in four device calls.
+    ///
+    /// It takes the memory for the record before the first of them, 25 bytes. The caller sees to it that the identifier may
+    /// be blocked next in the journal of the disk.
+    pub fn block<D: Disk>(&mut self, disk: &mut D, x: &Ltxid) -> Result<(), LogFault>
+        requires ready { CanLog self.old (D.state disk.old) }
+        requires made { IsLtxid x.now }
+        requires may { MayAdd (D.state disk.old) (kept.Blocked x.now) }
+        ensures { Adds result self.old self.new (D.state disk.old) (D.state disk.new) (kept.Blocked x.now) }
+    {
+        self.add(disk, Adding::Blocked(x))
+    }
+
+    /// Adds a block of a sequence, whose values up to and with `upto` are set aside, in four device calls.
+    ///
+    /// It takes the memory for the record before the first of them, in proportion to the name alone. The caller sees to it
+    /// that the block may come next in the journal of the disk.
+    pub fn reserve<D: Disk>(&mut self, disk: &mut D, name: &Name, upto: i64) -> Result<(), LogFault>
+        requires ready { CanLog self.old (D.state disk.old) }
+        requires may { MayAdd (D.state disk.old) (kept.Reserved (record { name = name.now; upto = upto })) }
+        ensures { Adds result self.old self.new (D.state disk.old) (D.state disk.new) (kept.Reserved (record { name = name.now; upto = upto })) }
+    {
+        self.add(disk, Adding::Reserved(name, upto))
+    }
+
+    /// Adds a line of text, in four device calls.
+    ///
+    /// It takes the memory for the record before the first of them, in proportion to the line alone.
+    pub fn alert<D: Disk>(&mut self, disk: &mut D, line: &Text) -> Result<(), LogFault>
+        requires ready { CanLog self.old (D.state disk.old) }
+        requires may { MayAdd (D.state disk.old) (kept.Alert line.now) }
+        ensures { Adds result self.old self.new (D.state disk.old) (D.state disk.new) (kept.Alert line.now) }
+    {
+        self.add(disk, Adding::Alert(line))
+    }
+
+    // Adds a record that may come next.
+    fn add<D: Disk>(&mut self, disk: &mut D, adding: Adding) -> Result<(), LogFault>
+        requires ready { CanLog self.old (D.state disk.old) }
+        requires made { IsMadeRecord (record_in adding) }
+        requires may { MayAdd (D.state disk.old) (record_in adding) }
+        ensures { Adds result self.old self.new (D.state disk.old) (D.state disk.new) (record_in adding.entry) }
+    {
+        self.put(disk, adding)
     }
 
     // Adds a record, whichever it is.

@@ -1,20 +1,25 @@
 //! The records of a journal, and their bytes.
 ghost use Rattle.std.specs.Prelude.{◌≡◌, ◌++◌, IfOk, IfSome, OnOk};
-ghost use Rattle.commit_log.specs.RecordBytes.{spell_record, FitsRecord, record_at, record_again, IsMadeRecord};
+ghost use Rattle.commit_log.specs.RecordBytes.{spell_block, FitsBlock, block_at, block_again, spell_record, FitsRecord, record_at, record_again, IsMadeRecord};
 ghost use Rattle.commit_log.specs.Journals.{whole_record};
 ghost use Rattle.commit_log.specs.Adding.{record_in};
 
 use crate::base::Base;
+use crate::journal::Block;
 use canon_bytes::{Fault, Put, PutMade, ReadFault, Take};
 use std::alloc::Global;
-use svc_values::{Entry, NoMemory};
+use svc_values::{Entry, Ltxid, Name, NoMemory, Text};
 
-/// A record of a journal: the base, an opening with its incarnation, or a committed transaction.
+/// A record of a journal: the base, an opening with its incarnation, a committed transaction, an identifier that can
+/// commit no more, a part of a sequence that is set aside, or a line of text.
 #[derive(PartialEq, Eq, Drop)]
 pub enum Record {
     Base(Base),
     Opened(u64),
     Commit(Entry),
+    Blocked(Ltxid),
+    Reserved(Block),
+    Alert(Text),
 }
 
 // A record that is to be stored.
@@ -23,6 +28,26 @@ pub enum Adding<'a> {
     Base(&'a Base),
     Opened(u64),
     Commit(&'a Entry),
+    Blocked(&'a Ltxid),
+    Reserved(&'a Name, i64),
+    Alert(&'a Text),
+}
+
+#[tactic(auto, unfolding(crate::specs::RecordBytes::block_at, crate::specs::RecordBytes::spell_block))]
+impl Take for Block {
+    ghost spelling = { spell_block };
+
+    ghost fits = { FitsBlock };
+
+    ghost reading = { block_at };
+
+    ghost again = { block_again };
+
+    fn take(alloc: Global, bytes: &[u8]) -> Result<(Block, &[u8]), ReadFault> {
+        let (name, rest) = Name::take(alloc, bytes)?;
+        let (upto, rest) = i64::take(alloc, rest)?;
+        Ok((Block { name, upto }, rest))
+    }
 }
 
 #[tactic(auto, unfolding(crate::specs::RecordBytes::record_at))]
@@ -50,6 +75,18 @@ impl Take for Record {
                 let (entry, rest) = Entry::take(alloc, rest)?;
                 Ok((Record::Commit(entry), rest))
             }
+            [4, rest @ ..] => {
+                let (x, rest) = Ltxid::take(alloc, rest)?;
+                Ok((Record::Blocked(x), rest))
+            }
+            [5, rest @ ..] => {
+                let (block, rest) = Block::take(alloc, rest)?;
+                Ok((Record::Reserved(block), rest))
+            }
+            [6, rest @ ..] => {
+                let (line, rest) = Text::take(alloc, rest)?;
+                Ok((Record::Alert(line), rest))
+            }
             _ => Err(ReadFault::Fault(Fault::BadTag(bytes.len()))),
         }
     }
@@ -66,6 +103,16 @@ pub fn record_of(alloc: Global, payload: &[u8]) -> Result<Option<Record>, NoMemo
         Ok((_, [_, ..])) => Ok(None),
         Ok((record, [])) => Ok(Some(record)),
     }
+}
+
+// Writes the spelling of a block at the end. After want of memory a part of it may stand there.
+#[tactic(auto, unfolding(crate::specs::RecordBytes::spell_block))]
+fn put_block(name: &Name, upto: i64, out: &mut Vec<u8>) -> Result<(), NoMemory>
+    ensures written { OnOk result (out.new.items ≡ out.old.items ++ spell_block (record { name = name.now; upto = upto })) }
+    ensures fitting { OnOk result (FitsBlock (record { name = name.now; upto = upto })) }
+{
+    name.put(out)?;
+    upto.put(out)
 }
 
 // Writes the spelling of a record at the end. After want of memory a part of it may stand there.
@@ -86,6 +133,18 @@ fn put_record(adding: Adding, out: &mut Vec<u8>) -> Result<(), NoMemory>
         Adding::Commit(entry) => {
             out.push(3)?;
             entry.put_made(out)
+        }
+        Adding::Blocked(x) => {
+            out.push(4)?;
+            x.put_made(out)
+        }
+        Adding::Reserved(name, upto) => {
+            out.push(5)?;
+            put_block(name, upto, out)
+        }
+        Adding::Alert(line) => {
+            out.push(6)?;
+            line.put(out)
         }
     }
 }

@@ -109,26 +109,34 @@ fn push_number(out: &mut Vec<u8>, number: u8) -> Result<(), AllocError> {
     Ok(())
 }
 
-// The bytes of a record that a text describes: a digit is a byte, a digit behind a point is a number of eight bytes, a
-// letter is a name or a text of that letter, and a dash is nothing.
+// The value of a digit, where a letter is one too: a is 10, g is 16.
+fn digit_of(byte: u8) -> u8 {
+    if byte.is_ascii_digit() {
+        byte.wrapping_sub(b'0')
+    } else {
+        byte.wrapping_sub(b'a').wrapping_add(10)
+    }
+}
+
+// The bytes of a record that a text describes: a digit is a byte, a digit behind a point is a number of eight bytes (there
+// a letter is a digit too), a letter is a name or a text of that letter, and a dash is nothing.
 fn bytes_of(alloc: Global, text: &str) -> Result<Vec<u8>, AllocError> {
     let mut out = Vec::new(alloc);
     let mut is_number = false;
     for byte in text.as_bytes() {
         match byte {
             b'.' => is_number = true,
-            b'0'..=b'9' => {
-                if is_number {
-                    push_number(&mut out, *byte - b'0')?;
-                } else {
-                    out.push(*byte - b'0')?;
-                }
-                is_number = false;
-            }
             b'-' => {}
             _ => {
-                push_number(&mut out, 1)?;
-                out.push(*byte)?;
+                if is_number {
+                    push_number(&mut out, digit_of(*byte))?;
+                } else if byte.is_ascii_digit() {
+                    out.push(digit_of(*byte))?;
+                } else {
+                    push_number(&mut out, 1)?;
+                    out.push(*byte)?;
+                }
+                is_number = false;
             }
         }
     }
@@ -175,9 +183,27 @@ const STORES: &str = "\
 1.0.0 2.1 3.1.1.02.0.0.0 => damaged at 52
 # tags without a record
 1.0.0 2.1 0 => damaged at 52
-1.0.0 2.1 4.1.1.0 => damaged at 52
-1.0.0 2.1 5s.9 => damaged at 52
-1.0.0 2.1 6k => damaged at 52
+1.0.0 2.1 7k => damaged at 52
+# an identifier of any incarnation is blocked once, where its number is its session's next, and then commits no more
+1.0.0 4.1.1.0 => opened 0, entries 0
+1.0.0 2.1 4.9.1.0 4.1.1.0 4.1.2.0 => opened 1, entries 0
+1.0.0 2.1 4.1.1.0 4.1.1.0 => damaged at 86
+1.0.0 2.1 4.1.1.1 => damaged at 52
+1.0.0 2.1 4.1.1.00 => damaged at 52
+1.0.0 2.1 3.1.1.01.0.0.0 4.1.1.0 => damaged at 111
+1.0.0 2.1 3.1.1.01.0.0.0 4.1.1.1 => opened 1, entries 1
+1.0.0 2.1 4.1.1.0 3.1.1.01.0.0.0 => damaged at 86
+# the values of a sequence s that begins at 1 are set aside by sixteen, and those of a sequence t at 0
+1.0.1s.10 5s.g 5s.w => opened 0, entries 0
+1.0.1s.10 5s.h => damaged at 52
+1.0.1s.10 5s.w => damaged at 52
+1.0.1s.10 5s.g 5s.g => damaged at 79
+1.0.1s.10 5t.g => damaged at 52
+1.0.2s.10t.00 5s.g 5t.f 5s.w => opened 0, entries 0
+1.0.2s.10t.00 5s.g 5t.v => damaged at 97
+# a line of text comes anywhere behind the base
+6k => damaged at 8
+1.0.0 6k 2.1 6k 6k => opened 1, entries 0
 # a base with a table t, a column k of integers, a row of key 5 and a sequence s
 1.1t.1k1.1.11.5.1s.91 => opened 0, entries 0
 1.1t.1k1.2.11.5.11.6.0 => opened 0, entries 0
@@ -213,6 +239,19 @@ fn records_and_what_a_reading_says_of_them(rt: HostRuntime) -> Result<(), Fail> 
     Ok(())
 }
 
+// What a reading says of a store with a line of so many bytes.
+fn said_of_line(alloc: Global, length: u8) -> Result<String, AllocError> {
+    let mut bytes = store_of(alloc, "1.0.0", 1)?;
+    push_number(&mut bytes, length.wrapping_add(9))?;
+    bytes.push(6)?;
+    push_number(&mut bytes, length)?;
+    for _ in 0..length {
+        bytes.push(b'k')?;
+    }
+    bytes.push(0)?;
+    said(alloc, &bytes)
+}
+
 #[test]
 fn the_first_damage_is_told(rt: HostRuntime) -> Result<(), Fail> {
     let alloc = rt.alloc();
@@ -221,6 +260,9 @@ fn the_first_damage_is_told(rt: HostRuntime) -> Result<(), Fail> {
     assert_eq!(rt; said(alloc, &whole)?.as_str(), "damaged at 52");
     let misplaced = store_of(alloc, "1.0.0 4", 1)?;
     assert_eq!(rt; said(alloc, &misplaced)?.as_str(), "damaged at 34");
+    // A line of 64 bytes, and one of 65.
+    assert_eq!(rt; said_of_line(alloc, 64)?.as_str(), "opened 0, entries 0");
+    assert_eq!(rt; said_of_line(alloc, 65)?.as_str(), "damaged at 34");
     // A length of eight bytes ff.
     let mut long = store_of(alloc, "1.0.0", 1)?;
     long.extend_from_slice(&[0xff; 8])?;
