@@ -1,5 +1,5 @@
 //! A source and a sink over any reader and writer. They tell no content, and count their faults.
-ghost use Rattle.std.specs.Prelude.{None};
+ghost use Rattle.std.specs.Prelude.{◌≡◌, None};
 
 use continuity_run::{Failed, Sink, Source};
 use std::io::{Read, Write};
@@ -12,7 +12,9 @@ pub struct Input<R> {
 }
 
 impl<R> Input<R> {
-    pub fn new(inner: R) -> Self {
+    pub fn new(inner: R) -> Self
+        ensures { result ≡ record { inner = inner; faults = 0 } }
+    {
         Input { inner, faults: 0 }
     }
 }
@@ -41,7 +43,9 @@ pub struct Output<W> {
 }
 
 impl<W> Output<W> {
-    pub fn new(inner: W) -> Self {
+    pub fn new(inner: W) -> Self
+        ensures { result ≡ record { inner = inner; faults = 0 } }
+    {
         Output { inner, faults: 0 }
     }
 }

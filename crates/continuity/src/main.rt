@@ -22,6 +22,14 @@ fn words_of(rt: &(impl Env + AllocGlobal)) -> io::Result<Vec<String>> {
     Ok(words)
 }
 
+/// How a run ends whose words can't be had: a word that is no text is that of no command.
+fn without_words(error: &io::Error) -> Status {
+    match error.kind() {
+        io::ErrorKind::InvalidData => Status::Words,
+        _ => Status::NoMemory,
+    }
+}
+
 fn tell(rt: &impl Eprint, status: &Status) -> io::Result<()> {
     match status {
         Status::Done => Ok(()),
@@ -36,7 +44,7 @@ fn main(rt: HostRuntime) -> ExitCode {
             let mut sink = Output::new(rt.stdout());
             continuity(rt.alloc(), words.as_slice(), &mut source, &mut sink)
         }
-        Err(_) => Status::NoMemory,
+        Err(error) => without_words(&error),
     };
     let _ = tell(&rt, &status);
     ExitCode::from(status.number())
