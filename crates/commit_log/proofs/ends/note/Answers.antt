@@ -1,9 +1,8 @@
-use Rattle.std.proofs.Common.{rules, ◌≡◌, ◌+◌, List, [], ◌∷◌, ◌++◌, length, get_or, ℤ, pos, to_z, of_z, w64, sym, ap, ◌∙◌, arith}
+use Rattle.std.proofs.Common.{rules, ◌≡◌, [], ◌∷◌, ◌++◌, get_or, ℤ, pos, to_z, of_z, w64, sym, ap, ◌∙◌}
 use Rattle.std.specs.Prelude.{if◌then◌else◌}
 use Rattle.std.specs.Str.{bytes_eq}
 use Rattle.std.proofs.Math.ListN.{length-set}
 use Rattle.std.proofs.lemmas.Int.{to_z-of_z}
-use Rattle.commit_log.specs.declared.journal.Block.{Block}
 use Rattle.commit_log.specs.Rules.{end_of}
 use Rattle.commit_log.proofs.Blocks.{end_more, mapped_on}
 use Rattle.commit_log.proofs.ends.note.Goals as goal
