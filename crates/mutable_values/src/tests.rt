@@ -87,6 +87,15 @@ fn sequence_goes_on_in_blocks(rt: HostRuntime) -> Result<(), Fail> {
 }
 
 #[test]
+fn opening_goes_on_behind_the_last_block(rt: HostRuntime) -> Result<(), Fail> {
+    let alloc = rt.alloc();
+    let mut source = source_of(alloc, 17, 16, true)?;
+    assert_eq!(rt; block_of(alloc, &mut source)?, 32);
+    assert_eq!(rt; value_of(alloc, &mut source, &mut Kept::none(alloc))?, 17);
+    Ok(())
+}
+
+#[test]
 fn granted_values_come_first(rt: HostRuntime) -> Result<(), Fail> {
     let alloc = rt.alloc();
     for (keep, seq, values) in [
