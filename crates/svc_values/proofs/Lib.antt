@@ -1,3 +1,8 @@
-pub mod Endings
-pub mod SettingsOrder
-pub mod ValueOrder
+mod Derived
+mod Endings
+mod Local
+pub mod Offered
+mod RowOrder
+mod SettingsOrder
+mod ValueOrder
+mod Writes

@@ -55,3 +55,9 @@ impl TryCopy for Answer {
         }
     }
 }
+
+impl TryCopy for StatementFault {
+    fn copy(&self, _alloc: Global) -> Result<StatementFault, NoMemory> {
+        Ok(*self)
+    }
+}

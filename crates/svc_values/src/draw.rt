@@ -1,7 +1,10 @@
 //! Draws: the values that a call takes from outside its tables.
+ghost use Rattle.std.specs.Prelude.{◌≡◌};
+ghost use Rattle.svc_values.specs.Draws.{is_of_kind as is_of_kind_def, is_there as is_there_def};
 
 use crate::list::Listed;
 use crate::memory::{NoMemory, TryCopy};
+use crate::schema::{Names, has_name};
 use crate::text::Name;
 use std::alloc::Global;
 
@@ -45,5 +48,30 @@ impl TryCopy for Draw {
             Draw::Clock { tick } => Ok(Draw::Clock { tick: *tick }),
             Draw::Id { id } => Ok(Draw::Id { id: *id }),
         }
+    }
+}
+
+/// Whether a draw is of the kind that is asked for, and a sequence's of the name.
+pub fn is_of_kind(asked: &DrawKind, draw: &Draw) -> bool
+    ensures { result ≡ is_of_kind_def asked.now draw.now }
+{
+    match asked {
+        DrawKind::Seq(asked) => match draw {
+            Draw::Seq { name, .. } => *name == *asked,
+            _ => false,
+        },
+        DrawKind::Clock => matches!(draw, Draw::Clock { .. }),
+        DrawKind::Id => matches!(draw, Draw::Id { .. }),
+    }
+}
+
+/// Whether what is asked for is there: a sequence where its name is one of these, and the clock and
+/// new identifiers always. Linear in the names.
+pub fn is_there(names: &Names, asked: &DrawKind) -> bool
+    ensures { result ≡ is_there_def names.now asked.now }
+{
+    match asked {
+        DrawKind::Seq(name) => has_name(names.as_slice(), name),
+        DrawKind::Clock | DrawKind::Id => true,
     }
 }

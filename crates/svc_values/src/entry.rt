@@ -1,6 +1,6 @@
 //! What the journal keeps of a transaction that committed.
 ghost use Rattle.std.specs.Prelude.{◌≡◌, ◌↔◌, IsTrue};
-ghost use Rattle.svc_values.specs.Identifiers.{IsLtxid, is_ltxid};
+ghost use Rattle.svc_values.specs.Identifiers.{IsLtxid, is_ltxid, session_of};
 
 use crate::answer::Answers;
 use crate::call::Call;
@@ -20,6 +20,13 @@ pub struct Ltxid {
     pub incarnation: u64,
     pub session: u64,
     pub number: u64,
+}
+
+/// A session: the opening of the store, and the session's number in it, from 1.
+#[derive(Clone, Copy, Debug, PartialEq, Eq)]
+pub struct SessionId {
+    pub incarnation: u64,
+    pub session: u64,
 }
 
 /// A call with its answers and the values that it drew.
@@ -63,6 +70,22 @@ impl Ltxid {
     {
         let limit = 1 << 63;
         self.incarnation <= limit && self.session <= limit && self.number <= limit
+    }
+
+    /// The session whose identifier it is.
+    pub fn session_of(&self) -> SessionId
+        ensures { result ≡ session_of self.now }
+    {
+        SessionId {
+            incarnation: self.incarnation,
+            session: self.session,
+        }
+    }
+}
+
+impl TryCopy for SessionId {
+    fn copy(&self, _alloc: Global) -> Result<SessionId, NoMemory> {
+        Ok(*self)
     }
 }
 

@@ -27,15 +27,18 @@ pub enum Up {
     Close,
 }
 
-/// Who is ahead of an identifier whose outcome can't be told: the server where it is of an older
-/// transaction, the client where the server has not come so far.
+/// Why the outcome of an identifier can't be told: the server is ahead where it is of an older
+/// transaction, the client where the server has not come so far, and it is forgotten where its
+/// incarnation is below the horizon of what is kept.
 #[derive(Clone, Copy, Debug, PartialEq, Eq)]
 pub enum Ahead {
     Server,
     Client,
+    Forgotten,
 }
 
-/// A frame to the client. The cause of a `Refused` is 1 for bytes that are no frame and 2 for a
+/// A frame to the client. The `next` of an `OutcomeRefused` is the session's next number, and the
+/// horizon where the identifier is forgotten. The cause of a `Refused` is 1 for bytes that are no frame and 2 for a
 /// frame out of order.
 #[derive(PartialEq, Eq, Drop)]
 pub enum Down {
@@ -107,5 +110,11 @@ impl TryCopy for Down {
             Down::Blocked => Ok(Down::Blocked),
             Down::Refused { cause } => Ok(Down::Refused { cause: *cause }),
         }
+    }
+}
+
+impl TryCopy for Ahead {
+    fn copy(&self, _alloc: Global) -> Result<Ahead, NoMemory> {
+        Ok(*self)
     }
 }

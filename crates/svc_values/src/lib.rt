@@ -1,4 +1,5 @@
-//! The values of the service: names, texts, rows, statements, calls, answers, entries and frames.
+//! The values of the service: names, texts, rows, statements, calls, answers, entries, frames, and
+//! plain tables.
 #![tactic(auto)]
 
 mod answer;
@@ -8,26 +9,29 @@ mod draw;
 mod ending;
 mod entry;
 mod frame;
+pub mod laws;
 mod list;
 mod memory;
 mod schema;
 mod settings;
 mod statement;
-#[cfg(test)]
-mod tests;
+mod tables;
 mod text;
 mod value;
 
 pub use answer::{Answer, Answers, Rows, StatementFault};
 pub use call::{Call, CallFault};
-pub use draw::{Draw, DrawKind, Draws};
+pub use draw::{Draw, DrawKind, Draws, is_of_kind, is_there};
 pub use ending::{ends_committed, ends_conflict, ends_transaction};
-pub use entry::{Entry, Ltxid, Piece, Pieces, Write, Writes};
+pub use entry::{Entry, Ltxid, Piece, Pieces, SessionId, Write, Writes};
 pub use frame::{Ahead, Down, Up};
 pub use list::{Limited, ListFault, Listed, copies};
 pub use memory::{NoMemory, TryCopy};
-pub use schema::{Column, Columns, Names, Schema, SchemaFault, Schemas, Shape, values_fit};
+pub use schema::{
+    Column, Columns, Names, Schema, SchemaFault, Schemas, Shape, has_name, schema_of, values_fit,
+};
 pub use settings::Settings;
-pub use statement::{Change, Operand, Operands, Statement, Statements, Test};
+pub use statement::{Change, Operand, Operands, Statement, Statements, Test, value_meets};
+pub use tables::{Place, PlainRow, PlainTables};
 pub use text::{Name, NameFault, Octets, Text, TextFault};
 pub use value::{Kind, Row, Value};

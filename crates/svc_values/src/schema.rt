@@ -1,7 +1,8 @@
 //! Tables as they are declared.
-ghost use Rattle.std.specs.Prelude.{◌≡◌, [], IfOk, IsErrOf, ◌↔◌, true, false};
-ghost use Rattle.svc_values.specs.Kinds.{row_fits, has_column as has_column_lem, have_distinct_names};
-ghost use Rattle.svc_values.specs.Schemas.{IsDeclared};
+ghost use Rattle.std.specs.Prelude.{◌≡◌, [], IfOk, IsErrOf, ◌↔◌, true, false, option_copied};
+ghost use Rattle.svc_values.specs.Kinds.{row_fits, has_column as has_column_def, have_distinct_names};
+ghost use Rattle.svc_values.specs.Names.{is_name_of};
+ghost use Rattle.svc_values.specs.Schemas.{IsDeclared, schema_of as schema_of_def};
 
 use crate::list::Limited;
 use crate::memory::{NoMemory, TryCopy};
@@ -52,7 +53,7 @@ pub enum SchemaFault {
 
 /// Whether a column has this name.
 fn has_column(columns: &[Column], name: &Name) -> bool
-    ensures { result ≡ has_column_lem columns.now name.now }
+    ensures { result ≡ has_column_def columns.now name.now }
 {
     columns.iter().any(|column| column.name == *name)
 }
@@ -78,6 +79,20 @@ pub fn values_fit(columns: &[Column], values: &[Value]) -> bool
             [value, values @ ..] => { column.kind == value.kind() && values_fit(columns, values) }
         },
     }
+}
+
+/// Whether it is one of these names. Linear in the names.
+pub fn has_name(names: &[Name], name: &Name) -> bool
+    ensures { result ≡ is_name_of names.now name.now }
+{
+    names.iter().any(|one| *one == *name)
+}
+
+/// The declaration of a table. Linear in the tables, which are at most 32.
+pub fn schema_of<'a>(schemas: &'a [Schema], table: &Name) -> Option<&'a Schema>
+    ensures { option_copied result ≡ schema_of_def schemas.now table.now }
+{
+    schemas.iter().find(|schema| schema.name == *table)
 }
 
 impl Schema {

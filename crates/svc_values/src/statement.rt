@@ -1,4 +1,6 @@
 //! Statements and their operands.
+ghost use Rattle.std.specs.Prelude.{◌≡◌, option_copied};
+ghost use Rattle.svc_values.specs.Tests.{meets as meets_def, value_meets as value_meets_def};
 
 use crate::draw::DrawKind;
 use crate::list::Limited;
@@ -6,6 +8,7 @@ use crate::memory::{NoMemory, TryCopy};
 use crate::text::Name;
 use crate::value::Value;
 use std::alloc::Global;
+use std::cmp::Ordering;
 
 /// A literal, a setting of the session, or a draw.
 #[derive(PartialEq, Eq, Drop)]
@@ -75,6 +78,28 @@ pub enum Statement {
 /// The statements of one call: at most eight.
 pub type Statements = Limited<Statement, 8>;
 
+/// Whether a comparison with this outcome meets the test.
+fn meets(test: Test, order: Ordering) -> bool
+    ensures { result ≡ meets_def test order }
+{
+    match test {
+        Test::Eq => order == Ordering::Equal,
+        Test::Lt => order == Ordering::Less,
+        Test::Ge => order != Ordering::Less,
+    }
+}
+
+/// Whether the value that stands in a column, if any, meets the test against the given one. Linear in
+/// the shorter value.
+pub fn value_meets(test: Test, value: &Value, there: Option<&Value>) -> bool
+    ensures { result ≡ value_meets_def test value.now (option_copied there.entry) }
+{
+    match there {
+        None => false,
+        Some(there) => meets(test, there.cmp(value)),
+    }
+}
+
 impl TryCopy for Operand {
     fn copy(&self, alloc: Global) -> Result<Operand, NoMemory> {
         match self {
@@ -142,5 +167,11 @@ impl TryCopy for Statement {
                 operand: operand.copy(alloc)?,
             }),
         }
+    }
+}
+
+impl TryCopy for Test {
+    fn copy(&self, _alloc: Global) -> Result<Test, NoMemory> {
+        Ok(*self)
     }
 }

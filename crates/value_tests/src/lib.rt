@@ -1,0 +1,11 @@
+//! Tests of values: what no clause says.
+#![tactic(auto)]
+
+#[cfg(test)]
+mod calls;
+#[cfg(test)]
+mod lists;
+#[cfg(test)]
+mod makers;
+#[cfg(test)]
+mod texts;
