@@ -1,5 +1,5 @@
 -- Frames to the client: a payload is a tag and the fields, and a frame is the number of its bytes and the payload.
-use Rattle.std.specs.Prelude.{◌≡◌, ℕ, suc, ◌==◌, ◌||◌, IsTrue, List, [], ◌∷◌, ◌++◌, length, Result, Ok, Err, if◌then◌else◌}
+use Rattle.std.specs.Prelude.{ℕ, suc, ◌==◌, ◌||◌, IsTrue, List, [], ◌∷◌, ◌++◌, length, Result, Ok, Err, if◌then◌else◌}
 use Rattle.svc_values.specs.Identifiers.{IsLtxid}
 use Rattle.svc_values.specs.declared.frame.Ahead.{Ahead}
 use Rattle.svc_values.specs.declared.frame.Ahead.TheVariants as ahead
@@ -17,6 +17,7 @@ use Rattle.canon_bytes.specs.declared.fault.Fault.TheVariants.{Short, BadTag}
 abbrev pub spell_ahead : Ahead → List ℕ
 spell_ahead ahead.Server = 1 ∷ []
 spell_ahead ahead.Client = 2 ∷ []
+spell_ahead ahead.Forgotten = 3 ∷ []
 
 abbrev pub spell_down : Down → List ℕ
 spell_down (down.Hello ltxid) = 17 ∷ spell_ltxid ltxid
@@ -42,7 +43,8 @@ ahead_at [] = Err Short
 ahead_at (tag ∷ rest) =
     if tag == 1 then Ok (ahead.Server, rest)
     else (if tag == 2 then Ok (ahead.Client, rest)
-    else Err (BadTag (suc (length rest))))
+    else (if tag == 3 then Ok (ahead.Forgotten, rest)
+    else Err (BadTag (suc (length rest)))))
 
 unfoldable pub cause_at : List ℕ → Result (ℕ × List ℕ) Fault
 cause_at [] = Err Short

@@ -1,7 +1,6 @@
 -- What was written is read again, whatever follows: calls, identifiers, pieces, writes and entries.
 use Rattle.std.proofs.Common.{◌≡◌, ℕ, ◌^◌, ◌<◌, ◌≤◌, true, List, ◌++◌, Result, Ok, refl, arith, append_assoc}
 use Rattle.std.specs.Prelude.{Option, Some, None, nat_le}
-use Rattle.svc_values.specs.declared.value.Value.{Value}
 use Rattle.svc_values.specs.declared.call.Call.{Call}
 use Rattle.svc_values.specs.declared.call.Call.TheVariants as call
 use Rattle.svc_values.specs.declared.entry.Ltxid.{Ltxid}

@@ -28,6 +28,7 @@ ahead_again : (who : Ahead) (rest : List ℕ) → ahead_at (spell_ahead who ++ r
 unfolding ahead_at
 ahead_again ahead.Server rest = refl
 ahead_again ahead.Client rest = refl
+ahead_again ahead.Forgotten rest = refl
 
 pub down_again : (frame : Down) (rest : List ℕ) → FitsDown frame → down_at (spell_down frame ++ rest) ≡ Ok (frame, rest)
 unfolding down_at cause_at reply_at outcome_is_at outcome_refused_at

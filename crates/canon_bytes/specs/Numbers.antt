@@ -1,5 +1,5 @@
 -- Numbers and flags: the spelling of each, what has one, and its reading.
-use Rattle.std.specs.Prelude.{◌≡◌, ℕ, ℤ, zero, suc, ◌<◌, ◌^◌, Bool, true, false, List, [], ◌∷◌, length, take, drop, Result, Ok, Err, FitsSigned, nat_lt, if◌then◌else◌}
+use Rattle.std.specs.Prelude.{ℕ, ℤ, zero, suc, ◌<◌, ◌^◌, Bool, true, false, List, [], ◌∷◌, length, take, drop, Result, Ok, Err, FitsSigned, nat_lt, if◌then◌else◌}
 use Rattle.std.specs.Int.{Width, w64, byte_len, to_be_bytes, from_be_bytes, cast_unsigned, cast_signed}
 use Rattle.canon_bytes.specs.Reading.{◌>>=◌}
 use Rattle.canon_bytes.specs.declared.fault.Fault.{Fault}

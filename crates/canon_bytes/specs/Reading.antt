@@ -1,5 +1,5 @@
 -- Reading from left to right up to the first fault. A fault counts the bytes from the byte at fault to the end.
-use Rattle.std.specs.Prelude.{◌≡◌, List, ℕ, Result, Ok, Err}
+use Rattle.std.specs.Prelude.{◌≡◌, Result, Ok, Err}
 use Rattle.canon_bytes.specs.declared.fault.Fault.{Fault}
 use Rattle.canon_bytes.specs.declared.fault.ReadFault.{ReadFault}
 use Rattle.canon_bytes.specs.declared.fault.ReadFault.TheVariants as read_fault

@@ -9,7 +9,7 @@ use crate::fault::{Fault, ReadFault};
 use std::alloc::Global;
 use svc_values::{Ahead, Answers, Down, Draws, Ltxid, NoMemory};
 
-/// Who is ahead.
+/// Why an outcome is refused.
 #[tactic(auto, unfolding(crate::specs::DownBytes::ahead_at))]
 fn take_ahead(bytes: &[u8]) -> Result<(Ahead, &[u8]), ReadFault>
     ensures exact { IsReading (λ x. (x.0, x.1.now)) result (ahead_at bytes.now) }
@@ -19,6 +19,7 @@ fn take_ahead(bytes: &[u8]) -> Result<(Ahead, &[u8]), ReadFault>
         [] => Err(ReadFault::Fault(Fault::Short)),
         [1, rest @ ..] => Ok((Ahead::Server, rest)),
         [2, rest @ ..] => Ok((Ahead::Client, rest)),
+        [3, rest @ ..] => Ok((Ahead::Forgotten, rest)),
         _ => Err(ReadFault::Fault(Fault::BadTag(bytes.len()))),
     }
 }
@@ -145,6 +146,7 @@ impl PutMade for Down {
                 out.push(match ahead {
                     Ahead::Server => 1,
                     Ahead::Client => 2,
+                    Ahead::Forgotten => 3,
                 })?;
                 next.put(out)
             }

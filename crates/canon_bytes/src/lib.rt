@@ -43,6 +43,3 @@ pub use writers::{
     put_piece, put_row, put_rows, put_settings, put_statement, put_statements, put_test, put_text,
     put_u64, put_value, put_write,
 };
-
-#[cfg(test)]
-mod tests;

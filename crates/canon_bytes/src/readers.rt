@@ -1,5 +1,6 @@
 //! The public readers.
 ghost use Rattle.std.specs.Prelude.{◌≡◌, ◌++◌, List, ℕ, ℤ, Ok, length, IfOk, Bool};
+ghost use Rattle.svc_values.specs.SettingsList.{NamedValues};
 ghost use Rattle.svc_values.specs.declared.answer.Answer.{Answer};
 ghost use Rattle.svc_values.specs.declared.call.Call.{Call};
 ghost use Rattle.svc_values.specs.declared.statement.Change.{Change};
@@ -259,7 +260,7 @@ pub fn take_call(alloc: Global, bytes: &[u8]) -> Result<(Call, usize), CanonFaul
 pub fn take_settings(alloc: Global, bytes: &[u8]) -> Result<(Settings, usize), CanonFault>
     ensures exact { GivesFirst settings_at bytes.now result }
     ensures found { IfOk result (λ x. Spells spell_settings FitsSettings bytes.now x.0 x.1) }
-    ensures only { (x : List (List ℕ × Value)) (rest : List ℕ) → FitsSettings x → bytes.now ≡ spell_settings x ++ rest → IsUnlessMemory result (Ok (x, length (spell_settings x))) }
+    ensures only { (x : NamedValues) (rest : List ℕ) → FitsSettings x → bytes.now ≡ spell_settings x ++ rest → IsUnlessMemory result (Ok (x, length (spell_settings x))) }
 {
     take_first(alloc, bytes)
 }

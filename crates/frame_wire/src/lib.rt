@@ -12,8 +12,5 @@ mod law;
 pub use encode::{encode_down, encode_up};
 pub use feed::FrameFault;
 pub use feeds::{DownFeed, UpFeed};
-pub use law::any_cut;
+pub use law::{any_cut, cut_leaves_whole_frames};
 pub use svc_values::{Ahead, Down, Up};
-
-#[cfg(test)]
-mod tests;

@@ -4,5 +4,6 @@ pub mod Failures
 pub mod Keys
 pub mod Known
 pub mod NoFloats
+pub mod Offered
 pub mod Utf8
 pub mod WrittenItems

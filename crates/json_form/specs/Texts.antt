@@ -37,15 +37,15 @@ octets_or_fault (Err e) = Err (here BadImage)
 abbrev pub octets_of : Data → Result (List ℕ) Fault
 octets_of d = text_of d >>= λ text. octets_or_fault (decode_of text)
 
--- bytes that are UTF-8
-abbrev pub utf8_of : List ℕ → Result (List ℕ) Fault
-utf8_of bytes = if is_utf8 bytes then Ok bytes else Err (here NotJson)
-
 -- a reading as JSON, if there is one
 abbrev pub json_or_fault : Option Data → Result Data Fault
 json_or_fault None = Err (here NotJson)
 json_or_fault (Some d) = Ok d
 
+-- the JSON value that bytes spell, which have to be UTF-8
+abbrev pub json_of : List ℕ → Result Data Fault
+json_of bytes = if is_utf8 bytes then json_or_fault (read bytes) else Err (here NotJson)
+
 -- the JSON value that at most so many bytes spell
 abbrev pub json_at : ℕ → List ℕ → Result Data Fault
-json_at limit bytes = if nat_lt limit (length bytes) then Err (here TooLong) else (utf8_of bytes >>= λ text. json_or_fault (read text))
+json_at limit bytes = if nat_lt limit (length bytes) then Err (here TooLong) else json_of bytes

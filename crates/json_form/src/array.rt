@@ -4,7 +4,7 @@ ghost use Rattle.serde_json.specs.View.{view, items_view};
 ghost use Rattle.json_form.specs.Faults.{Fault, GivesBy, within};
 ghost use Rattle.json_form.specs.Values.{items_of};
 ghost use Rattle.json_form.specs.Objects.{optional};
-ghost use Rattle.json_form.specs.Arrays.{each_of, counted_of, array_of, fixed as fixed_lem, item_of};
+ghost use Rattle.json_form.specs.Arrays.{each_of, counted_of, array_of, fixed as fixed_def, item_of};
 
 use crate::fault::{DocCode, DocFault};
 use crate::reader::Reader;
@@ -125,7 +125,7 @@ pub fn array_or_none<T: Drop, R: Reader<T>>(
 
 /// The value is an array of exactly `count` items.
 pub fn fixed(alloc: Global, value: &Value, count: usize) -> Result<(), DocFault>
-    ensures { GivesBy (λ _. tt) result (fixed_lem count (view value.now)) }
+    ensures { GivesBy (λ _. tt) result (fixed_def count (view value.now)) }
 {
     if items_from(alloc, value)?.len() != count {
         return Err(DocFault::here(alloc, DocCode::WrongKind));

@@ -2,26 +2,17 @@
 ghost use Rattle.std.specs.Prelude.{◌≡◌};
 ghost use Rattle.serde_json.specs.View.{view};
 ghost use Rattle.json_form.specs.Faults.{GivesBy};
-ghost use Rattle.json_form.specs.Texts.{utf8_of, json_or_fault, json_at};
-ghost use Rattle.serde_json.specs.Read.{read};
+ghost use Rattle.json_form.specs.Texts.{json_of, json_at};
 
 use crate::fault::{DocCode, DocFault};
 use serde_json::Value;
 use std::alloc::Global;
 
-fn utf8_from(alloc: Global, bytes: &[u8]) -> Result<&str, DocFault>
-    ensures { GivesBy (λ s. s.now) result (utf8_of bytes.now) }
+/// The JSON value that bytes spell. Bytes that are not UTF-8 spell none.
+fn value_from(alloc: Global, bytes: &[u8]) -> Result<Value, DocFault>
+    ensures { GivesBy view result (json_of bytes.now) }
 {
-    match simdutf8::compat::from_utf8(bytes) {
-        Ok(text) => Ok(text),
-        Err(_) => Err(DocFault::here(alloc, DocCode::NotJson)),
-    }
-}
-
-fn value_from(alloc: Global, text: &str) -> Result<Value, DocFault>
-    ensures { GivesBy view result (json_or_fault (read text.now)) }
-{
-    match Value::from_str(alloc, text) {
+    match Value::from_slice(alloc, bytes) {
         Ok(value) => Ok(value),
         Err(e) => if e.is_memory() {
             Err(DocFault::NoMemory)
@@ -40,6 +31,5 @@ pub fn json_from(alloc: Global, bytes: &[u8], limit: usize) -> Result<Value, Doc
     if bytes.len() > limit {
         return Err(DocFault::here(alloc, DocCode::TooLong));
     }
-    let text = utf8_from(alloc, bytes)?;
-    value_from(alloc, text)
+    value_from(alloc, bytes)
 }

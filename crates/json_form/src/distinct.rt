@@ -1,7 +1,7 @@
 //! Arrays whose items have different keys.
 ghost use Rattle.std.specs.Prelude.{◌≡◌, map, ◌≤◌, Result, List, length, IfOk, IfErr, OnOk, OnErr, [], ◌||◌, false};
 ghost use Rattle.serde_json.specs.View.{view, items_view};
-ghost use Rattle.json_form.specs.Faults.{Fault, Gives, GivesBy, within, within_item as within_item_lem};
+ghost use Rattle.json_form.specs.Faults.{Fault, Gives, GivesBy, within, within_item as within_item_def};
 ghost use Rattle.json_form.specs.Objects.{optional};
 ghost use Rattle.json_form.specs.Arrays.{distinct, array_of, is_key};
 
@@ -28,7 +28,7 @@ impl<K: Ord + Drop> Model for Taken<K> {
 }
 
 impl<K: Ord + Drop> Taken<K> {
-    ghost use Rattle.json_form.specs.Arrays.{fresh as fresh_lem};
+    ghost use Rattle.json_form.specs.Arrays.{fresh as fresh_def};
 
     fn new(alloc: Global) -> Taken<K>
         ensures { result ≡ [] }
@@ -47,7 +47,7 @@ impl<K: Ord + Drop> Taken<K> {
 
     /// No item before has this key. The cost is logarithmic in the number of items before.
     pub fn fresh(&self, alloc: Global, key: &K) -> Result<(), DocFault>
-        ensures { GivesBy (λ _. tt) result (fresh_lem (is_key K.eq self.now) key.now) }
+        ensures { GivesBy (λ _. tt) result (fresh_def (is_key K.eq self.now) key.now) }
     {
         if self.keys.contains(key) {
             return Err(DocFault::here(alloc, DocCode::Duplicate));
@@ -89,7 +89,7 @@ fn next_distinct<T, R: KeyedReader<T>>(
     taken: &Taken<R::Key>,
 ) -> Result<T, DocFault>
     requires { (k : R.Key) → is_key R.Key.eq taken.now k ≡ is_key R.Key.eq (map R.KeyedReader.key_of found.now) k }
-    ensures { Gives result (within_item_lem (length found.now)
+    ensures { Gives result (within_item_def (length found.now)
         (R.KeyedReader.reads reader.now (is_key R.Key.eq (map R.KeyedReader.key_of found.now)) (view value.now))) }
 {
     within_item(alloc, found.len(), reader.read(alloc, taken, value))

@@ -10,8 +10,6 @@ mod object;
 mod pointer;
 mod reader;
 mod step;
-#[cfg(test)]
-mod tests;
 mod word;
 mod written;
 

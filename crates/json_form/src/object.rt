@@ -5,7 +5,7 @@ ghost use Rattle.std.specs.Str.{bytes_eq};
 ghost use Rattle.serde_json.specs.View.{view, members_view};
 ghost use Rattle.json_form.specs.Faults.{Gives, GivesBy};
 ghost use Rattle.json_form.specs.Values.{members_of};
-ghost use Rattle.json_form.specs.Objects.{known as known_lem, object_with as object_with_lem, required as required_lem, optional as optional_lem};
+ghost use Rattle.json_form.specs.Objects.{known as known_def, object_with as object_with_def, required as required_def, optional as optional_def};
 
 use crate::fault::{DocCode, DocFault};
 use crate::reader::Reader;
@@ -30,7 +30,7 @@ fn is_among(names: &[&str], name: &str) -> bool
 
 fn known(alloc: Global, members: &Map<String, Value>, names: &[&str]) -> Result<(), DocFault>
     ensures { GivesBy (λ _. tt) result
-        (known_lem (map (λ n. n.now) names.now) (members_view members.now.entries)) }
+        (known_def (map (λ n. n.now) names.now) (members_view members.now.entries)) }
 {
     for (key, _member) in members.iter() {
         let name = key.as_str();
@@ -45,7 +45,7 @@ fn known(alloc: Global, members: &Map<String, Value>, names: &[&str]) -> Result<
 /// members times the number of names.
 pub fn object_with(alloc: Global, value: &Value, names: &[&str]) -> Result<(), DocFault>
     ensures { GivesBy (λ _. tt) result
-        (object_with_lem (map (λ n. n.now) names.now) (view value.now)) }
+        (object_with_def (map (λ n. n.now) names.now) (view value.now)) }
 {
     let members = members_from(alloc, value)?;
     known(alloc, members, names)
@@ -53,7 +53,7 @@ pub fn object_with(alloc: Global, value: &Value, names: &[&str]) -> Result<(), D
 
 /// A member that has to be there. An array or a text has no member.
 pub fn required<'v>(alloc: Global, value: &'v Value, name: &str) -> Result<&'v Value, DocFault>
-    ensures { GivesBy (λ v. view v.now) result (required_lem name.now (view value.now)) }
+    ensures { GivesBy (λ v. view v.now) result (required_def name.now (view value.now)) }
 {
     match value.get(name) {
         Some(member) => Ok(member),
@@ -70,7 +70,7 @@ pub fn optional<T: Drop, R: Reader<T>>(
     otherwise: T,
 ) -> Result<T, DocFault>
     ensures { Gives result
-        (optional_lem name.now otherwise (R.Reader.reads reader.now) (view value.now)) }
+        (optional_def name.now otherwise (R.Reader.reads reader.now) (view value.now)) }
 {
     match value.get(name) {
         Some(member) => within(alloc, name, reader.read(alloc, member)),

@@ -1,6 +1,6 @@
 //! Readings of members and items, seen from the object or the array.
 ghost use Rattle.std.specs.Prelude.{Result};
-ghost use Rattle.json_form.specs.Faults.{Fault, Gives, GivesBy, within as within_lem, within_item as within_item_lem};
+ghost use Rattle.json_form.specs.Faults.{Fault, Gives, GivesBy, within as within_def, within_item as within_item_def};
 
 use crate::fault::DocFault;
 use std::alloc::Global;
@@ -8,7 +8,7 @@ use std::alloc::Global;
 /// The reading of a member, seen from the object: a fault's place gets the member's name first. It
 /// costs nothing where there is no fault.
 pub fn within<T>(alloc: Global, name: &str, read: Result<T, DocFault>) -> Result<T, DocFault>
-    ensures { (r : Result T Fault) → Gives read r → Gives result (within_lem name.now r) }
+    ensures { (r : Result T Fault) → Gives read r → Gives result (within_def name.now r) }
 {
     match read {
         Ok(value) => Ok(value),
@@ -18,7 +18,7 @@ pub fn within<T>(alloc: Global, name: &str, read: Result<T, DocFault>) -> Result
 
 /// The reading of the item at a position, seen from the array.
 pub fn within_item<T>(alloc: Global, at: usize, read: Result<T, DocFault>) -> Result<T, DocFault>
-    ensures { (r : Result T Fault) → Gives read r → Gives result (within_item_lem at r) }
+    ensures { (r : Result T Fault) → Gives read r → Gives result (within_item_def at r) }
 {
     match read {
         Ok(value) => Ok(value),

@@ -3,7 +3,7 @@ ghost use Rattle.std.specs.Prelude.{◌≡◌, map};
 ghost use Rattle.serde_json.specs.View.{view};
 ghost use Rattle.json_form.specs.Faults.{Gives, GivesBy};
 ghost use Rattle.json_form.specs.Values.{text_of};
-ghost use Rattle.json_form.specs.Texts.{chosen as chosen_lem, word_of, head_of};
+ghost use Rattle.json_form.specs.Texts.{chosen as chosen_def, word_of, head_of};
 
 use crate::array::items_from;
 use crate::fault::{DocCode, DocFault};
@@ -22,7 +22,7 @@ pub fn text_from(alloc: Global, value: &Value) -> Result<&str, DocFault>
 
 /// What a fixed word stands for, in a table of words. The cost is the number of words.
 pub fn chosen<T: Copy>(alloc: Global, word: &str, table: &[(&str, T)]) -> Result<T, DocFault>
-    ensures { Gives result (chosen_lem (map (λ pair. (pair.0.now, pair.1)) table.now) word.now) }
+    ensures { Gives result (chosen_def (map (λ pair. (pair.0.now, pair.1)) table.now) word.now) }
 {
     for (name, meaning) in table {
         if *name == word {

@@ -28,18 +28,18 @@ pub trait Writer<T> {
 impl Written {
     ghost use Rattle.hex.specs.Hex.{encode_lower};
     ghost use Rattle.serde_json.specs.Written.{compact_text};
-    ghost use Rattle.json_form.specs.Writing.{text as text_lem, whole as whole_lem, integer as integer_lem, flag as flag_lem, null as null_lem, list, list_by};
+    ghost use Rattle.json_form.specs.Writing.{text as text_def, whole as whole_def, integer as integer_def, flag as flag_def, null as null_def, list, list_by};
 
     /// The value `null`.
     pub fn null() -> Written
-        ensures { view result.value ≡ null_lem }
+        ensures { view result.value ≡ null_def }
     {
         Written { value: Value::Null }
     }
 
     /// A bool.
     pub fn flag(flag: bool) -> Written
-        ensures { view result.value ≡ flag_lem flag }
+        ensures { view result.value ≡ flag_def flag }
     {
         Written {
             value: Value::Bool(flag),
@@ -48,7 +48,7 @@ impl Written {
 
     /// A whole number without a sign.
     pub fn whole(number: u64) -> Written
-        ensures { view result.value ≡ whole_lem number }
+        ensures { view result.value ≡ whole_def number }
     {
         Written {
             value: Value::from(number),
@@ -57,7 +57,7 @@ impl Written {
 
     /// A whole number with a sign.
     pub fn integer(number: i64) -> Written
-        ensures { view result.value ≡ integer_lem number }
+        ensures { view result.value ≡ integer_def number }
     {
         Written {
             value: Value::from(number),
@@ -66,7 +66,7 @@ impl Written {
 
     /// A text. Its bytes are copied.
     pub fn text(alloc: Global, text: &str) -> Result<Written, AllocError>
-        ensures { IfOk result (λ w. view w.value ≡ text_lem text.now) }
+        ensures { IfOk result (λ w. view w.value ≡ text_def text.now) }
     {
         let value = Value::try_from_str(alloc, text)?;
         Ok(Written { value })
@@ -74,7 +74,7 @@ impl Written {
 
     /// Octets as a text of two hexadecimal digits each, in lower case.
     pub fn octets(alloc: Global, octets: &[u8]) -> Result<Written, AllocError>
-        ensures { IfOk result (λ w. view w.value ≡ text_lem (encode_lower octets.now)) }
+        ensures { IfOk result (λ w. view w.value ≡ text_def (encode_lower octets.now)) }
     {
         let text = hex::encode(alloc, octets)?;
         Ok(Written {

@@ -1,5 +1,5 @@
 use Rattle.std.proofs.Common.{[], sym, ◌∙◌}
-use Rattle.result_digest.proofs.tests.made_of_one.Goals as goal
+use Rattle.bytes_tests.proofs.digests.made_of_one.Goals as goal
 
 -- one answer was taken in, and it was begun for one
 pub finish-requires : goal.finish-requires

@@ -1,4 +1,4 @@
-use crate::{Digesting, digest_of};
+use result_digest::{Digesting, digest_of};
 use sha2::Digest;
 use std::alloc::Global;
 use std::test::Fail;

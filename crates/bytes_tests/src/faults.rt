@@ -1,6 +1,9 @@
 //! Faults by kind and place, told by hand from the format.
-use crate::*;
-use std::test::*;
+
+use canon_bytes::{
+    CanonFault, take_answer, take_answers, take_call, take_ltxid, take_name, take_row,
+    take_settings, take_text,
+};
 
 #[test]
 fn answers(rt: HostRuntime) {

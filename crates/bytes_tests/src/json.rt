@@ -1,0 +1,136 @@
+//! Values of RFC 8259, and places of faults by RFC 6901.
+
+use json_form::{
+    DocCode, DocFault, Flag, Integer, ObjectWriter, Reader, Whole, Written, array_at, fixed,
+    head_from, item, json_from, object_with, octets_from, optional, required,
+};
+use serde_json::Value;
+
+/// The number of the code and the place of a fault.
+fn told<T>(read: &Result<T, DocFault>) -> (u8, &str) {
+    match read {
+        Ok(_) => (0, "read"),
+        Err(DocFault::NoMemory) => (0, "no memory"),
+        Err(DocFault::At { code, path }) => (code.number(), path.as_str()),
+    }
+}
+
+#[test]
+fn bytes_are_json_or_not(rt: HostRuntime) {
+    let alloc = rt.alloc();
+    let cases: [(&[u8], u8); 6] = [
+        (b"\"\\ud800\"", 2),
+        (b"1e400", 2),
+        (&[34, 255, 34], 2),
+        (b"1", 0),
+        (b"", 2),
+        (&[32; 257], 1),
+    ];
+    for (bytes, number) in cases {
+        assert_eq!(rt; told(&json_from(alloc, bytes, 256)).0, number);
+    }
+    let twice = json_from(alloc, b"{\"clients\":1,\"\\u0063lients\":2}", 256).expect(&rt, "JSON");
+    assert_eq!(rt; twice.get("clients").and_then(Value::as_u64), Some(2));
+}
+
+#[test]
+fn arrays_nest_127_deep(rt: HostRuntime) {
+    let alloc = rt.alloc();
+    for (depth, number) in [(127, 0), (128, 2)] {
+        let mut bytes = Vec::new(alloc);
+        for n in 0..2 * depth {
+            bytes
+                .push(if n < depth { b'[' } else { b']' })
+                .expect(&rt, "memory");
+        }
+        assert_eq!(rt; told(&json_from(alloc, &bytes, 256)).0, number);
+    }
+}
+
+#[test]
+fn whole_numbers_are_told_apart(rt: HostRuntime) {
+    let alloc = rt.alloc();
+    let few = Whole { low: 2, high: 3 };
+    let cases: [(&[u8], u8, u8); 10] = [
+        (b"1.0", 3, 3),
+        (b"1e3", 3, 3),
+        (b"-0", 3, 3),
+        (b"18446744073709551616", 3, 3),
+        (b"18446744073709551615", 6, 6),
+        (b"-9223372036854775808", 6, 0),
+        (b"1", 6, 0),
+        (b"2", 0, 0),
+        (b"3", 0, 0),
+        (b"4", 6, 0),
+    ];
+    for (bytes, as_few, as_integer) in cases {
+        let value = json_from(alloc, bytes, 256).expect(&rt, "JSON");
+        assert_eq!(rt; told(&few.read(alloc, &value)).0, as_few);
+        assert_eq!(rt; told(&Integer.read(alloc, &value)).0, as_integer);
+    }
+}
+
+#[test]
+fn pointers_escape_names(rt: HostRuntime) {
+    for (name, place) in [
+        ("", "/"),
+        ("a/b", "/a~1b"),
+        ("c%d", "/c%d"),
+        (" ", "/ "),
+        ("m~n", "/m~0n"),
+        ("~1", "/~01"),
+    ] {
+        let read: Result<(), DocFault> = Err(DocFault::at_member(
+            rt.alloc(),
+            name,
+            DocCode::Missing,
+        ));
+        assert_eq!(rt; told(&read), (4, place));
+    }
+}
+
+#[test]
+fn members_are_asked_for(rt: HostRuntime) {
+    let alloc = rt.alloc();
+    let value = json_from(alloc, b"{\"m~n\":true,\"a/b\":[5,6,70]}", 256).expect(&rt, "JSON");
+    assert_eq!(rt; told(&object_with(alloc, &value, &["m~n"])), (5, "/a~1b"));
+    assert_eq!(rt; told(&required(alloc, &value, "c")), (4, "/c"));
+    assert!(rt; optional(alloc, &value, "m~n", &Flag, false).expect(&rt, "a flag"));
+    let list = required(alloc, &value, "a/b").expect(&rt, "a list");
+    assert_eq!(rt; told(&fixed(alloc, list, 2)), (3, ""));
+    let few = Whole { low: 0, high: 9 };
+    assert_eq!(rt;
+        told(&array_at(alloc, "a/b", list, 0, 9, &few)),
+        (6, "/a~1b/2")
+    );
+}
+
+#[test]
+fn words_and_octets(rt: HostRuntime) {
+    let alloc = rt.alloc();
+    let value = json_from(alloc, b"[\"int\",\"0aFF\"]", 256).expect(&rt, "JSON");
+    assert_eq!(rt; head_from(alloc, &value).expect(&rt, "a word"), "int");
+    let first = item(alloc, &value, 0).expect(&rt, "an item");
+    assert_eq!(rt; told(&octets_from(alloc, first)), (9, ""));
+    let second = item(alloc, &value, 1).expect(&rt, "an item");
+    let octets = octets_from(alloc, second).expect(&rt, "octets");
+    assert_eq!(rt; octets.as_slice(), [10, 255].as_slice());
+}
+
+#[test]
+fn members_are_written_in_order(rt: HostRuntime) {
+    let alloc = rt.alloc();
+    let numbers = [
+        Written::integer(-943),
+        Written::null(),
+        Written::flag(false),
+    ];
+    let numbers = Written::array(alloc, numbers).expect(&rt, "memory");
+    let octets = Written::octets(alloc, &[0, 171]).expect(&rt, "memory");
+    let mut image = ObjectWriter::new(alloc);
+    image.put(alloc, "Id", octets).expect(&rt, "memory");
+    image.put(alloc, "IDs", numbers).expect(&rt, "memory");
+    let bytes = image.written().to_bytes(alloc).expect(&rt, "memory");
+    let expected = b"{\"IDs\":[-943,null,false],\"Id\":\"00ab\"}";
+    assert_eq!(rt; bytes.as_slice(), expected.as_slice());
+}
