@@ -8,13 +8,15 @@ use Rattle.svc_values.specs.declared.draw.Draw.{Draw}
 use Rattle.svc_values.specs.declared.draw.Draw.TheVariants as draw
 use Rattle.svc_values.specs.declared.draw.DrawKind.{DrawKind}
 use Rattle.svc_values.specs.declared.draw.DrawKind.TheVariants as kind
+use Rattle.svc_values.specs.Draws.{is_there}
 use Rattle.mutable_values.specs.declared.source.SeqState.{SeqState}
-use Rattle.mutable_values.specs.Sources.{Opening, Told, changed, draw_from, draw_of, first_kept, identifier, is_there, new_draw, new_value, next_value, reserved_to, sequence_of}
-use Rattle.mutable_values.specs.History.{Did, Drew, Reserved, after_one, all_anew, anew, counted, drawn_anew, identified, identifiers_of, identifier_of, opening_after, value_of, values_of, CountsIdentifiers, CountsValues}
+use Rattle.mutable_values.specs.Sources.{Opening, DrawnFrom, changed, draw_from, draw_of, first_kept, identifier, names_of, new_draw, new_value, next_value, reserved_to, sequence_of}
+use Rattle.mutable_values.specs.History.{Did, Drew, Reserved, after_one, all_anew, anew, counted, drawn_anew, identified, identifiers_of, identifier_of, opening_after, value_of, values_of}
+use Rattle.mutable_values.specs.Laws.{CountsIdentifiers, CountsValues}
 use Rattle.mutable_values.proofs.Places.{change_of, same_bytes}
 
 -- what one call gave anew, and the opening after it
-data Did1 (opening : Opening) (gave : List Draw) (after : Opening) : Type 0 where
+pub data Did1 (opening : Opening) (gave : List Draw) (after : Opening) : Type 0 where
   quiet : gave ≡ [] → after ≡ opening → Did1 opening gave after
   set_aside : (name : List ℕ) (upto : ℤ) → gave ≡ [] → after ≡ reserved_to opening name upto → Did1 opening gave after
   ticked : (now : ℕ) → gave ≡ draw.Clock now ∷ [] → after ≡ opening → Did1 opening gave after
@@ -22,7 +24,7 @@ data Did1 (opening : Opening) (gave : List Draw) (after : Opening) : Type 0 wher
   valued : (sequence : SeqState) → sequence_of opening.sequences sequence.name ≡ Some sequence → gave ≡ draw.Seq sequence.name sequence.next ∷ []
       → after ≡ record opening { sequences = changed next_value sequence.name opening.sequences } → Did1 opening gave after
 
-abbrev Calls : Opening → Option Draw → Option Told → Type 0
+abbrev Calls : Opening → Option Draw → Option DrawnFrom → Type 0
 Calls opening kept told = Did1 opening (anew kept told) (opening_after opening told)
 
 found_by : (one : SeqState) (rest : List SeqState) (name : List ℕ) (sequence : SeqState) (t : Bool) → bytes_eq one.name name ≡ t → (sequence_of rest name ≡ Some sequence → sequence.name ≡ name) → sequence_of (one ∷ rest) name ≡ Some sequence → sequence.name ≡ name
@@ -63,13 +65,13 @@ there_call : (opening : Opening) (kept : List Draw) (asked : DrawKind) (now : �
 there_call opening kept asked now true = from_call opening kept asked now (first_kept asked kept)
 there_call opening kept asked now false = no_call opening (first_kept asked kept)
 
-one_call : (opening : Opening) (did : Did) → Did1 opening (drawn_anew opening did) (after_one opening did)
+pub one_call : (opening : Opening) (did : Did) → Did1 opening (drawn_anew opening did) (after_one opening did)
 unfolding draw_of
-one_call opening (Drew kept asked now) = there_call opening kept asked now (is_there opening.sequences asked)
+one_call opening (Drew kept asked now) = there_call opening kept asked now (is_there (names_of opening.sequences) asked)
 one_call opening (Reserved name upto) = set_aside name upto refl refl
 
 -- where the next value of a sequence stands
-abbrev next_of : List SeqState → List ℕ → Option ℤ
+abbrev pub next_of : List SeqState → List ℕ → Option ℤ
 next_of sequences name = option_map (λ sequence. sequence.next) (sequence_of sequences name)
 
 changed_by : (change : SeqState → SeqState) (other name : List ℕ) (one : SeqState) (rest : List SeqState) (same : (change_of change other one).name ≡ one.name) (t : Bool) → bytes_eq one.name name ≡ t
@@ -87,22 +89,22 @@ name_by change keeps sequence true = keeps sequence
 name_by change keeps sequence false = refl
 
 -- the sequence of a name after a change is the one before, changed
-sequence_changed : (change : SeqState → SeqState) → ((sequence : SeqState) → (change sequence).name ≡ sequence.name) → (other name : List ℕ) (sequences : List SeqState)
+pub sequence_changed : (change : SeqState → SeqState) → ((sequence : SeqState) → (change sequence).name ≡ sequence.name) → (other name : List ℕ) (sequences : List SeqState)
     → sequence_of (changed change other sequences) name ≡ option_map (change_of change other) (sequence_of sequences name)
 sequence_changed change keeps other name [] = refl
 sequence_changed change keeps other name (one ∷ rest) =
     changed_by change other name one rest (name_by change keeps one (bytes_eq one.name other)) (bytes_eq one.name name) refl (sequence_changed change keeps other name rest)
 
-values_of-append : (name : List ℕ) (a b : List Draw) → values_of name (a ++ b) ≡ values_of name a ++ values_of name b
+pub values_of-append : (name : List ℕ) (a b : List Draw) → values_of name (a ++ b) ≡ values_of name a ++ values_of name b
 values_of-append name [] b = refl
 values_of-append name (one ∷ a) b = ap (λ l. value_of name one ++ l) (values_of-append name a b) ∙ sym (append_assoc (value_of name one) (values_of name a) (values_of name b))
 
-identifiers_of-append : (a b : List Draw) → identifiers_of (a ++ b) ≡ identifiers_of a ++ identifiers_of b
+pub identifiers_of-append : (a b : List Draw) → identifiers_of (a ++ b) ≡ identifiers_of a ++ identifiers_of b
 identifiers_of-append [] b = refl
 identifiers_of-append (one ∷ a) b = ap (λ l. identifier_of one ++ l) (identifiers_of-append a b) ∙ sym (append_assoc (identifier_of one) (identifiers_of a) (identifiers_of b))
 
 -- the next value of a sequence stays, or is given and goes on by one
-data Counts (name : List ℕ) (next : ℤ) (gave : List Draw) (after : List SeqState) : Type 0 where
+pub data Counts (name : List ℕ) (next : ℤ) (gave : List Draw) (after : List SeqState) : Type 0 where
   stays : values_of name gave ≡ [] → next_of after name ≡ Some next → Counts name next gave after
   goes_on : values_of name gave ≡ next ∷ [] → next_of after name ≡ Some (next +ℤ pos 1) → Counts name next gave after
 
@@ -145,11 +147,11 @@ value_step name next sequences sequence own found stands at false e =
         let back : bytes_eq sequence.name name ≡ true = (bytes_eq-Decides sequence.name name).1 (sym ((bytes_eq-Decides own.name sequence.name).0 h) ∙ found_name sequences name own stands) in
         absurd (let clash : ◌≡◌ {A = Bool} true false = sym back ∙ e in cc)
 
-next_some : (sequences : List SeqState) (name : List ℕ) (next : ℤ) (own : Option SeqState) → sequence_of sequences name ≡ own → next_of sequences name ≡ Some next → (s : SeqState) × (sequence_of sequences name ≡ Some s) × (s.next ≡ next)
+pub next_some : (sequences : List SeqState) (name : List ℕ) (next : ℤ) (own : Option SeqState) → sequence_of sequences name ≡ own → next_of sequences name ≡ Some next → (s : SeqState) × (sequence_of sequences name ≡ Some s) × (s.next ≡ next)
 next_some sequences name next None e at = absurd (let none : ◌≡◌ {A = Option ℤ} None (Some next) = ap (option_map (λ s. s.next)) (sym e) ∙ at in cc)
 next_some sequences name next (Some own) e at = let same : Some own.next ≡ Some next = ap (option_map (λ s. s.next)) (sym e) ∙ at in (own, e, (cc))
 
-counts_by : (opening : Opening) (name : List ℕ) (next : ℤ) → next_of opening.sequences name ≡ Some next → (gave : List Draw) (after : Opening) → Did1 opening gave after → Counts name next gave after.sequences
+pub counts_by : (opening : Opening) (name : List ℕ) (next : ℤ) → next_of opening.sequences name ≡ Some next → (gave : List Draw) (after : Opening) → Did1 opening gave after → Counts name next gave after.sequences
 counts_by opening name next at gave after (quiet gives is) = stays (ap (values_of name) gives) (ap (λ (o : Opening). next_of o.sequences name) is ∙ at)
 counts_by opening name next at gave after (set_aside other upto gives is) =
     stays (ap (values_of name) gives) (ap (λ (o : Opening). next_of o.sequences name) is ∙ next_through other name upto opening.sequences (sequence_of opening.sequences name) refl ∙ at)
@@ -189,11 +191,11 @@ pub counts_values : CountsValues
 counts_values opening history sequence found = counts_from history opening sequence.name sequence.next (ap (option_map (λ s. s.next)) found)
 
 -- the identifiers stay, or one is given and the counter goes on by one
-data Names (opening : Opening) (gave : List Draw) (after : Opening) : Type 0 where
+pub data Names (opening : Opening) (gave : List Draw) (after : Opening) : Type 0 where
   no_name : identifiers_of gave ≡ [] → after.incarnation ≡ opening.incarnation → after.identifiers ≡ opening.identifiers → Names opening gave after
   one_name : identifiers_of gave ≡ identifier opening.incarnation (opening.identifiers + 1) ∷ [] → after.incarnation ≡ opening.incarnation → after.identifiers ≡ opening.identifiers + 1 → Names opening gave after
 
-names_by : (opening : Opening) (gave : List Draw) (after : Opening) → Did1 opening gave after → Names opening gave after
+pub names_by : (opening : Opening) (gave : List Draw) (after : Opening) → Did1 opening gave after → Names opening gave after
 names_by opening gave after (quiet gives is) = no_name (ap identifiers_of gives) (ap (λ (o : Opening). o.incarnation) is) (ap (λ (o : Opening). o.identifiers) is)
 names_by opening gave after (set_aside other upto gives is) = no_name (ap identifiers_of gives) (ap (λ (o : Opening). o.incarnation) is) (ap (λ (o : Opening). o.identifiers) is)
 names_by opening gave after (ticked now gives is) = no_name (ap identifiers_of gives) (ap (λ (o : Opening). o.incarnation) is) (ap (λ (o : Opening). o.identifiers) is)

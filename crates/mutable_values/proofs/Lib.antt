@@ -1,4 +1,10 @@
-pub mod Draws
-pub mod Firsts
-pub mod Histories
-pub mod Places
+mod Cases
+mod Draws
+mod Firsts
+mod Given
+mod Histories
+mod Identifiers
+pub mod Offered
+mod Places
+mod Rising
+mod Staying

@@ -1,20 +1,19 @@
--- What a source gave anew over any list of calls: nothing twice.
-use Rattle.std.specs.Prelude.{ℕ, ℤ, pos, ◌≡◌, ◌+ℤ◌, ◌+◌, suc, zero, List, [], ◌∷◌, ◌++◌, length, Option, Some, None, if◌then◌else◌}
+-- What is done to a source, and what it gives anew.
+use Rattle.std.specs.Prelude.{ℕ, ℤ, pos, ◌+ℤ◌, ◌+◌, suc, zero, IsTrue, List, [], ◌∷◌, ◌++◌, fold, Option, Some, None, if◌then◌else◌}
 use Rattle.std.specs.Str.{bytes_eq}
 use Rattle.svc_values.specs.declared.draw.Draw.{Draw}
 use Rattle.svc_values.specs.declared.draw.Draw.TheVariants as draw
 use Rattle.svc_values.specs.declared.draw.DrawKind.{DrawKind}
-use Rattle.mutable_values.specs.declared.source.SeqState.{SeqState}
 use Rattle.mutable_values.specs.declared.source.Drawn.{Drawn}
 use Rattle.mutable_values.specs.declared.source.Drawn.TheVariants as drawn
-use Rattle.mutable_values.specs.Sources.{Opening, Told, first_kept, draw_of, sequence_of, reserved_to, identifier}
+use Rattle.mutable_values.specs.Sources.{Opening, DrawnFrom, first_kept, draw_of, may_reserve, reserved_to, identifier}
 
 -- what is done to a source
 pub data Did : Type 0 where
   Drew : (kept : List Draw) → (asked : DrawKind) → (now : ℕ) → Did
   Reserved : (name : List ℕ) → (upto : ℤ) → Did
 
-abbrev pub opening_after : Opening → Option Told → Opening
+abbrev pub opening_after : Opening → Option DrawnFrom → Opening
 opening_after opening None = opening
 opening_after opening (Some told) = told.opening
 
@@ -22,12 +21,25 @@ abbrev pub after_one : Opening → Did → Opening
 after_one opening (Drew kept asked now) = opening_after opening (draw_of opening kept asked now)
 after_one opening (Reserved name upto) = reserved_to opening name upto
 
+-- the opening after a list of calls
+abbrev pub after_all : Opening → List Did → Opening
+after_all opening history = fold after_one opening history
+
+-- a source is told of a reservation only where it may be made
+abbrev pub MayDo : Opening → Did → Type 0
+MayDo opening (Drew kept asked now) = Unit {0}
+MayDo opening (Reserved name upto) = IsTrue (may_reserve opening name upto)
+
+abbrev pub MayDoAll : Opening → List Did → Type 0
+MayDoAll opening [] = Unit {0}
+MayDoAll opening (did ∷ more) = MayDo opening did × MayDoAll (after_one opening did) more
+
 abbrev pub value_in : Drawn → List Draw
 value_in (drawn.Value one) = one ∷ []
 value_in (drawn.Reserve name upto) = []
 
 -- the value that was told, where no kept one was given
-abbrev pub anew : Option Draw → Option Told → List Draw
+abbrev pub anew : Option Draw → Option DrawnFrom → List Draw
 anew (Some one) told = []
 anew None None = []
 anew None (Some told) = value_in told.answer
@@ -64,20 +76,7 @@ abbrev pub counted : ℤ → ℕ → List ℤ
 counted first zero = []
 counted first (suc more) = first ∷ counted (first +ℤ pos 1) more
 
--- so many identifiers of an incarnation, one after the other, behind those that were drawn
+-- so many new identifiers of an incarnation, one after the other, behind those that were drawn
 abbrev pub identified : ℕ → ℕ → ℕ → List (List ℕ)
 identified incarnation before zero = []
 identified incarnation before (suc more) = identifier incarnation (before + 1) ∷ identified incarnation (before + 1) more
-
--- The new values of a sequence are the numbers from where it stood, one after the other: none is given twice, and none is left out.
-abbrev pub CountsValues : Type 0
-CountsValues =
-    (opening : Opening) (history : List Did) (sequence : SeqState)
-    → sequence_of opening.sequences sequence.name ≡ Some sequence
-    → let values = values_of sequence.name (all_anew opening history) in values ≡ counted sequence.next (length values)
-
--- The new identifiers are counted from 1 in their incarnation, each once.
-abbrev pub CountsIdentifiers : Type 0
-CountsIdentifiers =
-    (opening : Opening) (history : List Did)
-    → let identifiers = identifiers_of (all_anew opening history) in identifiers ≡ identified opening.incarnation opening.identifiers (length identifiers)

@@ -1,3 +1,5 @@
+pub mod Sources
 pub mod Granting
 pub mod History
-pub mod Sources
+pub mod Epochs
+pub mod Laws

@@ -5,9 +5,9 @@ ghost use Rattle.std.specs.Str.{bytes_eq};
 ghost use Rattle.svc_values.specs.declared.draw.Draw.{Draw as One};
 ghost use Rattle.svc_values.specs.declared.draw.Draw.TheVariants as draw;
 ghost use Rattle.svc_values.specs.declared.draw.DrawKind.TheVariants as kind;
-ghost use Rattle.mutable_values.specs.Granting.{granted_of, is_granted as is_granted_lem, is_kept_sequence as is_kept_sequence_lem};
-ghost use Rattle.mutable_values.specs.Sources.{HasRoom, are_sequences, block_size, draw_of, has_room, identifier as identifier_lem, is_there as is_there_lem, may_reserve, new_draw, next_value, reserved_to, sequence_of};
-ghost use Rattle.mutable_values.specs.History.{CountsValues, CountsIdentifiers};
+ghost use Rattle.svc_values.specs.Draws.{is_there as is_there_def};
+ghost use Rattle.mutable_values.specs.Granting.{granted_of, is_granted as is_granted_def, is_kept_sequence as is_kept_sequence_def};
+ghost use Rattle.mutable_values.specs.Sources.{HasRoom, are_sequences, draw_of, has_room, identifier as identifier_def, may_reserve, names_of, new_draw, next_value, reservation_size, reserved_to, sequence_of};
 
 use crate::grants::Grants;
 use crate::kept::Kept;
@@ -16,18 +16,19 @@ use std::marker::Model;
 use svc_values::{Draw, DrawKind, Draws, Name, NoMemory, TryCopy};
 use thiserror::Error;
 
-// How far a block reaches.
-const BLOCK_SIZE: i64 = 16;
+/// How many values a reservation has.
+const RESERVATION_SIZE: i64 = 16;
 
-// The last end of a block behind which another block lies within the numbers that a sequence may give.
-const LAST_END: i64 = i64::MAX - BLOCK_SIZE;
+/// The last end of a reservation behind which another one lies within the numbers that a sequence
+/// may give.
+const LAST_END: i64 = i64::MAX - RESERVATION_SIZE;
 
-// How many identifiers an opening has room for.
+/// How many new identifiers an opening has room for.
 const MOST_IDENTIFIERS: u64 = 1 << 60;
 
-/// A sequence of an opening: the value that it gives next, the end of the block that is set aside for it (one less than
-/// `next` before the first block), and whether its values are kept for replays.
-#[derive(PartialEq, Eq, Drop)]
+/// A sequence of an opening: the value that it gives next, the end of its last reservation (one
+/// less than `next` before the first one), and whether its values are kept for replays.
+#[derive(Drop)]
 pub struct SeqState {
     pub name: Name,
     pub next: i64,
@@ -36,29 +37,29 @@ pub struct SeqState {
 }
 
 impl SeqState {
-    // Whether the block leaves room for the next one.
+    /// Whether the reservation leaves room for the next one.
     fn has_room(&self) -> bool
         ensures { result ≡ has_room self.now }
     {
         self.upto <= LAST_END
     }
 
-    // Whether the next value lies in the block.
+    /// Whether the next value lies in the reservation.
     fn has_value(&self) -> bool
         ensures { result ≡ int_le self.now.next self.now.upto }
     {
         self.next <= self.upto
     }
 
-    // Where the next block ends.
+    /// Where the next reservation ends.
     fn next_end(&self) -> i64
         requires { IsTrue (has_room self.now) }
-        ensures { result ≡ self.now.upto +ℤ block_size }
+        ensures { result ≡ self.now.upto +ℤ reservation_size }
     {
-        self.upto + BLOCK_SIZE
+        self.upto + RESERVATION_SIZE
     }
 
-    // The next value. From then on the one after it is the next.
+    /// The next value. From then on the one after it is the next.
     fn give(&mut self) -> i64
         requires room { IsTrue (has_room self.old) }
         requires value { IsTrue (int_le self.old.next self.old.upto) }
@@ -71,15 +72,16 @@ impl SeqState {
     }
 }
 
-/// What a draw came to: a value, or that the sequence's next block is to be stored first, with where it ends.
-#[derive(PartialEq, Eq, Drop)]
+/// What a draw came to: a value, or that the sequence's next reservation is to be stored first,
+/// with where it ends.
+#[derive(Drop)]
 pub enum Drawn {
     Value(Draw),
     Reserve { name: Name, upto: i64 },
 }
 
 /// Why nothing was drawn.
-#[derive(Clone, Copy, Debug, PartialEq, Eq, Error)]
+#[derive(Clone, Copy, Debug, Error)]
 pub enum DrawFault {
     #[error("out of memory")]
     NoMemory,
@@ -119,8 +121,8 @@ impl Source {
         }
     }
 
-    /// Those of the draws that the service keeps, in order. Linear in the draws, and for each of a sequence in the
-    /// number of sequences, of which there are at most 32.
+    /// Those of the draws that the service keeps, in order. Linear in the draws, and for each of a
+    /// sequence in the number of sequences, of which there are at most 32.
     pub fn granted(&self, alloc: Global, grants: &Grants, draws: &Draws) -> Result<Kept, NoMemory>
         ensures { IfOk result (λ kept. kept ≡ granted_of grants.now self.now.sequences draws.now) }
     {
@@ -133,9 +135,9 @@ impl Source {
         Ok(Kept::from_vec(granted))
     }
 
-    // Whether the service keeps the draw.
+    /// Whether the service keeps the draw.
     fn is_granted(&self, grants: &Grants, draw: &Draw) -> bool
-        ensures { result ≡ is_granted_lem grants.now self.now.sequences draw.now }
+        ensures { result ≡ is_granted_def grants.now self.now.sequences draw.now }
     {
         match draw {
             Draw::Seq { name, .. } => grants.seq && self.is_kept_sequence(name),
@@ -144,24 +146,25 @@ impl Source {
         }
     }
 
-    // Whether a sequence of this name is there, and its values are kept.
+    /// Whether a sequence of this name is there, and its values are kept.
     fn is_kept_sequence(&self, name: &Name) -> bool
-        ensures { result ≡ is_kept_sequence_lem self.now.sequences name.now }
+        ensures { result ≡ is_kept_sequence_def self.now.sequences name.now }
     {
         self.sequences
             .iter()
             .any(|sequence| sequence.name == *name && sequence.keep)
     }
 
-    /// Whether there is room for a draw: the end of each block leaves room for the next block, as `draw` needs. Linear in
-    /// the sequences; it takes no memory.
+    /// Whether there is room for a draw, as `draw` needs: the end of each reservation leaves room
+    /// for the next one, and fewer than 2^60 new identifiers were drawn. Linear in the sequences;
+    /// it takes no memory.
     pub fn has_room(&self) -> bool
         ensures { IsTrue result ↔ HasRoom self.now }
     {
         self.identifiers < MOST_IDENTIFIERS && self.have_room()
     }
 
-    // Whether each block leaves room for the next one.
+    /// Whether each reservation leaves room for the next one.
     fn have_room(&self) -> bool
         ensures { result ≡ list_all has_room self.now.sequences }
     {
@@ -170,10 +173,11 @@ impl Source {
 
     /// Draws a value of the kind: the first kept one left of its kind and name, and else a new one.
     ///
-    /// `NoSequence` comes exactly where a sequence is asked for that is not there, before anything else. `Reserve` comes
-    /// exactly where a new value of a sequence lies past its block: once the block is stored and `reserved` was told of
-    /// it, the same draw gives the value. After it and after a fault the source and the kept draws are as they were. The
-    /// cost is linear in the sequences and in the kept draws.
+    /// `NoSequence` comes exactly where a sequence is asked for that is not there, before anything
+    /// else. `Reserve` comes exactly where a new value of a sequence lies past its reservation:
+    /// once the next one is stored and `reserved` was told of it, the same draw gives the value.
+    /// After it and after a fault the source and the kept draws are as they were. The cost is
+    /// linear in the sequences and in the kept draws.
     pub fn draw(
         &mut self,
         alloc: Global,
@@ -199,9 +203,9 @@ impl Source {
         }
     }
 
-    // Whether what is asked for is there: the clock and identifiers always are.
+    /// Whether what is asked for is there: the clock and identifiers always are.
     fn is_there(&self, kind: &DrawKind) -> bool
-        ensures { result ≡ is_there_lem self.now.sequences kind.now }
+        ensures { result ≡ is_there_def (names_of self.now.sequences) kind.now }
     {
         match kind {
             DrawKind::Seq(name) => self.place(name).is_some(),
@@ -209,7 +213,7 @@ impl Source {
         }
     }
 
-    // The place of the sequence of this name.
+    /// The place of the sequence of this name.
     fn place(&self, name: &Name) -> Option<usize>
         ensures { result ≡ position (λ sequence. bytes_eq sequence.name name.now) self.now.sequences }
     {
@@ -218,7 +222,7 @@ impl Source {
             .position(|sequence| sequence.name == *name)
     }
 
-    // A new value of the sequence, where it lies in the block. Past the block another is asked for.
+    /// A new value of the sequence, where it lies in the reservation. Past it another is asked for.
     fn next_value(&mut self, alloc: Global, name: &Name) -> Result<Drawn, DrawFault>
         requires { HasRoom self.old }
         ensures drawn { IfOk result (λ answer. (kept : List One) → new_draw self.old kept (kind.Seq name.now) 0 ≡ Some (record { answer = answer; opening = self.new; kept = kept })) }
@@ -240,10 +244,10 @@ impl Source {
         Ok(Drawn::Value(Draw::Seq { name, value }))
     }
 
-    // A new identifier: the one after the last.
+    /// A new identifier value: the one after the last.
     fn next_identifier(&mut self) -> Draw
         requires { self.old.identifiers < 2 ^ 60 }
-        ensures given { result ≡ draw.Id (identifier_lem self.old.incarnation (self.old.identifiers + 1)) }
+        ensures given { result ≡ draw.Id (identifier_def self.old.incarnation (self.old.identifiers + 1)) }
         ensures counted { self.new ≡ record self.old { identifiers = self.old.identifiers + 1 } }
     {
         self.identifiers += 1;
@@ -252,7 +256,8 @@ impl Source {
         }
     }
 
-    /// Takes a block into use that was stored after `Reserve` had asked for it. It takes no memory.
+    /// Takes a reservation into use that was stored after `Reserve` had asked for it. Linear in the
+    /// sequences; it takes no memory.
     pub fn reserved(&mut self, name: &Name, upto: i64)
         requires { IsTrue (may_reserve self.old name.now upto) }
         ensures { self.new ≡ reserved_to self.old name.now upto }
@@ -263,19 +268,13 @@ impl Source {
     }
 }
 
-// The identifier: the incarnation and the counter, each as eight bytes, most significant first.
+/// An identifier value: the incarnation and the counter, each as eight bytes, most significant
+/// first.
 fn identifier(incarnation: u64, counter: u64) -> [u8; 16]
-    ensures { result ≡ identifier_lem incarnation counter }
+    ensures { result ≡ identifier_def incarnation counter }
 {
     let mut id = [0; 16];
     id[..8].copy_from_slice(&incarnation.to_be_bytes());
     id[8..].copy_from_slice(&counter.to_be_bytes());
     id
 }
-
-/// A law, with nothing to run: over any list of draws and blocks a source gives each new value of a sequence once, one
-/// after the other, and counts its identifiers in the same way.
-pub fn counts_on()
-    ensures values { CountsValues }
-    ensures identifiers { CountsIdentifiers }
-{}

@@ -2,150 +2,128 @@ ghost use Rattle.std.specs.Prelude.{pos, ◌+ℤ◌, IsTrue, int_le};
 
 use super::*;
 use std::alloc::Global;
-use std::test::Fail;
+use std::process::Abort;
 use svc_values::{Draw, DrawKind, Draws, Name};
 
-// A source whose one sequence is `s`.
-fn source_of(alloc: Global, next: i64, upto: i64, keep: bool) -> Result<Source, Fail>
+fn name(rt: &impl Abort, alloc: Global, text: &str) -> Name {
+    Name::new(alloc, text).expect(rt, "a name")
+}
+
+/// A source of incarnation 2 whose one sequence is `s`.
+fn source_of(rt: &impl Abort, alloc: Global, next: i64, upto: i64, keep: bool) -> Source
     requires { IsTrue (int_le next (upto +ℤ pos 1)) }
 {
     let mut sequences = Vec::new(alloc);
-    let name = Name::new(alloc, "s")?;
-    sequences.push(SeqState {
-        name,
-        next,
-        upto,
-        keep,
-    })?;
-    Ok(Source::new(2, sequences))
+    let name = name(rt, alloc, "s");
+    sequences
+        .push(SeqState {
+            name,
+            next,
+            upto,
+            keep,
+        })
+        .expect(rt, "a sequence");
+    Source::new(2, sequences)
 }
 
-fn kind_of(alloc: Global, name: &str) -> Result<DrawKind, Fail> {
-    Ok(DrawKind::Seq(Name::new(alloc, name)?))
-}
-
+/// What a draw at tick 7 comes to, where there is room.
 fn draw(
     alloc: Global,
     source: &mut Source,
     kind: &DrawKind,
     kept: &mut Kept,
-) -> Result<Drawn, Fail> {
+) -> Result<Drawn, DrawFault> {
     if !source.has_room() {
-        return Err(Fail::new("no room"));
+        return Err(DrawFault::NoMemory);
     }
-    Ok(source.draw(alloc, kind, kept, 7)?)
+    source.draw(alloc, kind, kept, 7)
 }
 
-// The next value of `s`.
-fn value_of(alloc: Global, source: &mut Source, kept: &mut Kept) -> Result<i64, Fail> {
-    let kind = kind_of(alloc, "s")?;
-    match draw(alloc, source, &kind, kept)? {
-        Drawn::Value(Draw::Seq { value, .. }) => Ok(value),
-        _ => Err(Fail::new("no value of a sequence")),
+/// Whether a draw gives this value of a sequence.
+fn gives(
+    alloc: Global,
+    source: &mut Source,
+    kind: &DrawKind,
+    kept: &mut Kept,
+    wanted: i64,
+) -> bool {
+    match draw(alloc, source, kind, kept) {
+        Ok(Drawn::Value(Draw::Seq { value, .. })) => value == wanted,
+        _ => false,
     }
 }
 
-// Takes the block into use that `s` asks for, and tells where it ends.
-fn block_of(alloc: Global, source: &mut Source) -> Result<i64, Fail> {
-    let kind = kind_of(alloc, "s")?;
+/// Takes the reservation into use that is asked for, and tells where it ends.
+fn reserve(alloc: Global, source: &mut Source, kind: &DrawKind) -> Option<i64> {
     if !source.has_room() {
-        return Err(Fail::new("no room"));
+        return None;
     }
-    match source.draw(alloc, &kind, &mut Kept::none(alloc), 7)? {
-        Drawn::Reserve { name, upto } => {
+    match source.draw(alloc, kind, &mut Kept::none(alloc), 7) {
+        Ok(Drawn::Reserve { name, upto }) => {
             source.reserved(&name, upto);
-            Ok(upto)
+            Some(upto)
         }
-        Drawn::Value(_) => Err(Fail::new("a value")),
+        _ => None,
     }
 }
 
-fn kept_draws(alloc: Global) -> Result<Draws, Fail> {
+#[test]
+fn a_sequence_goes_on_in_reservations(rt: HostRuntime) {
+    let alloc = rt.alloc();
+    let kind = DrawKind::Seq(name(&rt, alloc, "s"));
+    let mut none = Kept::none(alloc);
+    let mut source = source_of(&rt, alloc, 1, 0, true);
+    assert!(rt; reserve(alloc, &mut source, &kind) == Some(16));
+    for value in 1..17 {
+        assert!(rt; gives(alloc, &mut source, &kind, &mut none, value));
+    }
+    assert!(rt; reserve(alloc, &mut source, &kind) == Some(32));
+    let mut reopened = source_of(&rt, alloc, 17, 16, true);
+    assert!(rt; reserve(alloc, &mut reopened, &kind) == Some(32));
+    assert!(rt; gives(alloc, &mut reopened, &kind, &mut none, 17));
+}
+
+/// The draws s 5 and s 7.
+fn two_draws(rt: &impl Abort, alloc: Global) -> Draws {
     let mut draws = Draws::new(alloc);
     for value in [5, 7] {
-        let name = Name::new(alloc, "s")?;
-        draws.push(Draw::Seq { name, value })?;
+        let name = name(rt, alloc, "s");
+        draws.push(Draw::Seq { name, value }).expect(rt, "a draw");
     }
-    draws.push(Draw::Clock { tick: 3 })?;
-    Ok(draws)
+    draws
 }
 
 #[test]
-fn sequence_goes_on_in_blocks(rt: HostRuntime) -> Result<(), Fail> {
-    let alloc = rt.alloc();
-    let mut source = source_of(alloc, 1, 0, true)?;
-    assert_eq!(rt; block_of(alloc, &mut source)?, 16);
-    for value in 1..17 {
-        assert_eq!(rt;
-            value_of(alloc, &mut source, &mut Kept::none(alloc))?,
-            value
-        );
-    }
-    assert_eq!(rt; block_of(alloc, &mut source)?, 32);
-    assert_eq!(rt; value_of(alloc, &mut source, &mut Kept::none(alloc))?, 17);
-    Ok(())
-}
-
-#[test]
-fn opening_goes_on_behind_the_last_block(rt: HostRuntime) -> Result<(), Fail> {
-    let alloc = rt.alloc();
-    let mut source = source_of(alloc, 17, 16, true)?;
-    assert_eq!(rt; block_of(alloc, &mut source)?, 32);
-    assert_eq!(rt; value_of(alloc, &mut source, &mut Kept::none(alloc))?, 17);
-    Ok(())
-}
-
-#[test]
-fn granted_values_come_first(rt: HostRuntime) -> Result<(), Fail> {
-    let alloc = rt.alloc();
-    for (keep, seq, values) in [
-        (true, true, [5, 7, 9]),
-        (true, false, [9, 10, 11]),
-        (false, true, [9, 10, 11]),
-    ] {
-        let mut source = source_of(alloc, 9, 16, keep)?;
+fn granted_values_come_first(rt: HostRuntime) {
+    let kind = DrawKind::Seq(name(&rt, rt.alloc(), "s"));
+    for (seq, values) in [(true, [5, 7, 9]), (false, [9, 10, 11])] {
+        let mut source = source_of(&rt, rt.alloc(), 9, 16, true);
         let grants = Grants {
             seq,
             clock: true,
             id: true,
         };
-        let mut kept = source.granted(alloc, &grants, &kept_draws(alloc)?)?;
+        let draws = two_draws(&rt, rt.alloc());
+        let mut kept = source
+            .granted(rt.alloc(), &grants, &draws)
+            .expect(&rt, "kept");
         for value in values {
-            assert_eq!(rt; value_of(alloc, &mut source, &mut kept)?, value);
+            assert!(rt; gives(rt.alloc(), &mut source, &kind, &mut kept, value));
         }
     }
-    Ok(())
 }
 
 #[test]
-fn clock_and_identifiers_are_always_there(rt: HostRuntime) -> Result<(), Fail> {
-    let alloc = rt.alloc();
-    let mut source = source_of(alloc, 1, 0, true)?;
-    let grants = Grants {
-        seq: false,
-        clock: true,
-        id: false,
-    };
-    let mut kept = source.granted(alloc, &grants, &kept_draws(alloc)?)?;
-    for tick in [3, 7] {
-        let drawn = draw(alloc, &mut source, &DrawKind::Clock, &mut kept)?;
-        assert!(rt; drawn == Drawn::Value(Draw::Clock { tick }));
-    }
+fn identifiers_are_counted(rt: HostRuntime) {
+    let mut source = source_of(&rt, rt.alloc(), 1, 0, true);
     for last in [1, 2] {
-        let drawn = draw(alloc, &mut source, &DrawKind::Id, &mut kept)?;
-        let id = [0, 0, 0, 0, 0, 0, 0, 2, 0, 0, 0, 0, 0, 0, 0, last];
-        assert!(rt; drawn == Drawn::Value(Draw::Id { id }));
+        let drawn = draw(
+            rt.alloc(),
+            &mut source,
+            &DrawKind::Id,
+            &mut Kept::none(rt.alloc()),
+        );
+        let wanted = [0, 0, 0, 0, 0, 0, 0, 2, 0, 0, 0, 0, 0, 0, 0, last];
+        assert!(rt; matches!(drawn, Ok(Drawn::Value(Draw::Id { id })) if id == wanted));
     }
-    Ok(())
-}
-
-#[test]
-fn only_sequences_that_are_there_are_drawn(rt: HostRuntime) -> Result<(), Fail> {
-    let alloc = rt.alloc();
-    let mut source = source_of(alloc, 1, 0, true)?;
-    let kind = kind_of(alloc, "t")?;
-    assert!(rt; source.has_room());
-    let drawn = source.draw(alloc, &kind, &mut Kept::none(alloc), 7);
-    assert!(rt; matches!(drawn, Err(DrawFault::NoSequence)));
-    Ok(())
 }

@@ -3,9 +3,9 @@ use Rattle.std.proofs.Common.{◌≡◌, ℕ, ◌+◌, ◌<◌, ◌≤◌, Bool,
 use Rattle.std.specs.Prelude.{◌&&◌, ◌↔◌}
 use Rattle.std.proofs.lemmas.List.{drop_more, take_all}
 use Rattle.std.proofs.Math.ListN.{drop_of_length-le}
-use Rattle.stmt_meaning.specs.declared.tables.PlainRow.{PlainRow}
-use Rattle.stmt_meaning.specs.Tables.{comes_before, AreTables}
-use Rattle.stmt_meaning.proofs.Local.{ComesFirst-trans}
+use Rattle.svc_values.specs.declared.tables.PlainRow.{PlainRow}
+use Rattle.svc_values.specs.Tables.{comes_before, AreTables}
+use Rattle.svc_values.proofs.Offered.{ComesFirst-trans}
 use Rattle.stmt_meaning.proofs.PlanFits.{both, and-true}
 
 abbrev pub are_ordered : List PlainRow → Bool

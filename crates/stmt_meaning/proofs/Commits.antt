@@ -1,17 +1,17 @@
 -- A commit behind statements is answered last, where none of them was refused.
-use Rattle.std.proofs.Common.{◌≡◌, ℕ, Bool, true, false, List, [], ◌∷◌, ◌++◌, refl, sym, ap, ◌∙◌, subst, append-nil}
+use Rattle.std.proofs.Common.{◌≡◌, Bool, true, false, List, [], ◌∷◌, ◌++◌, refl, sym, ap, ◌∙◌, subst, append-nil}
 use Rattle.std.specs.Prelude.{Option, Some, None, if◌then◌else◌}
-use Rattle.svc_values.specs.declared.value.Value.{Value}
 use Rattle.svc_values.specs.declared.schema.Shape.{Shape}
 use Rattle.svc_values.specs.declared.draw.Draw.{Draw}
 use Rattle.svc_values.specs.declared.statement.Statement.{Statement}
 use Rattle.svc_values.specs.declared.call.Call.TheVariants as call
 use Rattle.svc_values.specs.declared.answer.Answer.{Answer}
 use Rattle.svc_values.specs.declared.answer.Answer.TheVariants as answer
-use Rattle.stmt_meaning.specs.declared.tables.PlainRow.{PlainRow}
-use Rattle.stmt_meaning.specs.Tables.{with_writes}
+use Rattle.svc_values.specs.declared.tables.PlainRow.{PlainRow}
+use Rattle.svc_values.specs.Tables.{with_writes}
 use Rattle.stmt_meaning.specs.Meaning.{OneDone, AllDone, Meant, mean1, is_refusal, ends_refused, ended_by, after_first, and_on, statements_done, worked, mean, commit_answer}
 use Rattle.stmt_meaning.specs.Laws.{closed_by}
+use Rattle.svc_values.specs.SettingsList.{NamedValues}
 
 -- the answers tell whether a statement was refused
 abbrev Tells : Option AllDone → Type 0
@@ -34,20 +34,20 @@ tells_on : (first : Option OneDone) (next : OneDone → Option AllDone) → ((on
 tells_on None next k = tt
 tells_on (Some one) next k = tells_by one (is_refusal one.answer) refl (next one) (k one)
 
-tells : (shape : Shape) (tables : List PlainRow) (settings : List (List ℕ × Value)) (statements : List Statement) (draws : List Draw) → Tells (statements_done shape tables settings statements draws)
+tells : (shape : Shape) (tables : List PlainRow) (settings : NamedValues) (statements : List Statement) (draws : List Draw) → Tells (statements_done shape tables settings statements draws)
 tells shape tables settings [] draws = refl
 tells shape tables settings (first ∷ rest) draws =
     tells_on (mean1 shape tables settings first draws) (λ one. statements_done shape (with_writes tables one.writes) settings rest one.rest)
     (λ one. tells shape (with_writes tables one.writes) settings rest one.rest)
 
 -- what a call of statements means, by whether one was refused
-abbrev worked_by : List PlainRow → List (List ℕ × Value) → AllDone → Bool → Bool → Option Meant
+abbrev worked_by : List PlainRow → NamedValues → AllDone → Bool → Bool → Option Meant
 worked_by tables settings done commit refused =
     if refused
     then Some (record { answers = done.answers; tables = tables; settings = settings; writes = []; reads = done.reads; rest = done.rest })
     else Some (record { answers = done.answers ++ commit_answer commit; tables = with_writes tables done.writes; settings = settings; writes = done.writes; reads = done.reads; rest = done.rest })
 
-last_by : (tables : List PlainRow) (settings : List (List ℕ × Value)) (done : AllDone) (refused : Bool) → refused ≡ ends_refused done.answers → (meant : Meant)
+last_by : (tables : List PlainRow) (settings : NamedValues) (done : AllDone) (refused : Bool) → refused ≡ ends_refused done.answers → (meant : Meant)
     → worked_by tables settings done false refused ≡ Some meant → (commit : Bool) → worked_by tables settings done commit refused ≡ Some (record meant { answers = closed_by commit meant.answers })
 last_by tables settings done refused is meant e false = e
 last_by tables settings done true is meant e true =
@@ -61,12 +61,12 @@ last_by tables settings done false is meant e true =
     subst (λ (m : Meant). worked_by tables settings done true false ≡ Some (record m { answers = closed_by true m.answers })) same
     (rw plain (ap (λ (answers : List Answer). Some (record bare { answers = answers ++ answer.Committed ∷ [] })) (sym (append-nil done.answers))))
 
-last_worked : (tables : List PlainRow) (settings : List (List ℕ × Value)) (all : Option AllDone) → Tells all → (meant : Meant)
+last_worked : (tables : List PlainRow) (settings : NamedValues) (all : Option AllDone) → Tells all → (meant : Meant)
     → worked tables settings false all ≡ Some meant → (commit : Bool) → worked tables settings commit all ≡ Some (record meant { answers = closed_by commit meant.answers })
 last_worked tables settings None t meant e commit = absurd (let x : ◌≡◌ {A = Option Meant} None (Some meant) = e in cc)
 last_worked tables settings (Some done) t meant e commit = last_by tables settings done done.refused t meant e commit
 
-pub commits_last : (shape : Shape) (tables : List PlainRow) (settings : List (List ℕ × Value)) (statements : List Statement) (draws : List Draw) (meant : Meant)
+pub commits_last : (shape : Shape) (tables : List PlainRow) (settings : NamedValues) (statements : List Statement) (draws : List Draw) (meant : Meant)
     → mean shape tables settings (call.Work statements false) draws ≡ Some meant
     → (commit : Bool) → mean shape tables settings (call.Work statements commit) draws ≡ Some (record meant { answers = closed_by commit meant.answers })
 commits_last shape tables settings statements draws meant e commit = last_worked tables settings (statements_done shape tables settings statements draws) (tells shape tables settings statements draws) meant e commit

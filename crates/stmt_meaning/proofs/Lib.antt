@@ -1,17 +1,21 @@
-pub mod Adjacent
-pub mod Commits
-pub mod InOrder
-pub mod Local
-pub mod MeanLocal
-pub mod PlanFits
-pub mod PutRow
-pub mod ReadValues
-pub mod RowOrder
-pub mod ScanLaws
-pub mod Reruns
-pub mod SerialSteps
-pub mod SerialTests
-pub mod TableScans
-pub mod TablesFit
-pub mod Working
-pub mod Writes
+mod Adjacent
+mod Asking
+mod Commits
+mod Drawn
+mod InOrder
+mod MeanLocal
+pub mod Offered
+mod OneRun
+mod PlanFits
+mod Planned
+mod PutRow
+mod ReadValues
+mod Reruns
+mod Running
+mod ScanLaws
+mod SerialSteps
+mod SerialTests
+mod TableScans
+mod TablesFit
+mod Values
+mod Working

@@ -1,5 +1,5 @@
 -- A call means the same on tables that agree at the places that it reads.
-use Rattle.std.proofs.Common.{◌≡◌, ℕ, Bool, true, false, cond, List, [], ◌∷◌, ◌++◌, map, refl, sym, ap, ◌∙◌, subst}
+use Rattle.std.proofs.Common.{◌≡◌, Bool, true, false, cond, List, [], ◌∷◌, ◌++◌, map, refl, sym, ap, ◌∙◌, subst}
 use Rattle.std.specs.Prelude.{Option, Some, None, Ok, Err, option_map, option_to_list}
 use Rattle.svc_values.specs.declared.value.Value.{Value}
 use Rattle.svc_values.specs.declared.schema.Shape.{Shape}
@@ -10,14 +10,15 @@ use Rattle.svc_values.specs.declared.call.Call.TheVariants as call
 use Rattle.svc_values.specs.declared.answer.Answer.{Answer}
 use Rattle.svc_values.specs.declared.entry.Write.{Write}
 use Rattle.stmt_meaning.specs.declared.plan.Plan.{Plan}
-use Rattle.stmt_meaning.specs.declared.tables.PlainRow.{PlainRow}
-use Rattle.stmt_meaning.specs.declared.tables.Place.{Place}
-use Rattle.stmt_meaning.specs.Tables.{with_writes, AreTables, AgreeAt}
-use Rattle.stmt_meaning.specs.Operands.{Read}
+use Rattle.svc_values.specs.declared.tables.PlainRow.{PlainRow}
+use Rattle.svc_values.specs.declared.tables.Place.{Place}
+use Rattle.svc_values.specs.Tables.{with_writes, AreTables, AgreeAt}
+use Rattle.stmt_meaning.specs.Operands.{Reading}
 use Rattle.stmt_meaning.specs.Plans.{plan_of, place_of}
 use Rattle.stmt_meaning.specs.Effects.{effect}
 use Rattle.stmt_meaning.specs.Meaning.{OneDone, AllDone, Meant, seen_at, done_at, mean1, statements_done, and_on, after_first, ended_by, is_refusal, worked, alone, mean, commit_answer}
-use Rattle.stmt_meaning.proofs.Local.{rows_at-with_writes, AreTables-with_writes}
+use Rattle.svc_values.proofs.Offered.{rows_at-with_writes, AreTables-with_writes}
+use Rattle.svc_values.specs.SettingsList.{NamedValues}
 
 -- ---- places
 
@@ -40,7 +41,7 @@ seen_same : (a b : List PlainRow) (at : Option Place) → AgreeAt a b (option_to
 seen_same a b None all = refl
 seen_same a b (Some at) all = ap (map (λ one. one.row)) all.0
 
-done_same : (a b : List PlainRow) (read : Read Plan) (one : OneDone) → done_at a read ≡ Some one → AgreeAt a b one.reads → done_at b read ≡ Some one
+done_same : (a b : List PlainRow) (read : Reading Plan) (one : OneDone) → done_at a read ≡ Some one → AgreeAt a b one.reads → done_at b read ≡ Some one
 done_same a b None one is all = cc
 done_same a b (Some (Err refusal, left)) one is all = is
 done_same a b (Some (Ok asked, left)) one is all =
@@ -49,21 +50,21 @@ done_same a b (Some (Ok asked, left)) one is all =
     let seen = seen_same a b (place_of asked) (subst (AgreeAt a b) reads all) in
     ap (λ rows. Some (of_rows rows)) (sym seen) ∙ is
 
-pub mean1-same : (shape : Shape) (a b : List PlainRow) (settings : List (List ℕ × Value)) (asked : Statement) (draws : List Draw) (one : OneDone) → mean1 shape a settings asked draws ≡ Some one → AgreeAt a b one.reads → mean1 shape b settings asked draws ≡ Some one
+pub mean1-same : (shape : Shape) (a b : List PlainRow) (settings : NamedValues) (asked : Statement) (draws : List Draw) (one : OneDone) → mean1 shape a settings asked draws ≡ Some one → AgreeAt a b one.reads → mean1 shape b settings asked draws ≡ Some one
 mean1-same shape a b settings asked draws one is all = done_same a b (plan_of shape settings asked draws) one is all
 
-drawn_same : (a b : List PlainRow) (read : Read Plan) → option_map (λ one. one.rest) (done_at a read) ≡ option_map (λ one. one.rest) (done_at b read)
+drawn_same : (a b : List PlainRow) (read : Reading Plan) → option_map (λ one. one.rest) (done_at a read) ≡ option_map (λ one. one.rest) (done_at b read)
 drawn_same a b None = refl
 drawn_same a b (Some (Err refusal, left)) = refl
 drawn_same a b (Some (Ok asked, left)) = refl
 
 -- the draws that a statement takes depend on no row
-pub mean1-draws : (shape : Shape) (a b : List PlainRow) (settings : List (List ℕ × Value)) (asked : Statement) (draws : List Draw) → option_map (λ one. one.rest) (mean1 shape a settings asked draws) ≡ option_map (λ one. one.rest) (mean1 shape b settings asked draws)
+pub mean1-draws : (shape : Shape) (a b : List PlainRow) (settings : NamedValues) (asked : Statement) (draws : List Draw) → option_map (λ one. one.rest) (mean1 shape a settings asked draws) ≡ option_map (λ one. one.rest) (mean1 shape b settings asked draws)
 mean1-draws shape a b settings asked draws = drawn_same a b (plan_of shape settings asked draws)
 
 -- ---- statements
 
-module _ (shape : Shape) (settings : List (List ℕ × Value)) where
+module _ (shape : Shape) (settings : NamedValues) where
   abbrev onward : List PlainRow → List Statement → OneDone → Option AllDone
   onward tables rest one = statements_done shape (with_writes tables one.writes) settings rest one.rest
 
@@ -111,7 +112,7 @@ some_same a b e = cc
 abbrev IsSame : Option Meant → List PlainRow → List PlainRow → List Place → Meant → Type 0
 IsSame there a b reads meant = (meant.reads ≡ reads) × ((there ≡ Some (meant_on b meant)) × (meant.tables ≡ with_writes a meant.writes))
 
-work_same : (a b : List PlainRow) (settings : List (List ℕ × Value)) (commit : Bool) (done : AllDone) (meant : Meant) → worked a settings commit (Some done) ≡ Some meant → (refused : Bool) → done.refused ≡ refused → IsSame (worked b settings commit (Some done)) a b done.reads meant
+work_same : (a b : List PlainRow) (settings : NamedValues) (commit : Bool) (done : AllDone) (meant : Meant) → worked a settings commit (Some done) ≡ Some meant → (refused : Bool) → done.refused ≡ refused → IsSame (worked b settings commit (Some done)) a b done.reads meant
 work_same a b settings commit done meant is true gone =
     let here : Meant = record { answers = done.answers; tables = a; settings = settings; writes = []; reads = done.reads; rest = done.rest } in
     let means : worked a settings commit (Some done) ≡ Some here = rw gone refl in
@@ -123,20 +124,20 @@ work_same a b settings commit done meant is false kept =
     let there : worked b settings commit (Some done) ≡ Some (meant_on b here) = rw kept refl in
     subst (λ m. IsSame (worked b settings commit (Some done)) a b done.reads m) (some_same here meant (sym means ∙ is)) (refl, (there, refl))
 
-all_same : (shape : Shape) (a b : List PlainRow) (settings : List (List ℕ × Value)) (asked : List Statement) (commit : Bool) (draws : List Draw) (meant : Meant) → AreTables a → AreTables b → (all : Option AllDone) → statements_done shape a settings asked draws ≡ all
+all_same : (shape : Shape) (a b : List PlainRow) (settings : NamedValues) (asked : List Statement) (commit : Bool) (draws : List Draw) (meant : Meant) → AreTables a → AreTables b → (all : Option AllDone) → statements_done shape a settings asked draws ≡ all
     → worked a settings commit all ≡ Some meant → AgreeAt a b meant.reads → worked b settings commit (statements_done shape b settings asked draws) ≡ Some (meant_on b meant)
 all_same shape a b settings asked commit draws meant in_a in_b None goes is all = cc
 all_same shape a b settings asked commit draws meant in_a in_b (Some done) goes is all =
     let same = work_same a b settings commit done meant is done.refused refl in
     ap (worked b settings commit) (statements-same shape settings a b asked draws done in_a in_b goes (subst (AgreeAt a b) same.0 all)) ∙ same.1.0
 
-alone_same : (a b : List PlainRow) (settings : List (List ℕ × Value)) (draws : List Draw) (answer : Answer) (meant : Meant) → alone a settings draws answer ≡ Some meant → IsSame (alone b settings draws answer) a b [] meant
+alone_same : (a b : List PlainRow) (settings : NamedValues) (draws : List Draw) (answer : Answer) (meant : Meant) → alone a settings draws answer ≡ Some meant → IsSame (alone b settings draws answer) a b [] meant
 alone_same a b settings draws answer meant is =
     let here : Meant = record { answers = answer ∷ []; tables = a; settings = settings; writes = []; reads = []; rest = draws } in
     subst (λ m. IsSame (alone b settings draws answer) a b [] m) (some_same here meant is) (refl, (refl, refl))
 
 -- a call means the same on tables that agree where it reads
-pub mean-same : (shape : Shape) (a b : List PlainRow) (settings : List (List ℕ × Value)) (asked : Call) (draws : List Draw) (meant : Meant) → AreTables a → AreTables b → mean shape a settings asked draws ≡ Some meant → AgreeAt a b meant.reads
+pub mean-same : (shape : Shape) (a b : List PlainRow) (settings : NamedValues) (asked : Call) (draws : List Draw) (meant : Meant) → AreTables a → AreTables b → mean shape a settings asked draws ≡ Some meant → AgreeAt a b meant.reads
     → mean shape b settings asked draws ≡ Some (meant_on b meant)
 mean-same shape a b settings (call.Work statements commit) draws meant in_a in_b is all = all_same shape a b settings statements commit draws meant in_a in_b (statements_done shape a settings statements draws) refl is all
 mean-same shape a b settings (call.Set name x) draws meant in_a in_b is all = (alone_same a b _ draws _ meant is).1.0
@@ -144,12 +145,12 @@ mean-same shape a b settings (call.Alter line) draws meant in_a in_b is all = (a
 mean-same shape a b settings call.Disable draws meant in_a in_b is all = (alone_same a b _ draws _ meant is).1.0
 mean-same shape a b settings call.Rollback draws meant in_a in_b is all = (alone_same a b _ draws _ meant is).1.0
 
-work_tables : (a : List PlainRow) (settings : List (List ℕ × Value)) (commit : Bool) (all : Option AllDone) (meant : Meant) → worked a settings commit all ≡ Some meant → meant.tables ≡ with_writes a meant.writes
+work_tables : (a : List PlainRow) (settings : NamedValues) (commit : Bool) (all : Option AllDone) (meant : Meant) → worked a settings commit all ≡ Some meant → meant.tables ≡ with_writes a meant.writes
 work_tables a settings commit None meant is = cc
 work_tables a settings commit (Some done) meant is = (work_same a a settings commit done meant is done.refused refl).1.1
 
 -- a call leaves its tables with its writes
-pub mean-tables : (shape : Shape) (tables : List PlainRow) (settings : List (List ℕ × Value)) (asked : Call) (draws : List Draw) (meant : Meant) → mean shape tables settings asked draws ≡ Some meant → meant.tables ≡ with_writes tables meant.writes
+pub mean-tables : (shape : Shape) (tables : List PlainRow) (settings : NamedValues) (asked : Call) (draws : List Draw) (meant : Meant) → mean shape tables settings asked draws ≡ Some meant → meant.tables ≡ with_writes tables meant.writes
 mean-tables shape tables settings (call.Work statements commit) draws meant is = work_tables tables settings commit (statements_done shape tables settings statements draws) meant is
 mean-tables shape tables settings (call.Set name x) draws meant is = (alone_same tables tables _ draws _ meant is).1.1
 mean-tables shape tables settings (call.Alter line) draws meant is = (alone_same tables tables _ draws _ meant is).1.1

@@ -9,13 +9,11 @@ use Rattle.svc_values.specs.declared.value.Value.{Value}
 use Rattle.svc_values.specs.declared.draw.Draw.{Draw}
 use Rattle.svc_values.specs.declared.statement.Operand.{Operand}
 use Rattle.svc_values.specs.declared.answer.StatementFault.{StatementFault}
-use Rattle.stmt_meaning.specs.declared.reading.Stop.{Stop}
-use Rattle.stmt_meaning.specs.declared.reading.Stop.TheVariants as stop
-use Rattle.stmt_meaning.specs.Answers.{IsStoppedAs}
-use Rattle.stmt_meaning.specs.Operands.{Read, ◌>>=◌, value_of, values_of}
+use Rattle.stmt_meaning.specs.Operands.{Reading, ◌>>=◌, value_of, values_of}
+use Rattle.svc_values.specs.SettingsList.{NamedValues}
 
 -- these values before the ones that are read
-abbrev pub after_values : List Value → Read (List Value) → Read (List Value)
+abbrev pub after_values : List Value → Reading (List Value) → Reading (List Value)
 after_values before read = read >>= λ xs left. Some (Ok (before ++ xs), left)
 
 -- the list from the place of an item on
@@ -30,15 +28,15 @@ drop-past {A} (x ∷ xs) i e = past (cases_lt i (length (x ∷ xs)))
     past (inl lt) = let there = slice_get-get_or (x ∷ xs) i x lt in cc
     past (inr ge) = drop_of_length-le (x ∷ xs) {i = i} ge
 
-abbrev pub one_more : List (List ℕ) → List (List ℕ × Value) → List Value → List Operand → Read Value → Read (List Value)
+abbrev pub one_more : List (List ℕ) → NamedValues → List Value → List Operand → Reading Value → Reading (List Value)
 one_more sequences settings before rest one = after_values before (one >>= λ x left. values_of sequences settings rest left >>= λ xs over. Some (Ok (x ∷ xs), over))
 
-append_one : (before : List Value) (x : Value) (read : Read (List Value)) → after_values before (read >>= λ xs over. Some (Ok (x ∷ xs), over)) ≡ after_values (before ++ x ∷ []) read
+append_one : (before : List Value) (x : Value) (read : Reading (List Value)) → after_values before (read >>= λ xs over. Some (Ok (x ∷ xs), over)) ≡ after_values (before ++ x ∷ []) read
 append_one before x None = refl
 append_one before x (Some (Err refusal, left)) = refl
 append_one before x (Some (Ok xs, left)) = ap (λ l. Some (Ok l, left)) (sym (append_assoc before (x ∷ []) xs))
 
-module _ (sequences : List (List ℕ)) (settings : List (List ℕ × Value)) (operands : List Operand) (before : List Value) where
+module _ (sequences : List (List ℕ)) (settings : NamedValues) (operands : List Operand) (before : List Value) where
   -- the values from the next operand on
   first : (here : Operand) → slice_get operands (length before) ≡ Some here → (draws : List Draw) → after_values before (values_of sequences settings (drop (length before) operands) draws)
       ≡ one_more sequences settings before (drop (length before + 1) operands) (value_of sequences settings here draws)
@@ -60,9 +58,3 @@ module _ (sequences : List (List ℕ)) (settings : List (List ℕ × Value)) (op
 
   pub reads_end : slice_get operands (length before) ≡ None → (draws : List Draw) → after_values before (values_of sequences settings (drop (length before) operands) draws) ≡ Some (Ok before, draws)
   reads_end past draws = ap (λ l. after_values before (values_of sequences settings l draws)) (drop-past operands (length before) past) ∙ ap (λ l. Some (Ok l, draws)) (append-nil before)
-
-  pub reads_fail : (here : Operand) → slice_get operands (length before) ≡ Some here → (draws left : List Draw) (total : Read (List Value)) → total ≡ after_values before (values_of sequences settings (drop (length before) operands) draws)
-      → (e : Stop) → IsStoppedAs e (value_of sequences settings here draws) left → IsStoppedAs e total left
-  reads_fail here at draws left total so_far stop.NoMemory told = tt
-  reads_fail here at draws left total so_far stop.DrawsDiffer told = so_far ∙ reads_stop here at draws told
-  reads_fail here at draws left total so_far (stop.Refused refusal) told = so_far ∙ reads_refused here at draws left refusal told

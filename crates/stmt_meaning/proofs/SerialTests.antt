@@ -1,60 +1,18 @@
 -- The test of a serial run is exact.
-use Rattle.std.proofs.Common.{◌≡◌, ℕ, Bool, true, false, not, List, [], ◌∷◌, refl, sym, ap, ◌∙◌, subst}
-use Rattle.std.specs.Prelude.{Option, Some, None, ◌&&◌, ◌==◌, if◌then◌else◌}
-use Rattle.std.specs.Bool.{Decides}
-use Rattle.std.specs.Cmp.{signed_Decides, unsigned_Decides}
-use Rattle.std.specs.Cmp.Lexicographic.{pointwise_decides}
-use Rattle.svc_values.specs.declared.value.Value.{Value}
+use Rattle.std.proofs.Common.{◌≡◌, Bool, true, false, not, List, [], ◌∷◌, refl, sym, ap, ◌∙◌, subst}
+use Rattle.std.specs.Prelude.{Option, Some, None, ◌&&◌}
 use Rattle.svc_values.specs.declared.schema.Shape.{Shape}
 use Rattle.svc_values.specs.declared.draw.Draw.{Draw}
-use Rattle.svc_values.specs.declared.answer.Answer.{Answer}
-use Rattle.svc_values.specs.declared.answer.Answer.TheVariants as answer
-use Rattle.svc_values.specs.declared.answer.StatementFault.{StatementFault}
-use Rattle.svc_values.specs.declared.answer.StatementFault.TheVariants as fault
 use Rattle.svc_values.specs.declared.entry.Piece.{Piece}
 use Rattle.svc_values.specs.declared.entry.Entry.{Entry}
 use Rattle.svc_values.specs.Endings.{ends_committed}
-use Rattle.svc_values.specs.SameLaws.{same_value_decides}
-use Rattle.stmt_meaning.specs.declared.tables.PlainRow.{PlainRow}
+use Rattle.svc_values.specs.SameLaws.{same_answers_decide}
+use Rattle.svc_values.specs.declared.tables.PlainRow.{PlainRow}
 use Rattle.stmt_meaning.specs.Meaning.{Meant, mean}
 use Rattle.stmt_meaning.specs.Serial.{Replays, Transaction, Serial}
-use Rattle.stmt_meaning.specs.SerialTest.{fault_code, same_answer, same_answers, is_nil, if_replayed, replayed, if_commits, transaction_after, and_then, serial_after}
-
--- ---- answers
-
-fault_of : ℕ → StatementFault
-fault_of n = if n == 1 then fault.NoTable else if n == 2 then fault.NoColumn else if n == 3 then fault.KindDiffers else if n == 4 then fault.DuplicateKey else if n == 5 then fault.NoSequence else if n == 6 then fault.NoVar else if n == 7 then fault.TooManyRows else if n == 8 then fault.SumRange else fault.KeyColumn
-
-fault_of-code : (a : StatementFault) → fault_of (fault_code a) ≡ a
-unfolding fault_of
-fault_of-code fault.NoTable = refl
-fault_of-code fault.NoColumn = refl
-fault_of-code fault.KindDiffers = refl
-fault_of-code fault.DuplicateKey = refl
-fault_of-code fault.NoSequence = refl
-fault_of-code fault.NoVar = refl
-fault_of-code fault.TooManyRows = refl
-fault_of-code fault.SumRange = refl
-fault_of-code fault.KeyColumn = refl
-
-same_fault_decides : (a b : StatementFault) → Decides (fault_code a == fault_code b) (a ≡ b)
-same_fault_decides a b =
-    let d = unsigned_Decides (fault_code a) (fault_code b) in
-    (λ h. sym (fault_of-code a) ∙ ap fault_of (d.0 h) ∙ fault_of-code b, λ e. d.1 (ap fault_code e))
-
-pub same_answer_decides : (a b : Answer) → Decides (same_answer a b) (a ≡ b)
-same_answer_decides (answer.Done a) (answer.Done b) = let d = unsigned_Decides a b in (λ h. ap answer.Done (d.0 h), λ e. d.1 (cc))
-same_answer_decides (answer.Rows a) (answer.Rows b) = let d = pointwise_decides (pointwise_decides same_value_decides) a b in (λ h. ap answer.Rows (d.0 h), λ e. d.1 (cc))
-same_answer_decides (answer.Number a) (answer.Number b) = let d = signed_Decides a b in (λ h. ap answer.Number (d.0 h), λ e. d.1 (cc))
-same_answer_decides answer.Committed answer.Committed = (λ h. refl, λ e. refl)
-same_answer_decides answer.Conflict answer.Conflict = (λ h. refl, λ e. refl)
-same_answer_decides answer.RolledBack answer.RolledBack = (λ h. refl, λ e. refl)
-same_answer_decides answer.CommitInReplay answer.CommitInReplay = (λ h. refl, λ e. refl)
-same_answer_decides (answer.Refused a) (answer.Refused b) = let d = same_fault_decides a b in (λ h. ap answer.Refused (d.0 h), λ e. d.1 (cc))
-same_answer_decides a b = (λ h. cc, λ e. cc)
-
-pub same_answers_decide : (a b : List Answer) → Decides (same_answers a b) (a ≡ b)
-same_answers_decide = pointwise_decides same_answer_decides
+use Rattle.svc_values.specs.Same.{same_answers}
+use Rattle.stmt_meaning.specs.SerialTest.{is_nil, if_replayed, replayed, if_commits, transaction_after, and_then, serial_after}
+use Rattle.svc_values.specs.SettingsList.{NamedValues}
 
 nil_is : (draws : List Draw) → is_nil draws ≡ true → draws ≡ []
 nil_is [] h = refl
@@ -71,7 +29,7 @@ test_passed piece m meant true e is = let is' : Some m ≡ Some meant = rw e at 
 test_passed piece m meant false e is = let is' : None ≡ Some meant = rw e at is in cc
 
 module _ (shape : Shape) where
-  replayed_is : (tables : List PlainRow) (settings : List (List ℕ × Value)) (piece : Piece) (meant : Meant) (means : Option Meant) → mean shape tables settings piece.call piece.draws ≡ means → if_replayed piece means ≡ Some meant → Replays shape tables settings piece meant
+  replayed_is : (tables : List PlainRow) (settings : NamedValues) (piece : Piece) (meant : Meant) (means : Option Meant) → mean shape tables settings piece.call piece.draws ≡ means → if_replayed piece means ≡ Some meant → Replays shape tables settings piece meant
   replayed_is tables settings piece meant None run is = cc
   replayed_is tables settings piece meant (Some m) run is =
       let p = test_passed piece m meant (is_nil m.rest && same_answers m.answers piece.answers) refl is in
@@ -79,10 +37,10 @@ module _ (shape : Shape) where
       let mine : Replays shape tables settings piece m = record { run = run; draws = nil_is m.rest parts.0; answers = (same_answers_decide m.answers piece.answers).0 parts.1 } in
       subst (Replays shape tables settings piece) p.1 mine
 
-  Replays-replayed : (tables : List PlainRow) (settings : List (List ℕ × Value)) (piece : Piece) (meant : Meant) → replayed shape tables settings piece ≡ Some meant → Replays shape tables settings piece meant
+  Replays-replayed : (tables : List PlainRow) (settings : NamedValues) (piece : Piece) (meant : Meant) → replayed shape tables settings piece ≡ Some meant → Replays shape tables settings piece meant
   Replays-replayed tables settings piece meant is = replayed_is tables settings piece meant (mean shape tables settings piece.call piece.draws) refl is
 
-  replayed-Replays : (tables : List PlainRow) (settings : List (List ℕ × Value)) (piece : Piece) (meant : Meant) → Replays shape tables settings piece meant → replayed shape tables settings piece ≡ Some meant
+  replayed-Replays : (tables : List PlainRow) (settings : NamedValues) (piece : Piece) (meant : Meant) → Replays shape tables settings piece meant → replayed shape tables settings piece ≡ Some meant
   replayed-Replays tables settings piece meant replays =
       let same : same_answers meant.answers piece.answers ≡ true = (same_answers_decide meant.answers piece.answers).1 replays.answers in
       let none : is_nil meant.rest ≡ true = ap is_nil replays.draws in
@@ -99,7 +57,7 @@ module _ (shape : Shape) where
   not_true true h = cc
   not_true false h = refl
 
-  pub Transaction-after : (before : List PlainRow) (settings : List (List ℕ × Value)) (pieces : List Piece) (after : List PlainRow) → transaction_after shape before settings pieces ≡ Some after → Transaction shape before settings pieces after
+  pub Transaction-after : (before : List PlainRow) (settings : NamedValues) (pieces : List Piece) (after : List PlainRow) → transaction_after shape before settings pieces ≡ Some after → Transaction shape before settings pieces after
   Transaction-after before settings [] after is = cc
   Transaction-after before settings (piece ∷ []) after is =
       let p = commits_with (ends_committed piece.answers) (replayed shape before settings piece) (λ meant. Some meant.tables) after is in
@@ -110,7 +68,7 @@ module _ (shape : Shape) where
       let p = commits_with (not (ends_committed piece.answers)) (replayed shape before settings piece) (λ meant. transaction_after shape meant.tables meant.settings (next ∷ more)) after is in
       (p.0, (Replays-replayed before settings piece p.0 p.1.0, (not_true (ends_committed piece.answers) p.1.1.0, Transaction-after p.0.tables p.0.settings (next ∷ more) after p.1.1.1)))
 
-  pub transaction_after-is : (before : List PlainRow) (settings : List (List ℕ × Value)) (pieces : List Piece) (after : List PlainRow) → Transaction shape before settings pieces after → transaction_after shape before settings pieces ≡ Some after
+  pub transaction_after-is : (before : List PlainRow) (settings : NamedValues) (pieces : List Piece) (after : List PlainRow) → Transaction shape before settings pieces after → transaction_after shape before settings pieces ≡ Some after
   transaction_after-is before settings [] after t = absurd t
   transaction_after-is before settings (piece ∷ []) after (meant, (replays, (commits, is))) =
       ap (λ m. if_commits (ends_committed piece.answers) m (λ meant. Some meant.tables)) (replayed-Replays before settings piece meant replays) ∙ ap (λ b. if_commits b (Some meant) (λ meant. Some meant.tables)) commits ∙ ap (λ t. Some t) (sym is)

@@ -6,12 +6,12 @@ use Rattle.std.proofs.lemmas.List.Elements.{filter-append}
 use Rattle.svc_values.specs.declared.value.Value.{Value}
 use Rattle.stmt_meaning.specs.declared.plan.TableWork.{TableWork}
 use Rattle.stmt_meaning.specs.declared.scan.Scan.{Scan}
-use Rattle.stmt_meaning.specs.declared.tables.PlainRow.{PlainRow}
-use Rattle.stmt_meaning.specs.declared.tables.Place.{Place}
-use Rattle.stmt_meaning.specs.Tables.{rows_at, is_at}
+use Rattle.svc_values.specs.declared.tables.PlainRow.{PlainRow}
+use Rattle.svc_values.specs.declared.tables.Place.{Place}
+use Rattle.svc_values.specs.Tables.{rows_at, is_at}
 use Rattle.stmt_meaning.specs.Effects.{first_of, table_answer}
 use Rattle.stmt_meaning.specs.Meaning.{seen_at}
-use Rattle.stmt_meaning.specs.Scans.{scanned, next_scan, last_answer}
+use Rattle.stmt_meaning.specs.InnerScans.{scanned, next_scan, last_answer}
 use Rattle.stmt_meaning.proofs.ScanLaws.{scanned-next, scanned-append, last_answer-scanned}
 
 module _ (at : Place) where

@@ -14,20 +14,22 @@ use Rattle.svc_values.specs.declared.call.Call.TheVariants as call
 use Rattle.svc_values.specs.declared.entry.Write.{Write}
 use Rattle.stmt_meaning.specs.declared.plan.Plan.{Plan}
 use Rattle.stmt_meaning.specs.declared.plan.Plan.TheVariants as plan
-use Rattle.stmt_meaning.specs.declared.tables.PlainRow.{PlainRow}
-use Rattle.stmt_meaning.specs.declared.tables.Place.TheVariants as place
-use Rattle.stmt_meaning.specs.Operands.{Read, ◌>>=◌, values_of}
-use Rattle.stmt_meaning.specs.Plans.{Aim, aim_of, plan_for, plan_at, plan_of, place_of, operands_of, schema_of}
+use Rattle.svc_values.specs.declared.tables.PlainRow.{PlainRow}
+use Rattle.svc_values.specs.declared.tables.Place.TheVariants as place
+use Rattle.stmt_meaning.specs.Operands.{Reading, ◌>>=◌, values_of}
+use Rattle.stmt_meaning.specs.Plans.{Aim, aim_of, plan_for, plan_at, plan_of, place_of}
+use Rattle.svc_values.specs.Calls.{operands_of}
+use Rattle.svc_values.specs.Schemas.{schema_of}
 use Rattle.stmt_meaning.specs.Effects.{effect, first_of}
-use Rattle.stmt_meaning.specs.Tables.{is_at, put_row, put_if_any, without, with_write, with_writes, comes_before}
+use Rattle.svc_values.specs.Tables.{is_at, put_row, put_if_any, without, with_write, with_writes, comes_before}
 use Rattle.stmt_meaning.specs.Meaning.{OneDone, AllDone, Meant, seen_at, done_at, mean1, statements_done, and_on, after_first, ended_by, is_refusal, worked, alone, mean, commit_answer}
-use Rattle.stmt_meaning.specs.Fitting.{is_row_of, has_fit, tables_fit, write_fits, writes_fit, IsBase}
-use Rattle.stmt_meaning.specs.Answers.{IsMeaning}
+use Rattle.svc_values.specs.Fitting.{is_row_of, has_fit, tables_fit, write_fits, writes_fit, IsBase}
+use Rattle.stmt_meaning.specs.PlainRuns.{IsMeaning}
 use Rattle.stmt_meaning.specs.declared.plain.PlainRun.{PlainRun}
-use Rattle.stmt_meaning.proofs.Local.{AreTables-with_writes}
+use Rattle.svc_values.proofs.Offered.{AreTables-with_writes, is_at-row}
 use Rattle.stmt_meaning.proofs.MeanLocal.{mean-tables}
-use Rattle.stmt_meaning.proofs.RowOrder.{is_at-row}
 use Rattle.stmt_meaning.proofs.PlanFits.{both, and-true, PlanFits, PlanFits-for, OneFits, OneFits-row_effect}
+use Rattle.svc_values.specs.SettingsList.{NamedValues}
 
 -- ---- tests of all rows
 
@@ -100,7 +102,7 @@ module _ (schemas : List Schema) where
   writes_fit-append [] more h i = i
   writes_fit-append (write ∷ writes) more h i = let p = both (write_fits schemas write) (writes_fit schemas writes) h in and-true (write_fits schemas write) (writes_fit schemas (writes ++ more)) p.0 (writes_fit-append writes more p.1 i)
 
-  done_fits : (tables : List PlainRow) (read : Read Plan) (one : OneDone) → tables_fit schemas tables ≡ true → ((asked : Plan) (left : List Draw) → read ≡ Some (Ok asked, left) → PlanFits schemas asked) → done_at tables read ≡ Some one → writes_fit schemas one.writes ≡ true
+  done_fits : (tables : List PlainRow) (read : Reading Plan) (one : OneDone) → tables_fit schemas tables ≡ true → ((asked : Plan) (left : List Draw) → read ≡ Some (Ok asked, left) → PlanFits schemas asked) → done_at tables read ≡ Some one → writes_fit schemas one.writes ≡ true
   done_fits tables None one all ok is = cc
   done_fits tables (Some (Err refusal, left)) one all ok is = let none : one.writes ≡ [] = cc in ap (writes_fit schemas) none
   done_fits tables (Some (Ok asked, left)) one all ok is =
@@ -108,15 +110,15 @@ module _ (schemas : List Schema) where
       let mine : one.writes ≡ option_to_list write = cc in
       ap (writes_fit schemas) mine ∙ one_fits write (effect_fits tables asked all (ok asked left refl))
 
-same_plan : (x y : Result Plan StatementFault) (left over : List Draw) → ◌≡◌ {A = Read Plan} (Some (x, left)) (Some (y, over)) → x ≡ y
+same_plan : (x y : Result Plan StatementFault) (left over : List Draw) → ◌≡◌ {A = Reading Plan} (Some (x, left)) (Some (y, over)) → x ≡ y
 same_plan x y left over e = let p : ◌≡◌ {A = Result Plan StatementFault × List Draw} (x, left) (y, over) = cc in ap (λ q. q.0) p
 
-read_plan : (schemas : List Schema) (asked : Statement) (aim : Aim) → aim_of schemas asked ≡ Ok aim → (values : Read (List Value)) (made : Plan) (left : List Draw) → (values >>= λ xs over. Some (plan_for aim asked xs, over)) ≡ Some (Ok made, left) → PlanFits schemas made
+read_plan : (schemas : List Schema) (asked : Statement) (aim : Aim) → aim_of schemas asked ≡ Ok aim → (values : Reading (List Value)) (made : Plan) (left : List Draw) → (values >>= λ xs over. Some (plan_for aim asked xs, over)) ≡ Some (Ok made, left) → PlanFits schemas made
 read_plan schemas asked aim is None made left e = cc
 read_plan schemas asked aim is (Some (Err refusal, over)) made left e = let none = same_plan (Err refusal) (Ok made) over left e in cc
 read_plan schemas asked aim is (Some (Ok values, over)) made left e = let planned = same_plan (plan_for aim asked values) (Ok made) over left e in PlanFits-for schemas asked aim values made is planned
 
-module _ (shape : Shape) (settings : List (List ℕ × Value)) where
+module _ (shape : Shape) (settings : NamedValues) where
   plan_fits_at : (asked : Statement) (draws : List Draw) (aim : Result Aim StatementFault) → aim_of shape.schemas asked ≡ aim → (made : Plan) (left : List Draw) → plan_at shape settings asked draws aim ≡ Some (Ok made, left) → PlanFits shape.schemas made
   plan_fits_at asked draws (Err refusal) is made left e = let none = same_plan (Err refusal) (Ok made) draws left e in cc
   plan_fits_at asked draws (Ok aim) is made left e = read_plan shape.schemas asked aim is (values_of shape.sequences settings (operands_of asked) draws) made left e
@@ -155,7 +157,7 @@ module _ (shape : Shape) (settings : List (List ℕ × Value)) where
 
 -- ---- calls
 
-work_fits_at : (schemas : List Schema) (tables : List PlainRow) (settings : List (List ℕ × Value)) (commit : Bool) (done : AllDone) (meant : Meant) → writes_fit schemas done.writes ≡ true → (refused : Bool) → done.refused ≡ refused → worked tables settings commit (Some done) ≡ Some meant → writes_fit schemas meant.writes ≡ true
+work_fits_at : (schemas : List Schema) (tables : List PlainRow) (settings : NamedValues) (commit : Bool) (done : AllDone) (meant : Meant) → writes_fit schemas done.writes ≡ true → (refused : Bool) → done.refused ≡ refused → worked tables settings commit (Some done) ≡ Some meant → writes_fit schemas meant.writes ≡ true
 work_fits_at schemas tables settings commit done meant fits true gone is =
     let here : Meant = record { answers = done.answers; tables = tables; settings = settings; writes = []; reads = done.reads; rest = done.rest } in
     let is' : Some here ≡ Some meant = rw gone at is in
@@ -165,15 +167,15 @@ work_fits_at schemas tables settings commit done meant fits false kept is =
     let is' : Some here ≡ Some meant = rw kept at is in
     let same : meant.writes ≡ done.writes = cc in ap (writes_fit schemas) same ∙ fits
 
-work_fits : (schemas : List Schema) (tables : List PlainRow) (settings : List (List ℕ × Value)) (commit : Bool) (all : Option AllDone) (meant : Meant) → ((done : AllDone) → all ≡ Some done → writes_fit schemas done.writes ≡ true) → worked tables settings commit all ≡ Some meant → writes_fit schemas meant.writes ≡ true
+work_fits : (schemas : List Schema) (tables : List PlainRow) (settings : NamedValues) (commit : Bool) (all : Option AllDone) (meant : Meant) → ((done : AllDone) → all ≡ Some done → writes_fit schemas done.writes ≡ true) → worked tables settings commit all ≡ Some meant → writes_fit schemas meant.writes ≡ true
 work_fits schemas tables settings commit None meant fits is = cc
 work_fits schemas tables settings commit (Some done) meant fits is = work_fits_at schemas tables settings commit done meant (fits done refl) done.refused refl is
 
-alone_fits : (schemas : List Schema) (tables : List PlainRow) (settings : List (List ℕ × Value)) (draws : List Draw) (answer : Answer) (meant : Meant) → alone tables settings draws answer ≡ Some meant → writes_fit schemas meant.writes ≡ true
+alone_fits : (schemas : List Schema) (tables : List PlainRow) (settings : NamedValues) (draws : List Draw) (answer : Answer) (meant : Meant) → alone tables settings draws answer ≡ Some meant → writes_fit schemas meant.writes ≡ true
 alone_fits schemas tables settings draws answer meant is = let none : meant.writes ≡ [] = cc in ap (writes_fit schemas) none
 
 -- the writes of a call fit the declared tables
-pub mean-fits : (shape : Shape) (tables : List PlainRow) (settings : List (List ℕ × Value)) (asked : Call) (draws : List Draw) (meant : Meant) → tables_fit shape.schemas tables ≡ true → mean shape tables settings asked draws ≡ Some meant → writes_fit shape.schemas meant.writes ≡ true
+pub mean-fits : (shape : Shape) (tables : List PlainRow) (settings : NamedValues) (asked : Call) (draws : List Draw) (meant : Meant) → tables_fit shape.schemas tables ≡ true → mean shape tables settings asked draws ≡ Some meant → writes_fit shape.schemas meant.writes ≡ true
 mean-fits shape tables settings (call.Work statements commit) draws meant all is = work_fits shape.schemas tables settings commit (statements_done shape tables settings statements draws) meant (λ done e. statements-fit shape settings tables statements draws done all e) is
 mean-fits shape tables settings (call.Set name x) draws meant all is = alone_fits shape.schemas tables _ draws _ meant is
 mean-fits shape tables settings (call.Alter line) draws meant all is = alone_fits shape.schemas tables _ draws _ meant is
@@ -181,7 +183,7 @@ mean-fits shape tables settings call.Disable draws meant all is = alone_fits sha
 mean-fits shape tables settings call.Rollback draws meant all is = alone_fits shape.schemas tables _ draws _ meant is
 
 -- tables of a shape are so again after a call
-pub mean-base : (shape : Shape) (tables : List PlainRow) (settings : List (List ℕ × Value)) (asked : Call) (draws : List Draw) (meant : Meant) → mean shape tables settings asked draws ≡ Some meant → IsBase shape tables → IsBase shape meant.tables × (writes_fit shape.schemas meant.writes ≡ true)
+pub mean-base : (shape : Shape) (tables : List PlainRow) (settings : NamedValues) (asked : Call) (draws : List Draw) (meant : Meant) → mean shape tables settings asked draws ≡ Some meant → IsBase shape tables → IsBase shape meant.tables × (writes_fit shape.schemas meant.writes ≡ true)
 mean-base shape tables settings asked draws meant is base =
     let writes = mean-fits shape tables settings asked draws meant base.fitting is in
     let left = sym (mean-tables shape tables settings asked draws meant is) in
@@ -189,5 +191,5 @@ mean-base shape tables settings asked draws meant is base =
     (subst (IsBase shape) left after, writes)
 
 -- and so after a run of it
-pub run-base : (shape : Shape) (tables : List PlainRow) (settings : List (List ℕ × Value)) (asked : Call) (draws : List Draw) (run : PlainRun) → IsMeaning (mean shape tables settings asked draws) draws run → IsBase shape tables → IsBase shape run.tables
+pub run-base : (shape : Shape) (tables : List PlainRow) (settings : NamedValues) (asked : Call) (draws : List Draw) (run : PlainRun) → IsMeaning (mean shape tables settings asked draws) draws run → IsBase shape tables → IsBase shape run.tables
 run-base shape tables settings asked draws run (meant, (is, gives)) base = subst (IsBase shape) (sym gives.tables) (mean-base shape tables settings asked draws meant is base).0

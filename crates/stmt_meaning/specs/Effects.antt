@@ -1,16 +1,11 @@
 -- What a plan answers and writes, from the rows at its one place.
-use Rattle.std.specs.Prelude.{ℕ, ℤ, pos, negsuc, ◌+ℤ◌, ◌^◌, Bool, true, false, List, [], ◌∷◌, Option, Some, None, length, filter, nat_lt, slice_set, slice_get, if◌then◌else◌}
-use Rattle.std.specs.Ordering.{match_ordering}
-use Rattle.std.specs.declared.cmp.Ordering.{Ordering}
+use Rattle.std.specs.Prelude.{ℕ, ℤ, pos, negsuc, ◌+ℤ◌, ◌^◌, Bool, List, [], ◌∷◌, Option, Some, None, length, nat_lt, slice_set, slice_get, if◌then◌else◌}
 use Rattle.svc_values.specs.declared.value.Value.{Value}
 use Rattle.svc_values.specs.declared.value.Value.TheVariants as value
-use Rattle.svc_values.specs.declared.statement.Test.{Test}
-use Rattle.svc_values.specs.declared.statement.Test.TheVariants as test
 use Rattle.svc_values.specs.declared.answer.Answer.{Answer}
 use Rattle.svc_values.specs.declared.answer.Answer.TheVariants as answer
 use Rattle.svc_values.specs.declared.answer.StatementFault.{StatementFault}
 use Rattle.svc_values.specs.declared.answer.StatementFault.TheVariants as fault
-use Rattle.svc_values.specs.Order.{value_cmp}
 use Rattle.stmt_meaning.specs.declared.effect.Effect.{Effect}
 use Rattle.stmt_meaning.specs.declared.plan.Plan.{Plan}
 use Rattle.stmt_meaning.specs.declared.plan.Plan.TheVariants as plan
@@ -18,6 +13,7 @@ use Rattle.stmt_meaning.specs.declared.plan.RowWork.{RowWork}
 use Rattle.stmt_meaning.specs.declared.plan.RowWork.TheVariants as row_work
 use Rattle.stmt_meaning.specs.declared.plan.TableWork.{TableWork}
 use Rattle.stmt_meaning.specs.declared.plan.TableWork.TheVariants as table_work
+use Rattle.svc_values.specs.Tests.{selected}
 
 -- an integer of 64 bits
 abbrev pub fits_i64 : ℤ → Bool
@@ -35,19 +31,6 @@ number_at row at = number_of (slice_get row at)
 abbrev pub total : ℕ → List (List Value) → ℤ
 total at [] = pos 0
 total at (first ∷ rest) = number_at first at +ℤ total at rest
-
-abbrev pub meets : Test → Ordering → Bool
-meets test.Eq order = match_ordering order false true false
-meets test.Lt order = match_ordering order true false false
-meets test.Ge order = match_ordering order false true true
-
-abbrev pub value_meets : Test → Value → Option Value → Bool
-value_meets compared than None = false
-value_meets compared than (Some x) = meets compared (value_cmp x than)
-
--- the rows whose value in the column meets the test
-abbrev pub selected : ℕ → Test → Value → List (List Value) → List (List Value)
-selected at compared than rows = filter (λ row. value_meets compared than (slice_get row at)) rows
 
 abbrev pub only : Answer → Effect
 only a = record { answer = a; write = None }

@@ -1,5 +1,5 @@
 -- What statements and calls mean on plain tables.
-use Rattle.std.specs.Prelude.{ℕ, Bool, true, false, List, [], ◌∷◌, ◌++◌, Option, Some, None, Ok, Err, map, option_to_list, if◌then◌else◌}
+use Rattle.std.specs.Prelude.{Bool, true, false, List, [], ◌∷◌, ◌++◌, Option, Some, None, Ok, Err, map, option_to_list, if◌then◌else◌}
 use Rattle.svc_values.specs.declared.value.Value.{Value}
 use Rattle.svc_values.specs.declared.schema.Shape.{Shape}
 use Rattle.svc_values.specs.declared.draw.Draw.{Draw}
@@ -10,12 +10,12 @@ use Rattle.svc_values.specs.declared.answer.Answer.{Answer}
 use Rattle.svc_values.specs.declared.answer.Answer.TheVariants as answer
 use Rattle.svc_values.specs.declared.entry.Write.{Write}
 use Rattle.svc_values.specs.Endings.{ends_with}
-use Rattle.svc_values.specs.SettingsList.{put_setting}
+use Rattle.svc_values.specs.SettingsList.{NamedValues, put_setting}
 use Rattle.stmt_meaning.specs.declared.plan.Plan.{Plan}
-use Rattle.stmt_meaning.specs.declared.tables.PlainRow.{PlainRow}
-use Rattle.stmt_meaning.specs.declared.tables.Place.{Place}
-use Rattle.stmt_meaning.specs.Tables.{rows_at, with_writes}
-use Rattle.stmt_meaning.specs.Operands.{Read}
+use Rattle.svc_values.specs.declared.tables.PlainRow.{PlainRow}
+use Rattle.svc_values.specs.declared.tables.Place.{Place}
+use Rattle.svc_values.specs.Tables.{rows_at, with_writes}
+use Rattle.stmt_meaning.specs.Operands.{Reading}
 use Rattle.stmt_meaning.specs.Plans.{plan_of, place_of}
 use Rattle.stmt_meaning.specs.Effects.{effect}
 
@@ -31,7 +31,7 @@ pub record OneDone : Type 0 where
   pub reads : List Place
   pub rest : List Draw
 
-abbrev pub done_at : List PlainRow → Read Plan → Option OneDone
+abbrev pub done_at : List PlainRow → Reading Plan → Option OneDone
 done_at tables None = None
 done_at tables (Some (Err refusal, left)) = Some (record { answer = answer.Refused refusal; writes = []; reads = []; rest = left })
 done_at tables (Some (Ok asked, left)) =
@@ -39,7 +39,7 @@ done_at tables (Some (Ok asked, left)) =
     Some (record { answer = done.answer; writes = option_to_list done.write; reads = option_to_list (place_of asked); rest = left })
 
 -- One statement: what its text and operands ask for, done on the rows at its place. None where the draws differ from those asked for.
-abbrev pub mean1 : Shape → List PlainRow → List (List ℕ × Value) → Statement → List Draw → Option OneDone
+abbrev pub mean1 : Shape → List PlainRow → NamedValues → Statement → List Draw → Option OneDone
 mean1 shape tables settings asked draws = done_at tables (plan_of shape settings asked draws)
 
 abbrev pub is_refusal : Answer → Bool
@@ -70,7 +70,7 @@ and_on None next = None
 and_on (Some one) next = if is_refusal one.answer then ended_by one else after_first one (next one)
 
 -- The statements in order, each on the tables with the writes of those before it. The first refusal ends them.
-abbrev pub statements_done : Shape → List PlainRow → List (List ℕ × Value) → List Statement → List Draw → Option AllDone
+abbrev pub statements_done : Shape → List PlainRow → NamedValues → List Statement → List Draw → Option AllDone
 statements_done shape tables settings [] draws = Some (record { answers = []; writes = []; reads = []; rest = draws; refused = false })
 statements_done shape tables settings (first ∷ rest) draws =
     and_on (mean1 shape tables settings first draws) (λ one. statements_done shape (with_writes tables one.writes) settings rest one.rest)
@@ -79,19 +79,19 @@ statements_done shape tables settings (first ∷ rest) draws =
 pub record Meant : Type 0 where
   pub answers : List Answer
   pub tables : List PlainRow
-  pub settings : List (List ℕ × Value)
+  pub settings : NamedValues
   pub writes : List Write
   pub reads : List Place
   pub rest : List Draw
 
-abbrev pub alone : List PlainRow → List (List ℕ × Value) → List Draw → Answer → Option Meant
+abbrev pub alone : List PlainRow → NamedValues → List Draw → Answer → Option Meant
 alone tables settings draws a = Some (record { answers = a ∷ []; tables = tables; settings = settings; writes = []; reads = []; rest = draws })
 
 abbrev pub commit_answer : Bool → List Answer
 commit_answer commit = if commit then answer.Committed ∷ [] else []
 
 -- a refusal takes the writes back, and what was read and drawn stays so
-abbrev pub worked : List PlainRow → List (List ℕ × Value) → Bool → Option AllDone → Option Meant
+abbrev pub worked : List PlainRow → NamedValues → Bool → Option AllDone → Option Meant
 worked tables settings commit None = None
 worked tables settings commit (Some done) =
     if done.refused
@@ -99,7 +99,7 @@ worked tables settings commit (Some done) =
     else Some (record { answers = done.answers ++ commit_answer commit; tables = with_writes tables done.writes; settings = settings; writes = done.writes; reads = done.reads; rest = done.rest })
 
 -- One call. None where the draws don't begin with those that it asks for.
-abbrev pub mean : Shape → List PlainRow → List (List ℕ × Value) → Call → List Draw → Option Meant
+abbrev pub mean : Shape → List PlainRow → NamedValues → Call → List Draw → Option Meant
 mean shape tables settings (call.Work statements commit) draws = worked tables settings commit (statements_done shape tables settings statements draws)
 mean shape tables settings (call.Set name x) draws = alone tables (put_setting settings name x) draws (answer.Done 1)
 mean shape tables settings (call.Alter line) draws = alone tables settings draws (answer.Done 1)

@@ -1,7 +1,5 @@
 -- The values of operands. Draws are taken from the front of a list, by kind and name.
-use Rattle.std.specs.Prelude.{ℕ, pos, ◌^◌, ◌-◌, min, Bool, true, false, List, [], ◌∷◌, Option, Some, None, Result, Ok, Err, if◌then◌else◌}
-use Rattle.std.specs.List.{list_any}
-use Rattle.std.specs.Str.{bytes_eq}
+use Rattle.std.specs.Prelude.{ℕ, pos, ◌^◌, ◌-◌, min, List, [], ◌∷◌, Option, Some, None, Result, Ok, Err, if◌then◌else◌}
 use Rattle.svc_values.specs.declared.value.Value.{Value}
 use Rattle.svc_values.specs.declared.value.Value.TheVariants as value
 use Rattle.svc_values.specs.declared.draw.DrawKind.{DrawKind}
@@ -12,7 +10,9 @@ use Rattle.svc_values.specs.declared.statement.Operand.{Operand}
 use Rattle.svc_values.specs.declared.statement.Operand.TheVariants as operand
 use Rattle.svc_values.specs.declared.answer.StatementFault.{StatementFault}
 use Rattle.svc_values.specs.declared.answer.StatementFault.TheVariants as fault
-use Rattle.svc_values.specs.SettingsList.{setting_of}
+use Rattle.svc_values.specs.SettingsList.{NamedValues, setting_of}
+use Rattle.svc_values.specs.Draws.{is_of_kind}
+use Rattle.svc_values.specs.Names.{is_name_of}
 
 -- the value that a draw stands for. A tick above the greatest integer stands for that one
 abbrev pub drawn_value : Draw → Value
@@ -20,31 +20,21 @@ drawn_value (draw.Seq name n) = value.Int n
 drawn_value (draw.Clock tick) = value.Int (pos (min tick (2 ^ 63 - 1)))
 drawn_value (draw.Id id) = value.Bytes id
 
--- the draw is of this kind, a sequence's of this name
-abbrev pub is_of_kind : DrawKind → Draw → Bool
-is_of_kind (kind.Seq asked) (draw.Seq name n) = bytes_eq name asked
-is_of_kind kind.Clock (draw.Clock tick) = true
-is_of_kind kind.Id (draw.Id id) = true
-is_of_kind _ _ = false
-
 -- What reading gives: a value or the fault that refuses the statement, beside the draws that are left;
 -- and nothing at all where the draws don't begin with the one that is asked for.
-abbrev pub Read : Type 0 → Type 0
-Read A = Option (Result A StatementFault × List Draw)
+abbrev pub Reading : Type 0 → Type 0
+Reading A = Option (Result A StatementFault × List Draw)
 
 infixl 10 ◌>>=◌
-abbrev pub ◌>>=◌ : {A B : Type 0} → Read A → (A → List Draw → Read B) → Read B
+abbrev pub ◌>>=◌ : {A B : Type 0} → Reading A → (A → List Draw → Reading B) → Reading B
 None >>= next = None
 Some (Err refusal, draws) >>= next = Some (Err refusal, draws)
 Some (Ok x, draws) >>= next = next x draws
 
 -- the first of the draws, where it is of the kind
-abbrev pub take_draw : DrawKind → List Draw → Read Value
+abbrev pub take_draw : DrawKind → List Draw → Reading Value
 take_draw asked [] = None
 take_draw asked (first ∷ rest) = if is_of_kind asked first then Some (Ok (drawn_value first), rest) else None
-
-abbrev pub is_name_of : List (List ℕ) → List ℕ → Bool
-is_name_of names name = list_any (λ one. bytes_eq one name) names
 
 -- what an operand stands for: a value that is there, or one that is to be drawn
 pub data Wanted : Type 0 where
@@ -61,21 +51,21 @@ wanted_draw sequences kind.Clock = Ok (Drawn kind.Clock)
 wanted_draw sequences kind.Id = Ok (Drawn kind.Id)
 
 -- A setting or a sequence that is not there refuses the statement, and then nothing is drawn.
-abbrev pub wanted : List (List ℕ) → List (List ℕ × Value) → Operand → Result Wanted StatementFault
+abbrev pub wanted : List (List ℕ) → NamedValues → Operand → Result Wanted StatementFault
 wanted sequences settings (operand.Lit x) = Ok (Known x)
 wanted sequences settings (operand.Var name) = wanted_setting (setting_of settings name)
 wanted sequences settings (operand.Draw asked) = wanted_draw sequences asked
 
-abbrev pub taken : Result Wanted StatementFault → List Draw → Read Value
+abbrev pub taken : Result Wanted StatementFault → List Draw → Reading Value
 taken (Err refusal) draws = Some (Err refusal, draws)
 taken (Ok (Known x)) draws = Some (Ok x, draws)
 taken (Ok (Drawn asked)) draws = take_draw asked draws
 
-abbrev pub value_of : List (List ℕ) → List (List ℕ × Value) → Operand → List Draw → Read Value
+abbrev pub value_of : List (List ℕ) → NamedValues → Operand → List Draw → Reading Value
 value_of sequences settings asked draws = taken (wanted sequences settings asked) draws
 
 -- from left to right, up to the first that refuses
-abbrev pub values_of : List (List ℕ) → List (List ℕ × Value) → List Operand → List Draw → Read (List Value)
+abbrev pub values_of : List (List ℕ) → NamedValues → List Operand → List Draw → Reading (List Value)
 values_of sequences settings [] draws = Some (Ok [], draws)
 values_of sequences settings (first ∷ rest) draws =
     value_of sequences settings first draws >>= λ x left. values_of sequences settings rest left >>= λ xs over. Some (Ok (x ∷ xs), over)

@@ -1,15 +1,12 @@
 -- What a statement asks to be done, from its text and the values of its operands. No row is looked at.
-use Rattle.std.specs.Prelude.{ℕ, pos, ◌==◌, Bool, false, List, [], ◌∷◌, Option, Some, None, Result, Ok, Err, find, position, slice_get, if◌then◌else◌}
-use Rattle.std.specs.Str.{bytes_eq}
+use Rattle.std.specs.Prelude.{ℕ, ◌==◌, Bool, List, [], Option, Some, None, Result, Ok, Err, slice_get, if◌then◌else◌}
 use Rattle.svc_values.specs.declared.value.Value.{Value}
 use Rattle.svc_values.specs.declared.value.Value.TheVariants as value
-use Rattle.svc_values.specs.declared.value.Kind.{Kind}
 use Rattle.svc_values.specs.declared.value.Kind.TheVariants as kind
 use Rattle.svc_values.specs.declared.schema.Column.{Column}
 use Rattle.svc_values.specs.declared.schema.Schema.{Schema}
 use Rattle.svc_values.specs.declared.schema.Shape.{Shape}
 use Rattle.svc_values.specs.declared.draw.Draw.{Draw}
-use Rattle.svc_values.specs.declared.statement.Operand.{Operand}
 use Rattle.svc_values.specs.declared.statement.Change.{Change}
 use Rattle.svc_values.specs.declared.statement.Change.TheVariants as change
 use Rattle.svc_values.specs.declared.statement.Statement.{Statement}
@@ -17,49 +14,18 @@ use Rattle.svc_values.specs.declared.statement.Test.{Test}
 use Rattle.svc_values.specs.declared.statement.Statement.TheVariants as statement
 use Rattle.svc_values.specs.declared.answer.StatementFault.{StatementFault}
 use Rattle.svc_values.specs.declared.answer.StatementFault.TheVariants as fault
-use Rattle.svc_values.specs.Kinds.{kind_of, same_kind, row_fits}
+use Rattle.svc_values.specs.Kinds.{kind_of, row_fits}
 use Rattle.stmt_meaning.specs.declared.plan.Plan.{Plan}
 use Rattle.stmt_meaning.specs.declared.plan.Plan.TheVariants as plan
 use Rattle.stmt_meaning.specs.declared.plan.RowWork.{RowWork}
 use Rattle.stmt_meaning.specs.declared.plan.RowWork.TheVariants as row_work
 use Rattle.stmt_meaning.specs.declared.plan.TableWork.TheVariants as table_work
-use Rattle.stmt_meaning.specs.declared.tables.Place.{Place}
-use Rattle.stmt_meaning.specs.declared.tables.Place.TheVariants as place
-use Rattle.stmt_meaning.specs.Operands.{Read, ◌>>=◌, values_of}
-
-abbrev pub schema_of : List Schema → List ℕ → Option Schema
-schema_of schemas table = find (λ schema. bytes_eq schema.name table) schemas
-
--- the place of the column, from 0
-abbrev pub column_of : List Column → List ℕ → Option ℕ
-column_of columns name = position (λ column. bytes_eq column.name name) columns
-
-abbrev pub is_kind : Kind → Option Column → Bool
-is_kind wanted None = false
-is_kind wanted (Some column) = same_kind column.kind wanted
-
--- the column at this place is of this kind
-abbrev pub is_column_kind : List Column → ℕ → Kind → Bool
-is_column_kind columns at wanted = is_kind wanted (slice_get columns at)
-
--- a key is of the first column's kind
-abbrev pub key_fits : List Column → Value → Bool
-key_fits columns key = is_column_kind columns 0 (kind_of key)
-
--- the operands in the order in which they are read
-abbrev pub operand_of : Change → Operand
-operand_of (change.To operand) = operand
-operand_of (change.Plus operand) = operand
-
-abbrev pub operands_of : Statement → List Operand
-operands_of (statement.Insert table operands) = operands
-operands_of (statement.Update table key column by) = key ∷ operand_of by ∷ []
-operands_of (statement.Delete table key) = key ∷ []
-operands_of (statement.Get table key) = key ∷ []
-operands_of (statement.Select table column test operand) = operand ∷ []
-operands_of (statement.Count table) = []
-operands_of (statement.Sum table column) = []
-operands_of (statement.Show operand) = operand ∷ []
+use Rattle.svc_values.specs.declared.tables.Place.{Place}
+use Rattle.svc_values.specs.declared.tables.Place.TheVariants as place
+use Rattle.stmt_meaning.specs.Operands.{Reading, ◌>>=◌, values_of}
+use Rattle.svc_values.specs.Schemas.{schema_of, column_of, is_column_kind, key_fits, key_of}
+use Rattle.svc_values.specs.Calls.{operands_of}
+use Rattle.svc_values.specs.SettingsList.{NamedValues}
 
 -- where a statement works: the columns of its table, and the place of the column that it names (0 where it names none)
 pub record Aim : Type 0 where
@@ -95,11 +61,6 @@ aim_of schemas (statement.Select table column test operand) = in_table (schema_o
 aim_of schemas (statement.Count table) = in_table (schema_of schemas table) whole
 aim_of schemas (statement.Sum table column) = in_table (schema_of schemas table) (in_column column)
 aim_of schemas (statement.Show operand) = whole []
-
--- the first value is the key
-abbrev pub key_of : List Value → Value
-key_of [] = value.Int (pos 0)
-key_of (key ∷ rest) = key
 
 abbrev pub if_kinds_fit : Bool → Plan → Result Plan StatementFault
 if_kinds_fit fits asked = if fits then Ok asked else Err fault.KindDiffers
@@ -141,12 +102,12 @@ plan_for aim (statement.Count table) values = Ok (plan.InTable table table_work.
 plan_for aim (statement.Sum table column) values = if_kinds_fit (is_column_kind aim.columns aim.at kind.Int) (plan.InTable table (table_work.Sum aim.at))
 plan_for aim (statement.Show operand) values = show_plan (slice_get values 0)
 
-abbrev pub plan_at : Shape → List (List ℕ × Value) → Statement → List Draw → Result Aim StatementFault → Read Plan
+abbrev pub plan_at : Shape → NamedValues → Statement → List Draw → Result Aim StatementFault → Reading Plan
 plan_at shape settings asked draws (Err refusal) = Some (Err refusal, draws)
 plan_at shape settings asked draws (Ok aim) = values_of shape.sequences settings (operands_of asked) draws >>= λ values left. Some (plan_for aim asked values, left)
 
 -- The checks in their order: the names, the operands from left to right, and then the kinds.
-abbrev pub plan_of : Shape → List (List ℕ × Value) → Statement → List Draw → Read Plan
+abbrev pub plan_of : Shape → NamedValues → Statement → List Draw → Reading Plan
 plan_of shape settings asked draws = plan_at shape settings asked draws (aim_of shape.schemas asked)
 
 -- the place that is read: a row, or a whole table, or none

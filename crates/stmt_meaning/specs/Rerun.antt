@@ -1,13 +1,13 @@
 -- Transactions that were run call by call, each call on what was committed at its moment.
-use Rattle.std.specs.Prelude.{◌≡◌, ℕ, List, [], ◌∷◌, ◌++◌}
-use Rattle.svc_values.specs.declared.value.Value.{Value}
+use Rattle.std.specs.Prelude.{◌≡◌, List, [], ◌∷◌, ◌++◌}
 use Rattle.svc_values.specs.declared.schema.Shape.{Shape}
 use Rattle.svc_values.specs.declared.entry.Piece.{Piece}
 use Rattle.svc_values.specs.declared.entry.Write.{Write}
-use Rattle.stmt_meaning.specs.declared.tables.PlainRow.{PlainRow}
-use Rattle.stmt_meaning.specs.Tables.{with_writes, AreTables, AgreeAt}
+use Rattle.svc_values.specs.declared.tables.PlainRow.{PlainRow}
+use Rattle.svc_values.specs.Tables.{with_writes, AreTables, AgreeAt}
 use Rattle.stmt_meaning.specs.Meaning.{Meant}
 use Rattle.stmt_meaning.specs.Serial.{Replays}
+use Rattle.svc_values.specs.SettingsList.{NamedValues}
 
 -- A call of a transaction: the committed tables at its moment, and the piece that it left.
 pub record Moment : Type 0 where
@@ -16,13 +16,13 @@ pub record Moment : Type 0 where
 
 -- The calls in order, each on the tables committed at its moment with the transaction's own earlier writes over them.
 -- `own` and `settings` are those before the first call, `own_after` and `settings_after` those after the last.
-abbrev pub RanAt : Shape → List (List ℕ × Value) → List Write → List Moment → List (List ℕ × Value) → List Write → Type 0
+abbrev pub RanAt : Shape → NamedValues → List Write → List Moment → NamedValues → List Write → Type 0
 RanAt shape settings own [] settings_after own_after = (settings_after ≡ settings) × (own_after ≡ own)
 RanAt shape settings own (moment ∷ moments) settings_after own_after =
     (meant : Meant) × (Replays shape (with_writes moment.committed own) settings moment.piece meant × RanAt shape meant.settings (own ++ meant.writes) moments settings_after own_after)
 
 -- Each place that a call read has on the tables of now the value that was committed at the call's moment.
-abbrev pub Unchanged : Shape → List (List ℕ × Value) → List Write → List Moment → List PlainRow → Type 0
+abbrev pub Unchanged : Shape → NamedValues → List Write → List Moment → List PlainRow → Type 0
 Unchanged shape settings own [] now = Unit {0}
 Unchanged shape settings own (moment ∷ moments) now =
     (meant : Meant) → Replays shape (with_writes moment.committed own) settings moment.piece meant →

@@ -1,21 +1,21 @@
 -- A serial run of entries: one transaction after the other on plain tables.
-use Rattle.std.specs.Prelude.{◌≡◌, ℕ, true, false, List, [], ◌∷◌, Some}
-use Rattle.svc_values.specs.declared.value.Value.{Value}
+use Rattle.std.specs.Prelude.{◌≡◌, true, false, List, [], ◌∷◌, Some}
 use Rattle.svc_values.specs.declared.schema.Shape.{Shape}
 use Rattle.svc_values.specs.declared.entry.Piece.{Piece}
 use Rattle.svc_values.specs.declared.entry.Entry.{Entry}
 use Rattle.svc_values.specs.Endings.{ends_committed}
-use Rattle.stmt_meaning.specs.declared.tables.PlainRow.{PlainRow}
+use Rattle.svc_values.specs.declared.tables.PlainRow.{PlainRow}
 use Rattle.stmt_meaning.specs.Meaning.{Meant, mean}
+use Rattle.svc_values.specs.SettingsList.{NamedValues}
 
 -- The piece's call, run on these tables and settings with the piece's draws, uses them all and gives exactly the piece's answers.
-pub record Replays (shape : Shape) (tables : List PlainRow) (settings : List (List ℕ × Value)) (piece : Piece) (meant : Meant) : Type 0 where
+pub record Replays (shape : Shape) (tables : List PlainRow) (settings : NamedValues) (piece : Piece) (meant : Meant) : Type 0 where
   pub run : mean shape tables settings piece.call piece.draws ≡ Some meant
   pub draws : meant.rest ≡ []
   pub answers : meant.answers ≡ piece.answers
 
 -- Pieces run whole, one after the other.
-abbrev pub RunWhole : Shape → List PlainRow → List (List ℕ × Value) → List Piece → List (List ℕ × Value) → List PlainRow → Type 0
+abbrev pub RunWhole : Shape → List PlainRow → NamedValues → List Piece → NamedValues → List PlainRow → Type 0
 RunWhole shape before settings [] settings_after after = (settings_after ≡ settings) × (after ≡ before)
 RunWhole shape before settings (piece ∷ pieces) settings_after after =
     (meant : Meant) × (Replays shape before settings piece meant × RunWhole shape meant.tables meant.settings pieces settings_after after)
@@ -27,7 +27,7 @@ CommitLast (piece ∷ []) = ends_committed piece.answers ≡ true
 CommitLast (piece ∷ next ∷ more) = (ends_committed piece.answers ≡ false) × CommitLast (next ∷ more)
 
 -- Pieces run whole, one after the other. The last one commits, and none before it does.
-abbrev pub Transaction : Shape → List PlainRow → List (List ℕ × Value) → List Piece → List PlainRow → Type 0
+abbrev pub Transaction : Shape → List PlainRow → NamedValues → List Piece → List PlainRow → Type 0
 Transaction shape before settings [] after = ⊥
 Transaction shape before settings (piece ∷ []) after =
     (meant : Meant) × (Replays shape before settings piece meant × ((ends_committed piece.answers ≡ true) × (after ≡ meant.tables)))

@@ -1,8 +1,8 @@
 //! What is answered and written at the row of a key.
 ghost use Rattle.std.specs.Prelude.{◌≡◌, IfOk, option_copied, slice_set, ◌+ℤ◌, [], ◌∷◌};
 ghost use Rattle.svc_values.specs.Endings.{last_answer};
-ghost use Rattle.stmt_meaning.specs.Effects.{number_at as number_at_lem, row_effect as row_effect_lem, only as only_lem, wrote as wrote_lem, added as added_lem, refused as refused_lem};
-ghost use Rattle.stmt_meaning.specs.Meaning.{is_refusal as is_refusal_lem, ends_refused as ends_refused_lem};
+ghost use Rattle.stmt_meaning.specs.Effects.{number_at as number_at_def, row_effect as row_effect_def, only as only_def, wrote as wrote_def, added as added_def, refused as refused_def};
+ghost use Rattle.stmt_meaning.specs.Meaning.{is_refusal as is_refusal_def, ends_refused as ends_refused_def};
 
 use crate::plan::RowWork;
 use std::alloc::Global;
@@ -19,7 +19,7 @@ pub struct Effect {
 
 /// Whether a statement was refused.
 pub fn is_refusal(answer: &Answer) -> bool
-    ensures { result ≡ is_refusal_lem answer.now }
+    ensures { result ≡ is_refusal_def answer.now }
 {
     matches!(answer, Answer::Refused(_))
 }
@@ -32,7 +32,7 @@ fn last_of(answers: &[Answer]) -> Option<&Answer>
 
 /// Whether the last of the answers refuses its statement.
 pub fn ends_refused(answers: &[Answer]) -> bool
-    ensures { result ≡ ends_refused_lem answers.now }
+    ensures { result ≡ ends_refused_def answers.now }
 {
     match last_of(answers) {
         None => false,
@@ -42,7 +42,7 @@ pub fn ends_refused(answers: &[Answer]) -> bool
 
 /// The integer in a column of a row, and 0 where there is none.
 pub fn number_at(row: &Row, column: usize) -> i64
-    ensures { result ≡ number_at_lem row.now column }
+    ensures { result ≡ number_at_def row.now column }
 {
     match row.get(column) {
         Some(Value::Int(number)) => *number,
@@ -62,7 +62,7 @@ fn with_value(alloc: Global, row: &Row, column: usize, value: Value) -> Result<R
 }
 
 fn only(answer: Answer) -> Effect
-    ensures { result ≡ only_lem answer }
+    ensures { result ≡ only_def answer }
 {
     Effect {
         answer,
@@ -71,13 +71,13 @@ fn only(answer: Answer) -> Effect
 }
 
 fn refused(fault: StatementFault) -> Effect
-    ensures { result ≡ refused_lem fault }
+    ensures { result ≡ refused_def fault }
 {
     only(Answer::Refused(fault))
 }
 
 fn wrote(table: Name, key: Value, row: Option<Row>) -> Effect
-    ensures { result ≡ wrote_lem table key row }
+    ensures { result ≡ wrote_def table key row }
 {
     Effect {
         answer: Answer::Done(1),
@@ -94,7 +94,7 @@ fn added(
     row: &Row,
     number: i64,
 ) -> Result<Effect, NoMemory>
-    ensures { IfOk result (λ effect. effect ≡ added_lem table key column row.now (number_at_lem row.now column +ℤ number)) }
+    ensures { IfOk result (λ effect. effect ≡ added_def table key column row.now (number_at_def row.now column +ℤ number)) }
 {
     match number_at(row, column).checked_add(number) {
         None => Ok(refused(StatementFault::SumRange)),
@@ -131,7 +131,7 @@ pub fn row_effect(
     work: RowWork,
     row: Option<&Row>,
 ) -> Result<Effect, NoMemory>
-    ensures { IfOk result (λ effect. effect ≡ row_effect_lem table key work (option_copied row.entry)) }
+    ensures { IfOk result (λ effect. effect ≡ row_effect_def table key work (option_copied row.entry)) }
 {
     let Some(row) = row else {
         return Ok(match work {

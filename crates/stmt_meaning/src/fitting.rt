@@ -1,15 +1,13 @@
 //! Whether rows and writes fit what is declared, and stand in order.
 ghost use Rattle.std.specs.Prelude.{◌≡◌, ◌↔◌, IsTrue, Some};
-ghost use Rattle.stmt_meaning.specs.Fitting.{has_fit, is_row_of as is_row_of_lem, tables_fit as tables_fit_lem, write_fits as write_fits_lem};
-ghost use Rattle.stmt_meaning.specs.Plans.{key_of, schema_of as schema_of_lem};
+ghost use Rattle.svc_values.specs.Fitting.{has_fit, is_row_of as is_row_of_def, tables_fit as tables_fit_def, write_fits as write_fits_def};
+ghost use Rattle.svc_values.specs.Schemas.{key_of, schema_of as schema_of_def};
 ghost use Rattle.svc_values.specs.Same.{same_value};
-ghost use Rattle.stmt_meaning.specs.Tables.{AreTables};
+ghost use Rattle.svc_values.specs.Tables.{AreTables};
 
 use crate::planning::is_column_kind;
-use crate::tables::PlainRow;
-use crate::target::schema_of;
 use crate::written::comes_before;
-use svc_values::{Row, Schema, Shape, Value, Write};
+use svc_values::{PlainRow, Row, Schema, Shape, Value, Write, schema_of};
 
 /// Whether the row has this key first. An empty row has 0.
 fn has_key(row: &Row, key: &Value) -> bool
@@ -23,14 +21,14 @@ fn has_key(row: &Row, key: &Value) -> bool
 
 /// Whether the row has a value of its kind for each column, and this key first.
 fn is_row_of(schema: &Schema, key: &Value, row: &Row) -> bool
-    ensures { result ≡ is_row_of_lem (Some schema.now) key.now row.now }
+    ensures { result ≡ is_row_of_def (Some schema.now) key.now row.now }
 {
     schema.fits(row) && has_key(row, key)
 }
 
 /// Whether the row's table is declared, and it is a row of it with its key first.
 fn row_fits(schemas: &[Schema], one: &PlainRow) -> bool
-    ensures { result ≡ is_row_of_lem (schema_of_lem schemas.now one.now.table) one.now.key one.now.row }
+    ensures { result ≡ is_row_of_def (schema_of_def schemas.now one.now.table) one.now.key one.now.row }
 {
     match schema_of(schemas, &one.table) {
         None => false,
@@ -41,7 +39,7 @@ fn row_fits(schemas: &[Schema], one: &PlainRow) -> bool
 /// Whether each row stands in a declared table, fits its columns and has its key first. Linear in the
 /// rows, for each of at most 32 tables.
 pub fn tables_fit(shape: &Shape, rows: &[PlainRow]) -> bool
-    ensures { result ≡ tables_fit_lem shape.now.schemas rows.now }
+    ensures { result ≡ tables_fit_def shape.now.schemas rows.now }
 {
     let schemas = shape.schemas.as_slice();
     rows.iter().all(|one| row_fits(schemas, one))
@@ -50,7 +48,7 @@ pub fn tables_fit(shape: &Shape, rows: &[PlainRow]) -> bool
 /// Whether a write names a declared table and a key of its first column's kind, and its row, if it has
 /// one, is a row of that table and key.
 pub fn write_fits(shape: &Shape, write: &Write) -> bool
-    ensures { result ≡ write_fits_lem shape.now.schemas write.now }
+    ensures { result ≡ write_fits_def shape.now.schemas write.now }
 {
     let Some(schema) = schema_of(shape.schemas.as_slice(), &write.table) else {
         return false;

@@ -1,19 +1,6 @@
 //! Laws of the definitions. Each function does nothing, and its contract is the law.
-ghost use Rattle.stmt_meaning.specs.Laws.{WritesAreLocal, WritesKeepOrder, WritesStand, WritesTouchNoOther, WritesGoOn, DrawsLookAtNoRow, CallsLeaveWrites, CallsKeepTables, CommitsComeLast, SerialGoesOn, SerialLeavesOne, SerialIsTested, UnchangedRunSame, UnchangedRunWhole, UnchangedIsSerial};
-
-/// What stands at a place after writes depends on what stood there alone.
-pub fn writes_are_local()
-    ensures { WritesAreLocal }
-{}
-
-/// Writes keep the order of tables. A row that is written stands at its table and key, one that is
-/// taken away does not, and every other place is as it was.
-pub fn writes_are_kept()
-    ensures order { WritesKeepOrder }
-    ensures stand { WritesStand }
-    ensures other { WritesTouchNoOther }
-    ensures parts { WritesGoOn }
-{}
+ghost use Rattle.svc_values.specs.TableLaws.{WritesAreLocal, WritesKeepOrder, WritesStand, WritesTouchNoOther, WritesGoOn};
+ghost use Rattle.stmt_meaning.specs.Laws.{DrawsLookAtNoRow, CallsLeaveWrites, CallsKeepTables, CommitsComeLast, SerialGoesOn, SerialLeavesOne, SerialIsTested, UnchangedRunSame, UnchangedRunWhole, UnchangedIsSerial};
 
 /// Which draws a statement asks for depends on no row.
 pub fn draws_look_at_no_row()

@@ -1,21 +1,10 @@
 //! Operands: the order in which they are read, and what they stand for.
 ghost use Rattle.std.specs.Prelude.{◌≡◌, ◌<◌, ◌≤◌, IfOk, IsSome, option_copied, slice_get, length};
-ghost use Rattle.stmt_meaning.specs.Operands.{drawn_value as drawn_value_lem, is_of_kind as is_of_kind_lem, is_name_of, wanted as wanted_lem};
-ghost use Rattle.stmt_meaning.specs.Plans.{operands_of, operand_of};
-ghost use Rattle.stmt_meaning.specs.Seen.{wanted_seen};
+ghost use Rattle.stmt_meaning.specs.Operands.{drawn_value as drawn_value_def};
+ghost use Rattle.svc_values.specs.Calls.{operands_of, operand_of};
 
 use std::alloc::Global;
-use svc_values::{
-    Change, Draw, DrawKind, Name, NoMemory, Octets, Operand, Settings, Statement, StatementFault,
-    Value,
-};
-
-/// What an operand stands for: a value that is there, or one that is to be drawn.
-#[derive(Clone, Copy)]
-pub enum Wanted<'a> {
-    Known(&'a Value),
-    Drawn(&'a DrawKind),
-}
+use svc_values::{Change, Draw, NoMemory, Octets, Operand, Statement, Value};
 
 fn changed_by(change: &Change) -> &Operand
     ensures { result.now ≡ operand_of change.now }
@@ -51,59 +40,13 @@ pub fn operand_at(statement: &Statement, at: usize) -> Option<&Operand>
     }
 }
 
-/// Whether a sequence has this name. Linear in the sequences, which are at most 32.
-fn has_name(names: &[Name], name: &Name) -> bool
-    ensures { result ≡ is_name_of names.now name.now }
-{
-    names.iter().any(|one| *one == *name)
-}
-
-/// What an operand stands for. A setting or a sequence that is not there is the statement's fault.
-pub fn resolve<'a>(
-    sequences: &[Name],
-    settings: &'a Settings,
-    operand: &'a Operand,
-) -> Result<Wanted<'a>, StatementFault>
-    ensures { wanted_seen result ≡ wanted_lem sequences.now settings.now operand.now }
-{
-    match operand {
-        Operand::Lit(value) => Ok(Wanted::Known(value)),
-        Operand::Var(name) => match settings.get(name) {
-            None => Err(StatementFault::NoVar),
-            Some(value) => Ok(Wanted::Known(value)),
-        },
-        Operand::Draw(kind) => {
-            if let DrawKind::Seq(name) = kind
-                && !has_name(sequences, name)
-            {
-                return Err(StatementFault::NoSequence);
-            }
-            Ok(Wanted::Drawn(kind))
-        }
-    }
-}
-
-/// Whether a draw is of the kind that is asked for, and a sequence's of the name.
-pub fn is_of_kind(asked: &DrawKind, draw: &Draw) -> bool
-    ensures { result ≡ is_of_kind_lem asked.now draw.now }
-{
-    match asked {
-        DrawKind::Seq(asked) => match draw {
-            Draw::Seq { name, .. } => *name == *asked,
-            _ => false,
-        },
-        DrawKind::Clock => matches!(draw, Draw::Clock { .. }),
-        DrawKind::Id => matches!(draw, Draw::Id { .. }),
-    }
-}
-
 /// The greatest integer, as a tick.
 const LAST_TICK: u64 = 0x7fff_ffff_ffff_ffff;
 
 /// The value that a draw stands for. A tick above the greatest integer stands for that one, and an
 /// identifier for its bytes.
 pub fn drawn_value(alloc: Global, draw: &Draw) -> Result<Value, NoMemory>
-    ensures { IfOk result (λ value. value ≡ drawn_value_lem draw.now) }
+    ensures { IfOk result (λ value. value ≡ drawn_value_def draw.now) }
 {
     match draw {
         Draw::Seq { value, .. } => Ok(Value::Int(*value)),

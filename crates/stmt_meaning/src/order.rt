@@ -1,10 +1,9 @@
 //! The order of table and key.
 ghost use Rattle.std.specs.Prelude.{◌≡◌, IfOk};
-ghost use Rattle.stmt_meaning.specs.Tables.{in_order as in_order_lem, row_cmp};
+ghost use Rattle.svc_values.specs.Tables.{in_order as in_order_def, row_cmp};
 
-use crate::tables::{PlainRow, PlainTables};
 use std::cmp::Ordering;
-use svc_values::NoMemory;
+use svc_values::{NoMemory, PlainRow, PlainTables};
 
 /// By table, and in a table by key.
 fn compared(a: &PlainRow, b: &PlainRow) -> Ordering
@@ -16,7 +15,7 @@ fn compared(a: &PlainRow, b: &PlainRow) -> Ordering
 /// The rows in the order of table and key. Of rows with one table and key the later comes first. No
 /// row is copied: it takes n log n comparisons for n rows.
 pub fn in_order(mut rows: Vec<PlainRow>) -> Result<PlainTables, NoMemory>
-    ensures { IfOk result (λ tables. tables ≡ in_order_lem rows.items) }
+    ensures { IfOk result (λ tables. tables ≡ in_order_def rows.items) }
 {
     rows.reverse();
     rows.sort_by(compared)?;

@@ -1,24 +1,19 @@
 //! Calls on plain tables.
-ghost use Rattle.std.specs.Prelude.{◌≡◌, ◌≤◌, ◌↔◌, ◌++◌, ◌∷◌, [], IfOk, OnErr, IsErrOf, None, Some, Option, option_copied, drop, length, map, true};
-ghost use Rattle.stmt_meaning.specs.Answers.{DidAll, IsDone, IsMeaning};
-ghost use Rattle.stmt_meaning.specs.Effects.{effect as effect_lem, table_answer, first_of};
-ghost use Rattle.stmt_meaning.specs.Fitting.{IsBase};
-ghost use Rattle.stmt_meaning.specs.Meaning.{mean, mean1, seen_at, worked, statements_done, commit_answer};
-ghost use Rattle.stmt_meaning.specs.Plans.{place_of};
+ghost use Rattle.std.specs.Prelude.{◌≡◌, ◌++◌, ◌∷◌, [], IfOk, IsErrOf, List, None, Option, length};
+ghost use Rattle.svc_values.specs.Fitting.{IsBase};
 ghost use Rattle.svc_values.specs.SettingsList.{put_setting};
+ghost use Rattle.stmt_meaning.specs.InnerAnswers.{DidAll};
+ghost use Rattle.stmt_meaning.specs.Meaning.{AllDone, commit_answer, mean, statements_done, worked as worked_def};
+ghost use Rattle.stmt_meaning.specs.PlainRuns.{IsMeaning};
 ghost use Rattle.stmt_meaning.specs.declared.plain.PlainFault.TheVariants as plain_fault;
-ghost use Rattle.stmt_meaning.specs.declared.reading.Stop.TheVariants as stop;
 
-use crate::effect::{Effect, is_refusal, row_effect, shown};
-use crate::plan::{Plan, TableWork};
-use crate::reading::{Stop, plan_of};
-use crate::scan::Scan;
-use crate::tables::{Place, PlainRow, PlainTables};
-use crate::written::{put_write_if_any, stands_at, stands_in};
+use crate::fault::TxnFault;
+use crate::list_draws::ListDraws;
+use crate::rows::{Worked, run_statements};
 use std::alloc::{AllocFailed, Global};
 use svc_values::{
-    Answer, Answers, Call, Draw, Name, NoMemory, Row, Settings, Shape, Statement, TryCopy, Value,
-    copies,
+    Answer, Answers, Call, Draw, Draws, Name, Names, NoMemory, PlainTables, Settings, Shape,
+    Statement, TryCopy, Value, copies,
 };
 use thiserror::Error;
 
@@ -57,134 +52,6 @@ impl<T: Drop> From<AllocFailed<T>> for PlainFault {
     }
 }
 
-/// The row of a table and key. Linear in the rows.
-fn row_at<'a>(rows: &'a [PlainRow], table: &Name, key: &Value) -> Option<&'a Row>
-    ensures { option_copied result ≡ first_of (seen_at rows.now (Some (Place.Row table.now key.now))) }
-{
-    for row in rows {
-        if stands_at(row, table, key) {
-            return Some(&row.row);
-        }
-    }
-    None
-}
-
-/// The answer from all rows of a table. Linear in the rows.
-fn scan_table(
-    alloc: Global,
-    rows: &[PlainRow],
-    table: &Name,
-    work: TableWork,
-) -> Result<Answer, NoMemory>
-    ensures { IfOk result (λ answer. answer ≡ table_answer work (seen_at rows.now (Some (Place.Table table.now)))) }
-{
-    let mut scan = Scan::new(alloc, work);
-    for row in rows {
-        if stands_in(row, table) {
-            scan = scan.after(alloc, &row.row)?;
-            if scan.is_settled() {
-                return Ok(scan.answer());
-            }
-        }
-    }
-    Ok(scan.answer())
-}
-
-/// What a plan answers and writes on these rows.
-fn effect_on(alloc: Global, rows: &[PlainRow], plan: Plan) -> Result<Effect, NoMemory>
-    ensures { IfOk result (λ effect. effect ≡ effect_lem plan (seen_at rows.now (place_of plan))) }
-{
-    match plan {
-        Plan::AtRow { table, key, work } => {
-            let row = row_at(rows, &table, &key);
-            row_effect(alloc, table, key, work, row)
-        }
-        Plan::InTable { table, work } => Ok(Effect {
-            answer: scan_table(alloc, rows, &table, work)?,
-            write: None,
-        }),
-        Plan::Show { value } => Ok(Effect {
-            answer: shown(alloc, value)?,
-            write: None,
-        }),
-    }
-}
-
-/// One statement on these rows.
-fn run_statement(
-    alloc: Global,
-    shape: &Shape,
-    rows: &[PlainRow],
-    settings: &Settings,
-    statement: &Statement,
-    draws: &[Draw],
-    used: &mut usize,
-) -> Result<Effect, PlainFault>
-    requires { used.old ≤ length draws.now }
-    ensures done { IfOk result (λ effect. IsDone (mean1 shape.now rows.now settings.now statement.now (drop used.old draws.now)) effect (drop used.new draws.now)) }
-    ensures differ { IsErrOf result PlainFault.DrawsDiffer → mean1 shape.now rows.now settings.now statement.now (drop used.old draws.now) ≡ None }
-    ensures within { used.new ≤ length draws.now }
-{
-    match plan_of(alloc, shape, settings, statement, draws, used) {
-        Ok(plan) => Ok(effect_on(alloc, rows, plan)?),
-        Err(Stop::NoMemory) => Err(PlainFault::NoMemory),
-        Err(Stop::DrawsDiffer) => Err(PlainFault::DrawsDiffer),
-        Err(Stop::Refused(fault)) => Ok(Effect {
-            answer: Answer::Refused(fault),
-            write: None,
-        }),
-    }
-}
-
-/// What the statements of a call did: their answers, the rows after them, the draws that were used,
-/// and whether the last of them was refused.
-#[derive(Drop)]
-struct Worked {
-    answers: Vec<Answer>,
-    rows: Vec<PlainRow>,
-    used: usize,
-    is_refused: bool,
-}
-
-/// Statements, each on the rows after those before it, up to the first that is refused.
-fn run_statements(
-    alloc: Global,
-    shape: &Shape,
-    tables: &PlainTables,
-    settings: &Settings,
-    statements: &[Statement],
-    draws: &[Draw],
-) -> Result<Worked, PlainFault>
-    ensures done { IfOk result (λ worked. DidAll (statements_done shape.now tables.now settings.now statements.now draws.now) tables.now draws.now worked.answers.items worked.rows.items worked.used worked.is_refused) }
-    ensures differ { IsErrOf result PlainFault.DrawsDiffer → statements_done shape.now tables.now settings.now statements.now draws.now ≡ None }
-{
-    let mut rows = copies(alloc, tables.as_slice())?;
-    let mut answers = Vec::new(alloc);
-    let mut used = 0;
-    for statement in statements {
-        let slice = rows.as_slice();
-        let effect = run_statement(alloc, shape, slice, settings, statement, draws, &mut used)?;
-        let Effect { answer, write } = effect;
-        let is_refused = is_refusal(&answer);
-        answers.push(answer)?;
-        if is_refused {
-            return Ok(Worked {
-                answers,
-                rows,
-                used,
-                is_refused,
-            });
-        }
-        put_write_if_any(&mut rows, write)?;
-    }
-    Ok(Worked {
-        answers,
-        rows,
-        used,
-        is_refused: false,
-    })
-}
-
 /// The answers of a call, ended by a commit or not.
 fn with_commit(mut answers: Vec<Answer>, commit: bool) -> Result<Answers, NoMemory>
     ensures { IfOk result (λ all. all ≡ answers.items ++ commit_answer commit) }
@@ -195,28 +62,24 @@ fn with_commit(mut answers: Vec<Answer>, commit: bool) -> Result<Answers, NoMemo
     Ok(Answers::from_vec(answers))
 }
 
-/// A work call.
-fn run_work(
+/// What a work call did, from what its statements did.
+fn finished(
     alloc: Global,
-    shape: &Shape,
     tables: &PlainTables,
     settings: &Settings,
-    statements: &[Statement],
     commit: bool,
-    draws: &[Draw],
-) -> Result<PlainRun, PlainFault>
-    ensures ok { IfOk result (IsMeaning (worked tables.now settings.now commit (statements_done shape.now tables.now settings.now statements.now draws.now)) draws.now) }
-    ensures differ { IsErrOf result PlainFault.DrawsDiffer → worked tables.now settings.now commit (statements_done shape.now tables.now settings.now statements.now draws.now) ≡ None }
+    worked: Worked,
+) -> Result<PlainRun, NoMemory>
+    ensures { IfOk result (λ run. (all : Option AllDone) (draws : List Draw) → DidAll all tables.now draws worked.answers.items worked.rows.items (length worked.drawn.items) worked.is_refused → IsMeaning (worked_def tables.now settings.now commit all) draws run) }
 {
-    let worked = run_statements(alloc, shape, tables, settings, statements, draws)?;
     let Worked {
         answers,
         rows,
-        used,
+        drawn,
         is_refused,
     } = worked;
     let settings = settings.copy(alloc)?;
-    let used = used as u64;
+    let used = drawn.len() as u64;
     if is_refused {
         return Ok(PlainRun {
             answers: Answers::from_vec(answers),
@@ -231,6 +94,37 @@ fn run_work(
         settings,
         used,
     })
+}
+
+/// These draws as a source of the sequences of these names.
+fn source_of(alloc: Global, names: &Names, draws: &[Draw]) -> Result<ListDraws, NoMemory>
+    ensures { IfOk result (λ source. source ≡ record { names = names.now; draws = draws.now }) }
+{
+    let names = names.copy(alloc)?;
+    let draws = Draws::from_vec(copies(alloc, draws)?);
+    Ok(ListDraws::new(names, draws))
+}
+
+/// A work call.
+fn run_work(
+    alloc: Global,
+    shape: &Shape,
+    tables: &PlainTables,
+    settings: &Settings,
+    statements: &[Statement],
+    commit: bool,
+    draws: &[Draw],
+) -> Result<PlainRun, PlainFault>
+    ensures ok { IfOk result (IsMeaning (worked_def tables.now settings.now commit (statements_done shape.now tables.now settings.now statements.now draws.now)) draws.now) }
+    ensures differ { IsErrOf result PlainFault.DrawsDiffer → worked_def tables.now settings.now commit (statements_done shape.now tables.now settings.now statements.now draws.now) ≡ None }
+{
+    let mut source = source_of(alloc, &shape.sequences, draws)?;
+    let schemas = shape.schemas.as_slice();
+    match run_statements(alloc, schemas, tables, settings, statements, &mut source) {
+        Ok(worked) => Ok(finished(alloc, tables, settings, commit, worked)?),
+        Err(TxnFault::NoMemory) => Err(PlainFault::NoMemory),
+        Err(TxnFault::Stopped) => Err(PlainFault::DrawsDiffer),
+    }
 }
 
 /// A call without statements: it draws nothing and leaves the tables.

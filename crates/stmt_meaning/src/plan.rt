@@ -2,9 +2,8 @@
 ghost use Rattle.std.specs.Prelude.{◌≡◌, IfOk};
 ghost use Rattle.stmt_meaning.specs.Plans.{place_of};
 
-use crate::tables::Place;
 use std::alloc::Global;
-use svc_values::{Name, NoMemory, Row, Test, TryCopy, Value};
+use svc_values::{Name, NoMemory, Place, Row, Test, TryCopy, Value};
 
 /// What is done to the row of a key. A column is told by its place, from 0.
 #[derive(Drop)]

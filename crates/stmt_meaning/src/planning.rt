@@ -1,8 +1,9 @@
 //! The plan of a statement, from the values of its operands: the checks of their kinds.
 ghost use Rattle.std.specs.Prelude.{◌≡◌, option_copied, slice_get};
-ghost use Rattle.stmt_meaning.specs.Answers.{IsPlanned};
-ghost use Rattle.stmt_meaning.specs.Plans.{is_column_kind as is_column_kind_lem, key_fits as key_fits_lem, key_plan as key_plan_lem, set_plan as set_plan_lem, add_plan as add_plan_lem, change_plan as change_plan_lem, select_plan as select_plan_lem, show_plan as show_plan_lem, plan_for as plan_for_lem, if_kinds_fit, key_of};
-ghost use Rattle.stmt_meaning.specs.Seen.{aim};
+ghost use Rattle.stmt_meaning.specs.InnerAnswers.{IsPlanned};
+ghost use Rattle.svc_values.specs.Schemas.{is_column_kind as is_column_kind_def, key_fits as key_fits_def, key_of};
+ghost use Rattle.stmt_meaning.specs.Plans.{key_plan as key_plan_def, set_plan as set_plan_def, add_plan as add_plan_def, change_plan as change_plan_def, select_plan as select_plan_def, show_plan as show_plan_def, plan_for as plan_for_def, if_kinds_fit};
+ghost use Rattle.stmt_meaning.specs.InnerSeen.{aim};
 ghost use Rattle.svc_values.specs.Kinds.{row_fits};
 ghost use Rattle.stmt_meaning.specs.declared.planning.PlanFault.TheVariants as plan_fault;
 
@@ -34,7 +35,7 @@ impl From<NoMemory> for PlanFault {
 
 /// Whether the column at this place is of this kind.
 pub fn is_column_kind(columns: &[Column], at: usize, kind: Kind) -> bool
-    ensures { result ≡ is_column_kind_lem columns.now at kind }
+    ensures { result ≡ is_column_kind_def columns.now at kind }
 {
     match columns.get(at) {
         None => false,
@@ -49,7 +50,7 @@ fn key_plan(
     work: RowWork,
     key: Option<&Value>,
 ) -> Result<Plan, PlanFault>
-    ensures { IsPlanned result (key_plan_lem (aim target.now) table.now work (option_copied key.entry)) }
+    ensures { IsPlanned result (key_plan_def (aim target.now) table.now work (option_copied key.entry)) }
 {
     match key {
         Some(key) if is_column_kind(target.columns, 0, key.kind()) => Ok(Plan::AtRow {
@@ -68,7 +69,7 @@ fn set_plan(
     key: Option<&Value>,
     to: Option<&Value>,
 ) -> Result<Plan, PlanFault>
-    ensures { IsPlanned result (set_plan_lem (aim target.now) table.now (option_copied key.entry) (option_copied to.entry)) }
+    ensures { IsPlanned result (set_plan_def (aim target.now) table.now (option_copied key.entry) (option_copied to.entry)) }
 {
     let column = target.at;
     match to {
@@ -87,7 +88,7 @@ fn add_plan(
     key: Option<&Value>,
     by: Option<&Value>,
 ) -> Result<Plan, PlanFault>
-    ensures { IsPlanned result (add_plan_lem (aim target.now) table.now (option_copied key.entry) (option_copied by.entry)) }
+    ensures { IsPlanned result (add_plan_def (aim target.now) table.now (option_copied key.entry) (option_copied by.entry)) }
 {
     let column = target.at;
     match by {
@@ -106,7 +107,7 @@ fn change_plan(
     change: &Change,
     values: &Row,
 ) -> Result<Plan, PlanFault>
-    ensures { IsPlanned result (change_plan_lem (aim target.now) table.now change.now (slice_get values.now 0) (slice_get values.now 1)) }
+    ensures { IsPlanned result (change_plan_def (aim target.now) table.now change.now (slice_get values.now 0) (slice_get values.now 1)) }
 {
     match change {
         Change::To(_) => set_plan(alloc, target, table, values.get(0), values.get(1)),
@@ -121,7 +122,7 @@ fn select_plan(
     test: Test,
     than: Option<&Value>,
 ) -> Result<Plan, PlanFault>
-    ensures { IsPlanned result (select_plan_lem (aim target.now) table.now test (option_copied than.entry)) }
+    ensures { IsPlanned result (select_plan_def (aim target.now) table.now test (option_copied than.entry)) }
 {
     let column = target.at;
     match than {
@@ -158,7 +159,7 @@ fn insert_plan(alloc: Global, target: &Target, table: &Name, values: Row) -> Res
 }
 
 fn show_plan(alloc: Global, shown: Option<&Value>) -> Result<Plan, PlanFault>
-    ensures { IsPlanned result (show_plan_lem (option_copied shown.entry)) }
+    ensures { IsPlanned result (show_plan_def (option_copied shown.entry)) }
 {
     match shown {
         None => Err(PlanFault::Refused(StatementFault::KindDiffers)),
@@ -169,7 +170,7 @@ fn show_plan(alloc: Global, shown: Option<&Value>) -> Result<Plan, PlanFault>
 }
 
 fn sum_plan(alloc: Global, target: &Target, table: &Name) -> Result<Plan, PlanFault>
-    ensures { IsPlanned result (if_kinds_fit (is_column_kind_lem (aim target.now).columns target.now.at Kind.Int) (Plan.InTable table.now (TableWork.Sum target.now.at))) }
+    ensures { IsPlanned result (if_kinds_fit (is_column_kind_def (aim target.now).columns target.now.at Kind.Int) (Plan.InTable table.now (TableWork.Sum target.now.at))) }
 {
     let column = target.at;
     if !is_column_kind(target.columns, column, Kind::Int) {
@@ -198,7 +199,7 @@ pub fn plan_for(
     statement: &Statement,
     values: Row,
 ) -> Result<Plan, PlanFault>
-    ensures { IsPlanned result (plan_for_lem (aim target.now) statement.now values) }
+    ensures { IsPlanned result (plan_for_def (aim target.now) statement.now values) }
 {
     match statement {
         Statement::Insert { table, .. } => insert_plan(alloc, target, table, values),

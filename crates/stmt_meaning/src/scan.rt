@@ -4,14 +4,14 @@ ghost use Rattle.std.specs.Ordering.{match_ordering};
 ghost use Rattle.svc_values.specs.declared.value.Value.{Value as Kept};
 ghost use Rattle.svc_values.specs.Order.{value_cmp};
 ghost use Rattle.stmt_meaning.specs.declared.plan.TableWork.{TableWork as Work};
-ghost use Rattle.stmt_meaning.specs.Effects.{meets as meets_lem, value_meets as value_meets_lem, number_at as number_at_lem, summed as summed_lem};
-ghost use Rattle.stmt_meaning.specs.Scans.{scanned, next_scan, last_answer, is_settled as is_settled_lem};
+ghost use Rattle.svc_values.specs.Tests.{meets as meets_def, value_meets as value_meets_def};
+ghost use Rattle.stmt_meaning.specs.Effects.{number_at as number_at_def, summed as summed_def};
+ghost use Rattle.stmt_meaning.specs.InnerScans.{scanned, next_scan, last_answer, is_settled as is_settled_def};
 
 use crate::effect::number_at;
 use crate::plan::TableWork;
 use std::alloc::Global;
-use std::cmp::Ordering;
-use svc_values::{Answer, NoMemory, Row, Rows, StatementFault, Test, TryCopy, Value};
+use svc_values::{Answer, NoMemory, Row, Rows, StatementFault, Test, TryCopy, Value, value_meets};
 
 /// A select, a count or a sum on its way over the rows of a table: what it has found in those that it
 /// was shown so far. A select keeps no more than 32 rows.
@@ -32,28 +32,6 @@ pub enum Scan {
         column: usize,
         total: i128,
     },
-}
-
-/// Whether a comparison with this outcome meets the test.
-fn meets(test: Test, order: Ordering) -> bool
-    ensures { result ≡ meets_lem test order }
-{
-    match test {
-        Test::Eq => order == Ordering::Equal,
-        Test::Lt => order == Ordering::Less,
-        Test::Ge => order != Ordering::Less,
-    }
-}
-
-/// Whether the value that stands in a column, if any, meets the test against the given one. Linear in
-/// the shorter value.
-pub fn value_meets(test: Test, value: &Value, there: Option<&Value>) -> bool
-    ensures { result ≡ value_meets_lem test value.now (option_copied there.entry) }
-{
-    match there {
-        None => false,
-        Some(there) => meets(test, there.cmp(value)),
-    }
 }
 
 /// The rows with a copy of this one last.
@@ -97,7 +75,7 @@ fn selected(
 
 /// A sum, if it is an integer of 64 bits.
 fn summed(total: i128) -> Answer
-    ensures { result ≡ summed_lem total }
+    ensures { result ≡ summed_def total }
 {
     match i64::try_from(total) {
         Ok(total) => Answer::Number(total),
@@ -155,7 +133,7 @@ impl Scan {
 
     /// Whether no further row can change the answer: a select that 33 rows met is refused.
     pub fn is_settled(&self) -> bool
-        ensures test { result ≡ is_settled_lem self.now }
+        ensures test { result ≡ is_settled_def self.now }
         ensures settled { IsTrue result → (rows : List (List Kept)) → last_answer (fold next_scan self.now rows) ≡ last_answer self.now }
     {
         match self {

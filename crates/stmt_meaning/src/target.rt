@@ -1,9 +1,10 @@
 //! Where a statement works: the checks of its names.
 ghost use Rattle.std.specs.Prelude.{◌≡◌, option_copied};
-ghost use Rattle.stmt_meaning.specs.Plans.{aim_of, column_of as column_of_lem, schema_of as schema_of_lem, in_table as in_table_lem, in_column as in_column_lem, whole};
-ghost use Rattle.stmt_meaning.specs.Seen.{aim_seen};
+ghost use Rattle.stmt_meaning.specs.Plans.{aim_of, in_table as in_table_def, in_column as in_column_def, whole};
+ghost use Rattle.svc_values.specs.Schemas.{column_of as column_of_def, schema_of as schema_of_def};
+ghost use Rattle.stmt_meaning.specs.InnerSeen.{aim_seen};
 
-use svc_values::{Column, Name, Schema, Statement, StatementFault};
+use svc_values::{Column, Name, Schema, Statement, StatementFault, schema_of};
 
 /// Where a statement works: the columns of its table, and the place of the column that it names, from
 /// 0, or 0 where it names none.
@@ -13,22 +14,15 @@ pub struct Target<'a> {
     pub at: usize,
 }
 
-/// The declaration of a table. Linear in the tables, which are at most 32.
-pub fn schema_of<'a>(schemas: &'a [Schema], table: &Name) -> Option<&'a Schema>
-    ensures { option_copied result ≡ schema_of_lem schemas.now table.now }
-{
-    schemas.iter().find(|schema| schema.name == *table)
-}
-
 /// The place of a column. Linear in the columns, which are at most eight.
 fn column_of(columns: &[Column], column: &Name) -> Option<usize>
-    ensures { result ≡ column_of_lem columns.now column.now }
+    ensures { result ≡ column_of_def columns.now column.now }
 {
     columns.iter().position(|one| one.name == *column)
 }
 
 fn in_table<'a>(schemas: &'a [Schema], table: &Name) -> Result<Target<'a>, StatementFault>
-    ensures { aim_seen result ≡ in_table_lem (schema_of_lem schemas.now table.now) whole }
+    ensures { aim_seen result ≡ in_table_def (schema_of_def schemas.now table.now) whole }
 {
     match schema_of(schemas, table) {
         None => Err(StatementFault::NoTable),
@@ -44,7 +38,7 @@ fn in_column<'a>(
     table: &Name,
     column: &Name,
 ) -> Result<Target<'a>, StatementFault>
-    ensures { aim_seen result ≡ in_table_lem (schema_of_lem schemas.now table.now) (in_column_lem column.now) }
+    ensures { aim_seen result ≡ in_table_def (schema_of_def schemas.now table.now) (in_column_def column.now) }
 {
     let Some(schema) = schema_of(schemas, table) else {
         return Err(StatementFault::NoTable);

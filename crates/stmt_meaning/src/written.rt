@@ -1,15 +1,14 @@
 //! Plain tables after a write.
 ghost use Rattle.std.specs.Prelude.{◌≡◌, ◌≤◌, OnOk, OnErr, position, option_to_list};
 ghost use Rattle.std.specs.Vec.{vec_capacity, vec_len};
-ghost use Rattle.stmt_meaning.specs.Tables.{is_at, comes_before as comes_before_lem, put_row as put_row_lem, with_write, with_writes, without};
+ghost use Rattle.svc_values.specs.Tables.{is_at, comes_before as comes_before_def, put_row as put_row_def, with_write, with_writes, without};
 
-use crate::tables::{Place, PlainRow};
 use std::cmp::Ordering;
-use svc_values::{Name, NoMemory, Value, Write};
+use svc_values::{Name, NoMemory, Place, PlainRow, Value, Write};
 
 /// By table, and in a table by key.
 pub fn comes_before(a: &PlainRow, b: &PlainRow) -> bool
-    ensures { result ≡ comes_before_lem a.now b.now }
+    ensures { result ≡ comes_before_def a.now b.now }
 {
     match a.table.cmp(&b.table) {
         Ordering::Less => true,
@@ -20,7 +19,7 @@ pub fn comes_before(a: &PlainRow, b: &PlainRow) -> bool
 
 /// Where the first row stands that comes after this one.
 fn first_after(rows: &[PlainRow], row: &PlainRow) -> Option<usize>
-    ensures { result ≡ position (λ other. comes_before_lem row.now other) rows.now }
+    ensures { result ≡ position (λ other. comes_before_def row.now other) rows.now }
 {
     rows.iter().position(|other| comes_before(row, other))
 }
@@ -50,7 +49,7 @@ fn remove_row(rows: &mut Vec<PlainRow>, table: &Name, key: &Value)
 
 /// Puts the row in before the first that it comes before. Where there is room for it, it is put in.
 fn put_row(rows: &mut Vec<PlainRow>, row: PlainRow) -> Result<(), NoMemory>
-    ensures ok { OnOk result (rows.new.items ≡ put_row_lem row rows.old.items) }
+    ensures ok { OnOk result (rows.new.items ≡ put_row_def row rows.old.items) }
     ensures full { OnErr result (vec_capacity rows.old ≤ vec_len rows.old) }
 {
     let at = first_after(rows.as_slice(), &row).unwrap_or(rows.len());

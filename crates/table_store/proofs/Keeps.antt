@@ -7,11 +7,11 @@ use Rattle.std.specs.List.{list_all}
 use Rattle.svc_values.specs.declared.value.Value.{Value}
 use Rattle.svc_values.specs.declared.schema.Schema.{Schema}
 use Rattle.svc_values.specs.declared.entry.Write.{Write}
-use Rattle.stmt_meaning.specs.declared.tables.PlainRow.{PlainRow}
-use Rattle.stmt_meaning.specs.declared.tables.Place.TheVariants as place
-use Rattle.stmt_meaning.specs.Tables.{is_at, rows_at, put_row, without, with_write, with_writes, in_order}
-use Rattle.stmt_meaning.specs.Plans.{schema_of, key_of}
-use Rattle.stmt_meaning.specs.Fitting.{is_row_of, has_fit, write_fits, tables_fit}
+use Rattle.svc_values.specs.declared.tables.PlainRow.{PlainRow}
+use Rattle.svc_values.specs.declared.tables.Place.TheVariants as place
+use Rattle.svc_values.specs.Tables.{is_at, rows_at, put_row, without, with_write, with_writes, in_order}
+use Rattle.svc_values.specs.Schemas.{schema_of, key_of}
+use Rattle.svc_values.specs.Fitting.{is_row_of, has_fit, write_fits, tables_fit}
 use Rattle.table_store.specs.Rows.{Keyed, Shelves, IsShelved, plain_rows, all_rows}
 use Rattle.table_store.specs.Shelves.{Changes}
 use Rattle.table_store.specs.declared.tables.TableRow.{TableRow}

@@ -18,11 +18,11 @@ use Rattle.std.proofs.lemmas.Map.Lookups.{exact_bytes}
 use Rattle.svc_values.specs.declared.value.Value.{Value}
 use Rattle.svc_values.specs.Order.{value_cmp}
 use Rattle.svc_values.specs.SameLaws.{bytes_decide}
-use Rattle.svc_values.proofs.ValueOrder.{value_cmp_total, exact_values}
-use Rattle.stmt_meaning.specs.declared.tables.PlainRow.{PlainRow}
-use Rattle.stmt_meaning.specs.declared.tables.Place.{Place}
-use Rattle.stmt_meaning.specs.declared.tables.Place.TheVariants as place
-use Rattle.stmt_meaning.specs.Tables.{is_at, rows_at, comes_before, ComesFirst, AreTables}
+use Rattle.svc_values.proofs.Offered.{value_cmp_total, exact_values}
+use Rattle.svc_values.specs.declared.tables.PlainRow.{PlainRow}
+use Rattle.svc_values.specs.declared.tables.Place.{Place}
+use Rattle.svc_values.specs.declared.tables.Place.TheVariants as place
+use Rattle.svc_values.specs.Tables.{is_at, rows_at, comes_before, ComesFirst, AreTables}
 use Rattle.table_store.specs.Rows.{Keyed, KeysRise, Shelves, IsShelved, plain_row, plain_rows, all_rows, rows_if_any, row_if_any, shelf_of, keyed_of, keyed_if_any, row_kept}
 use Rattle.table_store.proofs.Places.{at_place, at_place_if}
 use Rattle.table_store.proofs.Alike.{filter_pass, filter_skip}

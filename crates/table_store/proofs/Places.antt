@@ -14,10 +14,10 @@ use Rattle.svc_values.specs.declared.value.Value.{Value}
 use Rattle.svc_values.specs.Order.{value_cmp}
 use Rattle.svc_values.specs.Same.{same_value}
 use Rattle.svc_values.specs.SameLaws.{bytes_decide, same_value_decides}
-use Rattle.svc_values.proofs.ValueOrder.{value_cmp_total, exact_values}
-use Rattle.stmt_meaning.specs.declared.tables.PlainRow.{PlainRow}
-use Rattle.stmt_meaning.specs.declared.tables.Place.TheVariants as place
-use Rattle.stmt_meaning.specs.Tables.{is_at, comes_before}
+use Rattle.svc_values.proofs.Offered.{value_cmp_total, exact_values}
+use Rattle.svc_values.specs.declared.tables.PlainRow.{PlainRow}
+use Rattle.svc_values.specs.declared.tables.Place.TheVariants as place
+use Rattle.svc_values.specs.Tables.{is_at, comes_before}
 
 -- by table, and then by key
 abbrev pub row_cmp : PlainRow → PlainRow → Ordering

@@ -1,7 +1,7 @@
 -- Rows as they are given to tables.
 use Rattle.std.specs.Prelude.{List, map}
-use Rattle.stmt_meaning.specs.declared.tables.PlainRow.{PlainRow}
-use Rattle.stmt_meaning.specs.Plans.{key_of}
+use Rattle.svc_values.specs.declared.tables.PlainRow.{PlainRow}
+use Rattle.svc_values.specs.Schemas.{key_of}
 use Rattle.table_store.specs.declared.tables.TableRow.{TableRow}
 
 -- each with its key

@@ -8,7 +8,7 @@ use Rattle.std.specs.BTreeMap.{is_at}
 use Rattle.std.specs.Map.{keys_of, lookup}
 use Rattle.svc_values.specs.declared.value.Value.{Value}
 use Rattle.svc_values.specs.Order.{value_cmp}
-use Rattle.stmt_meaning.specs.declared.tables.PlainRow.{PlainRow}
+use Rattle.svc_values.specs.declared.tables.PlainRow.{PlainRow}
 
 -- the rows of one table, each with its key
 abbrev pub Keyed : Type 0

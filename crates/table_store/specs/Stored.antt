@@ -2,10 +2,10 @@
 use Rattle.std.specs.Prelude.{◌≡◌, ℕ, List, [], ◌∷◌, IsTrue, take}
 use Rattle.svc_values.specs.declared.schema.Schema.{Schema}
 use Rattle.svc_values.specs.declared.entry.Write.{Write}
-use Rattle.stmt_meaning.specs.declared.tables.PlainRow.{PlainRow}
-use Rattle.stmt_meaning.specs.declared.tables.Place.TheVariants as place
-use Rattle.stmt_meaning.specs.Tables.{rows_at, with_writes, AreTables}
-use Rattle.stmt_meaning.specs.Fitting.{tables_fit}
+use Rattle.svc_values.specs.declared.tables.PlainRow.{PlainRow}
+use Rattle.svc_values.specs.declared.tables.Place.TheVariants as place
+use Rattle.svc_values.specs.Tables.{rows_at, with_writes, AreTables}
+use Rattle.svc_values.specs.Fitting.{tables_fit}
 use Rattle.table_store.specs.Rows.{Shelves, IsShelved, all_rows}
 
 -- the declarations, in the order in which they were given, and all rows, in the order of table and key

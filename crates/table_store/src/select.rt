@@ -2,13 +2,12 @@
 ghost use Rattle.std.specs.Prelude.{◌≡◌, IfOk};
 ghost use Rattle.std.specs.Option.{option_map};
 ghost use Rattle.std.specs.Map.{values_of};
-ghost use Rattle.stmt_meaning.specs.Effects.{selected as selected_lem};
+ghost use Rattle.svc_values.specs.Tests.{selected as selected_def};
 ghost use Rattle.table_store.specs.Selection.{at_most_32};
 
 use crate::row_map::RowMap;
 use std::alloc::Global;
-use stmt_meaning::value_meets;
-use svc_values::{NoMemory, Row, Test, TryCopy, Value};
+use svc_values::{NoMemory, Row, Test, TryCopy, Value, value_meets};
 
 /// The most rows that a select answers.
 const ROW_LIMIT: usize = 32;
@@ -22,7 +21,7 @@ pub(crate) fn selected(
     test: Test,
     value: &Value,
 ) -> Result<Option<Vec<Row>>, NoMemory>
-    ensures { IfOk result (λ found. option_map (λ rows. rows.items) found ≡ at_most_32 (selected_lem column test value.now (values_of rows.now))) }
+    ensures { IfOk result (λ found. option_map (λ rows. rows.items) found ≡ at_most_32 (selected_def column test value.now (values_of rows.now))) }
 {
     let mut found = Vec::new(alloc);
     for row in rows.as_map().values() {

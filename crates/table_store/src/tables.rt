@@ -3,11 +3,11 @@ ghost use Rattle.std.specs.Prelude.{◌≡◌, IsTrue, None, OnOk, OnErr, IfOk, 
 ghost use Rattle.std.specs.Option.{option_copied, option_map};
 ghost use Rattle.std.specs.Map.{values_of};
 ghost use Rattle.svc_values.specs.Same.{same_value};
-ghost use Rattle.stmt_meaning.specs.declared.tables.Place.TheVariants as place;
-ghost use Rattle.stmt_meaning.specs.Tables.{rows_at, with_write, with_writes, in_order};
-ghost use Rattle.stmt_meaning.specs.Plans.{schema_of as schema_of_lem, key_of as key_of_lem};
-ghost use Rattle.stmt_meaning.specs.Effects.{selected as selected_lem};
-ghost use Rattle.stmt_meaning.specs.Fitting.{is_row_of, has_fit, tables_fit, write_fits, writes_fit};
+ghost use Rattle.svc_values.specs.declared.tables.Place.TheVariants as place;
+ghost use Rattle.svc_values.specs.Tables.{rows_at, with_write, with_writes, in_order};
+ghost use Rattle.svc_values.specs.Schemas.{schema_of as schema_of_def, key_of as key_of_def};
+ghost use Rattle.svc_values.specs.Tests.{selected as selected_def};
+ghost use Rattle.svc_values.specs.Fitting.{is_row_of, has_fit, tables_fit, write_fits, writes_fit};
 ghost use Rattle.table_store.specs.Rows.{rows_if_any, row_if_any};
 ghost use Rattle.table_store.specs.Given.{plain};
 ghost use Rattle.table_store.specs.Selection.{at_most_32};
@@ -19,8 +19,9 @@ use crate::shelves::{self, Shelves};
 use std::alloc::Global;
 use std::collections::BTreeMap;
 use std::marker::Model;
-use stmt_meaning::schema_of;
-use svc_values::{Name, NoMemory, Row, Schema, Schemas, Test, TryCopy, Value, Write, Writes};
+use svc_values::{
+    Name, NoMemory, Row, Schema, Schemas, Test, TryCopy, Value, Write, Writes, schema_of,
+};
 
 /// A row that a table begins with. Its first value is its key.
 #[derive(Drop)]
@@ -73,7 +74,7 @@ impl Tables {
     /// The declaration of a table, `None` exactly where there is no such table. Linear in the tables,
     /// which are at most 32. It takes no memory.
     pub fn schema(&self, table: &Name) -> Option<&Schema>
-        ensures { option_copied result ≡ schema_of_lem self.now.schemas table.now }
+        ensures { option_copied result ≡ schema_of_def self.now.schemas table.now }
     {
         schema_of(self.schemas.as_slice(), table)
     }
@@ -142,7 +143,7 @@ impl Tables {
         test: Test,
         value: &Value,
     ) -> Result<Option<Vec<Row>>, NoMemory>
-        ensures { IfOk result (λ found. option_map (λ rows. rows.items) found ≡ at_most_32 (selected_lem column test value.now (map (λ one. one.row) (rows_at self.now.rows (place.Table table.now))))) }
+        ensures { IfOk result (λ found. option_map (λ rows. rows.items) found ≡ at_most_32 (selected_def column test value.now (map (λ one. one.row) (rows_at self.now.rows (place.Table table.now))))) }
     {
         match self.row_map(table) {
             None => Ok(Some(Vec::new(self.alloc))),
@@ -184,7 +185,7 @@ impl Tables {
 
     /// Puts a row in the place of that of its key, if any.
     fn put(&mut self, table: &Name, key: Value, row: Row) -> Result<(), NoMemory>
-        requires { IsTrue (is_row_of (schema_of_lem self.old.schemas table.now) key row) }
+        requires { IsTrue (is_row_of (schema_of_def self.old.schemas table.now) key row) }
         ensures ok { OnOk result (self.new ≡ record { schemas = self.old.schemas; rows = with_write self.old.rows (record { table = table.now; key = key; row = Some row }) }) }
         ensures err { OnErr result (self.new ≡ self.old) }
         ensures kept { AreKept self.new }
@@ -216,7 +217,7 @@ fn write_fits_schema(schema: &Schema, key: &Value, row: &Option<Row>) -> bool
 
 /// Whether the key is the first value of the row.
 fn is_key_of(key: &Value, row: &Row) -> bool
-    ensures { result ≡ same_value (key_of_lem row.now) key.now }
+    ensures { result ≡ same_value (key_of_def row.now) key.now }
 {
     match row.get(0) {
         None => Value::Int(0) == *key,
@@ -226,7 +227,7 @@ fn is_key_of(key: &Value, row: &Row) -> bool
 
 /// The first value of a row: its key. (A row has a value for each column, and a table has a column.)
 fn key_of(alloc: Global, row: &Row) -> Result<Value, NoMemory>
-    ensures { IfOk result (λ key. key ≡ key_of_lem row.now) }
+    ensures { IfOk result (λ key. key ≡ key_of_def row.now) }
 {
     match row.get(0) {
         None => Ok(Value::Int(0)),

@@ -12,18 +12,17 @@ use Rattle.std.specs.Cmp.Lexicographic.{pointwise}
 use Rattle.std.specs.Str.{bytes_eq}
 use Rattle.std.proofs.lemmas.Bool.{cases_Bool}
 use Rattle.svc_values.specs.declared.value.Value.{Value}
-use Rattle.svc_values.specs.Same.{same_value}
+use Rattle.svc_values.specs.Same.{same_value, same_place, same_row, same_rows}
 use Rattle.svc_values.specs.SameLaws.{bytes_decide, same_value_decides}
-use Rattle.stmt_meaning.specs.declared.tables.PlainRow.{PlainRow}
-use Rattle.stmt_meaning.specs.declared.tables.Place.{Place}
-use Rattle.stmt_meaning.specs.declared.tables.Place.TheVariants as place
-use Rattle.stmt_meaning.specs.contracts.tables.PlaceOrd.TheImpl.{cmp-value as cmp-place}
-use Rattle.stmt_meaning.specs.Tables.{rows_at}
+use Rattle.svc_values.specs.declared.tables.PlainRow.{PlainRow}
+use Rattle.svc_values.specs.declared.tables.Place.{Place}
+use Rattle.svc_values.specs.declared.tables.Place.TheVariants as place
+use Rattle.svc_values.specs.contracts.tables.PlaceOrd.TheImpl.{cmp-value as cmp-place}
+use Rattle.svc_values.specs.Tables.{rows_at}
 use Rattle.table_store.specs.Rows.{Keyed, plain_rows, row_if_any}
 use Rattle.table_txn.specs.declared.found.Found.{Found}
 use Rattle.table_txn.specs.declared.found.Found.TheVariants as found
 use Rattle.table_txn.specs.declared.notes.Noted.{Noted}
-use Rattle.table_txn.specs.Places.{same_place, same_row, same_rows}
 use Rattle.table_txn.specs.Notes.{Note, note_of, noted, HasNoted, AreApart, first_changed}
 use Rattle.table_txn.specs.Found.{is_for, found_rows, same_optional, same_keyed, same_found, IsFoundAt, note, notes_of, are_for, IsNoted}
 use Rattle.table_txn.proofs.Same.{both, both_if, cmp_place_is, same_place_decides, same_place_sym}

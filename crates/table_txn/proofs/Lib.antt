@@ -1,7 +1,3 @@
-pub mod Asking
-pub mod Drawn
-pub mod Values
-pub mod Planned
 pub mod LatestLaws
 pub mod OwnLaws
 pub mod Same

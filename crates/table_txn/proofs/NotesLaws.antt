@@ -5,11 +5,11 @@ use Rattle.std.specs.List.{All, AllByRecursion, Contains}
 use Rattle.std.proofs.lemmas.Bool.{cases_Bool}
 use Rattle.std.proofs.lemmas.List.{map-append}
 use Rattle.std.proofs.lemmas.List.Elements.{filter-append, All-from_recursion, recursion_from_All, Contains-get_or}
-use Rattle.stmt_meaning.specs.declared.tables.PlainRow.{PlainRow}
-use Rattle.stmt_meaning.specs.declared.tables.Place.{Place}
-use Rattle.stmt_meaning.specs.Tables.{rows_at}
-use Rattle.table_txn.specs.Places.{same_place, same_rows}
-use Rattle.table_txn.specs.Reads.{Read, read_at, reads_at, IsConflict}
+use Rattle.svc_values.specs.declared.tables.PlainRow.{PlainRow}
+use Rattle.svc_values.specs.declared.tables.Place.{Place}
+use Rattle.svc_values.specs.Tables.{rows_at}
+use Rattle.svc_values.specs.Same.{same_place, same_rows}
+use Rattle.stmt_meaning.specs.Reads.{Read, read_at, reads_at, IsConflict}
 use Rattle.table_txn.specs.Notes.{Note, found_at, note_of, IsNoteOf, AreNotes, noted, HasNoted, HasNotedIfAny, AreApart, first_changed}
 use Rattle.table_txn.proofs.Same.{same_place_decides, same_rows_decide}
 

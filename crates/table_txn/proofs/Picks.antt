@@ -19,10 +19,10 @@ use Rattle.svc_values.specs.declared.value.Value.{Value}
 use Rattle.svc_values.specs.Order.{value_cmp}
 use Rattle.svc_values.specs.Same.{same_value}
 use Rattle.svc_values.specs.SameLaws.{bytes_decide, same_value_decides}
-use Rattle.svc_values.proofs.ValueOrder.{value_cmp_total, exact_values}
-use Rattle.stmt_meaning.specs.declared.tables.PlainRow.{PlainRow}
-use Rattle.stmt_meaning.specs.declared.tables.Place.TheVariants as place
-use Rattle.stmt_meaning.specs.Tables.{rows_at, comes_before, ComesFirst, AreTables}
+use Rattle.svc_values.proofs.Offered.{value_cmp_total, exact_values}
+use Rattle.svc_values.specs.declared.tables.PlainRow.{PlainRow}
+use Rattle.svc_values.specs.declared.tables.Place.TheVariants as place
+use Rattle.svc_values.specs.Tables.{rows_at, comes_before, ComesFirst, AreTables}
 use Rattle.table_txn.proofs.Same.{both, both_if}
 
 -- the rows whose key meets a test

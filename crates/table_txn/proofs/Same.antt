@@ -13,15 +13,14 @@ use Rattle.svc_values.specs.declared.value.Value.{Value}
 use Rattle.svc_values.specs.declared.value.Value.TheVariants as value
 use Rattle.svc_values.specs.contracts.value.ValueOrd.TheImpl.{cmp-value}
 use Rattle.svc_values.specs.contracts.value.ValuePartialEq.TheImpl.{eq-value}
-use Rattle.svc_values.specs.Same.{same_value}
+use Rattle.svc_values.specs.Same.{same_value, same_place, same_row, same_rows}
 use Rattle.svc_values.specs.SameLaws.{bytes_decide, same_value_decides}
-use Rattle.svc_values.proofs.ValueOrder.{value_cmp_total, exact_values}
-use Rattle.stmt_meaning.specs.declared.tables.PlainRow.{PlainRow}
-use Rattle.stmt_meaning.specs.declared.tables.Place.{Place}
-use Rattle.stmt_meaning.specs.declared.tables.Place.TheVariants as place
-use Rattle.stmt_meaning.specs.contracts.tables.PlaceOrd.TheImpl.{cmp-value as cmp-place}
+use Rattle.svc_values.proofs.Offered.{value_cmp_total, exact_values}
+use Rattle.svc_values.specs.declared.tables.PlainRow.{PlainRow}
+use Rattle.svc_values.specs.declared.tables.Place.{Place}
+use Rattle.svc_values.specs.declared.tables.Place.TheVariants as place
+use Rattle.svc_values.specs.contracts.tables.PlaceOrd.TheImpl.{cmp-value as cmp-place}
 use Rattle.table_store.proofs.ValueCmp.{cmp_is}
-use Rattle.table_txn.specs.Places.{same_place, same_row, same_rows}
 
 by_kind : (a b : Value) → eq-value.it a b ≡ same_value a b
 by_kind (value.Int a) (value.Int b) = refl

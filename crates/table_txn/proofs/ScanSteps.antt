@@ -22,14 +22,14 @@ use Rattle.svc_values.specs.Same.{same_value}
 use Rattle.svc_values.specs.SameLaws.{bytes_decide}
 use Rattle.stmt_meaning.specs.declared.plan.TableWork.{TableWork}
 use Rattle.stmt_meaning.specs.declared.scan.Scan.{Scan}
-use Rattle.stmt_meaning.specs.declared.tables.PlainRow.{PlainRow}
-use Rattle.stmt_meaning.specs.declared.tables.Place.TheVariants as place
-use Rattle.stmt_meaning.specs.Tables.{is_at, rows_at, with_writes, AreTables}
+use Rattle.svc_values.specs.declared.tables.PlainRow.{PlainRow}
+use Rattle.svc_values.specs.declared.tables.Place.TheVariants as place
+use Rattle.svc_values.specs.Tables.{is_at, rows_at, with_writes, AreTables}
 use Rattle.stmt_meaning.specs.Effects.{table_answer}
 use Rattle.stmt_meaning.specs.Meaning.{seen_at}
-use Rattle.stmt_meaning.specs.Scans.{scanned, next_scan, last_answer}
-use Rattle.stmt_meaning.proofs.Local.{AreTables-filter, AreTables-with_writes}
-use Rattle.stmt_meaning.proofs.ScanLaws.{scanned-append, last_answer-scanned}
+use Rattle.stmt_meaning.specs.InnerScans.{scanned, next_scan, last_answer}
+use Rattle.svc_values.proofs.Offered.{AreTables-filter, AreTables-with_writes}
+use Rattle.stmt_meaning.proofs.Offered.{scanned-append, last_answer-scanned}
 use Rattle.table_store.specs.Rows.{Keyed, plain_row, plain_rows, rows_if_any, row_if_any}
 use Rattle.table_store.specs.Shelves.{is_place}
 use Rattle.table_store.proofs.Places.{at_place}

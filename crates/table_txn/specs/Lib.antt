@@ -1,11 +1,6 @@
-pub mod Drawing
-pub mod Listed
-pub mod Places
-pub mod Reads
 pub mod Notes
+pub mod Transactions
 pub mod Found
+pub mod InnerSteps
 pub mod Own
 pub mod Scanning
-pub mod Transactions
-pub mod Steps
-pub mod Stops

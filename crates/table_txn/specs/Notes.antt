@@ -1,10 +1,10 @@
 -- The notes of a transaction: each place that was read stands there once.
 use Rattle.std.specs.Prelude.{◌≡◌, ◌↔◌, Bool, false, not, ◌||◌, List, [], ◌∷◌, Option, Some, None, map, filter, find, All, if◌then◌else◌}
-use Rattle.stmt_meaning.specs.declared.tables.PlainRow.{PlainRow}
-use Rattle.stmt_meaning.specs.declared.tables.Place.{Place}
-use Rattle.stmt_meaning.specs.Tables.{rows_at}
-use Rattle.table_txn.specs.Places.{same_place, same_rows}
-use Rattle.table_txn.specs.Reads.{Read}
+use Rattle.svc_values.specs.declared.tables.PlainRow.{PlainRow}
+use Rattle.svc_values.specs.declared.tables.Place.{Place}
+use Rattle.svc_values.specs.Tables.{rows_at}
+use Rattle.svc_values.specs.Same.{same_place, same_rows}
+use Rattle.stmt_meaning.specs.Reads.{Read}
 
 -- what the first read of a place found, and whether a later one found something else
 pub record Note : Type 0 where

@@ -1,16 +1,16 @@
 //! What a plan answers and writes, as the transaction sees the tables.
 ghost use Rattle.std.specs.Prelude.{◌≡◌, IfOk, Some};
 ghost use Rattle.std.specs.Option.{option_copied};
-ghost use Rattle.stmt_meaning.specs.Effects.{effect as effect_lem, first_of};
+ghost use Rattle.stmt_meaning.specs.Effects.{effect as effect_def, first_of};
 ghost use Rattle.stmt_meaning.specs.Meaning.{seen_at};
 ghost use Rattle.stmt_meaning.specs.Plans.{place_of};
-ghost use Rattle.stmt_meaning.specs.Tables.{with_writes, AreTables};
+ghost use Rattle.svc_values.specs.Tables.{with_writes, AreTables};
 
 use crate::own::OwnWrites;
 use crate::scanning::scan_table;
 use std::alloc::Global;
-use stmt_meaning::{Effect, Place, Plan, row_effect, shown};
-use svc_values::{Name, NoMemory, Row, Value};
+use stmt_meaning::{Effect, Plan, row_effect, shown};
+use svc_values::{Name, NoMemory, Place, Row, Value};
 use table_store::Tables;
 
 /// The row of a key, as the transaction sees it: the logarithm of the rows and of its own writes.
@@ -32,7 +32,7 @@ pub(crate) fn effect_on(
     plan: Plan,
 ) -> Result<Effect, NoMemory>
     requires { AreTables tables.now.rows }
-    ensures { IfOk result (λ effect. effect ≡ effect_lem plan (seen_at (with_writes tables.now.rows own.now) (place_of plan))) }
+    ensures { IfOk result (λ effect. effect ≡ effect_def plan (seen_at (with_writes tables.now.rows own.now) (place_of plan))) }
 {
     match plan {
         Plan::AtRow { table, key, work } => {

@@ -4,8 +4,7 @@ ghost use Rattle.std.specs.Option.{option_copied};
 ghost use Rattle.table_txn.specs.Found.{IsFoundAt, kept, keyed_or_none, same_optional, same_keyed, same_found};
 
 use std::alloc::Global;
-use stmt_meaning::Place;
-use svc_values::{NoMemory, Row, TryCopy};
+use svc_values::{NoMemory, Place, Row, TryCopy};
 use table_store::{RowMap, Tables};
 
 /// What is committed at a place: the row of its key or none, or the rows of its table.

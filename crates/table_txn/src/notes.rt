@@ -1,7 +1,7 @@
 //! What a transaction read.
 ghost use Rattle.std.specs.Prelude.{◌≡◌, ◌||◌, not, true, [], OnOk, OnErr, MatchBool};
 ghost use Rattle.std.specs.Option.{option_copied};
-ghost use Rattle.stmt_meaning.specs.Tables.{rows_at};
+ghost use Rattle.svc_values.specs.Tables.{rows_at};
 ghost use Rattle.table_txn.specs.Notes.{HasNoted, HasNotedIfAny, AreApart, first_changed};
 ghost use Rattle.table_txn.specs.Found.{kept, is_for, are_for, same_found, IsNoted, IsNotNoted};
 
@@ -9,8 +9,7 @@ use crate::found::{Committed, Found, committed_at};
 use std::alloc::Global;
 use std::collections::BTreeMap;
 use std::marker::Model;
-use stmt_meaning::Place;
-use svc_values::NoMemory;
+use svc_values::{NoMemory, Place};
 use table_store::Tables;
 
 /// What the first read of a place found, and whether a later one found something else.

@@ -1,26 +1,26 @@
 //! Transactions.
-ghost use Rattle.std.specs.Prelude.{◌≡◌, ◌≤◌, ◌++◌, ◌∷◌, [], List, IsTrue, OnOk, OnErr, IfOk, IfErr, length, take, option_map};
+ghost use Rattle.std.specs.Prelude.{◌≡◌, ◌≤◌, ◌++◌, ◌∷◌, [], List, IsTrue, OnOk, OnErr, IfOk, IfErr, length, take};
 ghost use Rattle.std.specs.Option.{option_copied};
-ghost use Rattle.stmt_meaning.specs.Fitting.{writes_fit};
-ghost use Rattle.stmt_meaning.specs.Tables.{AreTables, with_writes};
-ghost use Rattle.stmt_meaning.specs.Meaning.{mean1};
-ghost use Rattle.table_txn.specs.Drawing.{DrewAll, Ends};
-ghost use Rattle.table_txn.specs.Reads.{Read, IsConflict};
-ghost use Rattle.table_txn.specs.Notes.{AreNotes};
+ghost use Rattle.svc_values.specs.Fitting.{writes_fit};
+ghost use Rattle.svc_values.specs.Tables.{AreTables, with_writes};
+ghost use Rattle.stmt_meaning.specs.Meaning.{OneDone};
+ghost use Rattle.stmt_meaning.specs.Plans.{place_of};
+ghost use Rattle.stmt_meaning.specs.Drawing.{DrewAll, Ends};
+ghost use Rattle.stmt_meaning.specs.InnerRunning.{one_left};
+ghost use Rattle.stmt_meaning.specs.Reads.{Read, IsConflict};
+ghost use Rattle.table_txn.specs.Notes.{AreNotes, HasNotedIfAny};
 ghost use Rattle.table_txn.specs.Transactions.{empty, shape_of, HasRun, HasEnded};
-ghost use Rattle.table_txn.specs.Steps.{HasWorked, HasDone};
+ghost use Rattle.table_txn.specs.InnerSteps.{HasDone, HasNext, HasWorked, HasWritten};
 
-use crate::draw_from::DrawFrom;
 use crate::effects::effect_on;
-use crate::fault::TxnFault;
 use crate::notes::Notes;
-use crate::operands::{Stop, plan_of};
 use crate::own::OwnWrites;
 use std::alloc::Global;
 use std::marker::Model;
-use stmt_meaning::{Effect, Place, Plan, is_refusal};
+use stmt_meaning::{DrawFrom, Effect, Plan, Stop, TxnFault, is_refusal, plan_of};
 use svc_values::{
-    Answer, Answers, Draw, Draws, NoMemory, Piece, Pieces, Settings, Statement, Statements, Writes,
+    Answer, Answers, Draw, Draws, NoMemory, Piece, Pieces, Place, Settings, Statement, Statements,
+    Writes,
 };
 use table_store::Tables;
 
@@ -137,9 +137,14 @@ impl Txn {
         let mut answers = Vec::new(self.alloc);
         let mut drawn = Vec::new(self.alloc);
         for statement in statements.as_slice() {
-            let answer = self.run_statement(tables, settings, statement, draws, &mut drawn)?;
-            let is_refused = is_refusal(&answer);
-            answers.push(answer)?;
+            let is_refused = self.run_next(
+                tables,
+                settings,
+                statement,
+                draws,
+                &mut answers,
+                &mut drawn,
+            )?;
             if is_refused {
                 self.take_back(count);
                 return Ok(what_ran(answers, drawn));
@@ -163,6 +168,27 @@ impl Txn {
         self.own.keep_first(count);
     }
 
+    /// Runs one statement and puts its answer behind those before. Whether it was refused.
+    fn run_next<F: DrawFrom>(
+        &mut self,
+        tables: &Tables,
+        settings: &Settings,
+        statement: &Statement,
+        source: &mut F,
+        answers: &mut Vec<Answer>,
+        drawn: &mut Vec<Draw>,
+    ) -> Result<bool, TxnFault>
+        requires { AreTables tables.now.rows }
+        ensures done { IfOk result (λ is_refused. HasNext F.drew tables.now (F.names source.old) settings.now self.old statement.now source.old answers.old.items drawn.old.items is_refused self.new source.new answers.new.items drawn.new.items) }
+        ensures ended { IfErr result (λ ended. Ends F.drew (one_left (shape_of tables.now (F.names source.old)) (with_writes tables.now.rows self.old.writes) settings.now statement.now) source.old ended source.new) }
+        ensures names { F.names source.new ≡ F.names source.old }
+    {
+        let answer = self.run_statement(tables, settings, statement, source, drawn)?;
+        let is_refused = is_refusal(&answer);
+        answers.push(answer)?;
+        Ok(is_refused)
+    }
+
     /// Runs one statement.
     fn run_statement<F: DrawFrom>(
         &mut self,
@@ -173,11 +199,12 @@ impl Txn {
         drawn: &mut Vec<Draw>,
     ) -> Result<Answer, TxnFault>
         requires { AreTables tables.now.rows }
-        ensures done { IfOk result (λ answer. HasDone F.drew tables.now (F.names source.old) settings.now self.old statement.now source.old drawn.old.items answer self.new source.new drawn.new.items) }
-        ensures ended { IfErr result (λ ended. Ends F.drew (λ given. option_map (λ one. one.rest) (mean1 (shape_of tables.now (F.names source.old)) (with_writes tables.now.rows self.old.writes) settings.now statement.now given)) source.old ended source.new) }
+        ensures done { IfOk result (λ answer. (one : OneDone) × ((answer ≡ one.answer) × HasDone F.drew tables.now (F.names source.old) settings.now self.old statement.now source.old drawn.old.items one self.new source.new drawn.new.items)) }
+        ensures ended { IfErr result (λ ended. Ends F.drew (one_left (shape_of tables.now (F.names source.old)) (with_writes tables.now.rows self.old.writes) settings.now statement.now) source.old ended source.new) }
         ensures names { F.names source.new ≡ F.names source.old }
     {
-        match plan_of(self.alloc, tables, settings, statement, source, drawn) {
+        let schemas = tables.schemas().as_slice();
+        match plan_of(self.alloc, schemas, settings, statement, source, drawn) {
             Ok(plan) => Ok(self.work(tables, plan)?),
             Err(Stop::Refused(fault)) => Ok(Answer::Refused(fault)),
             Err(Stop::Ended(fault)) => Err(fault),
@@ -189,8 +216,25 @@ impl Txn {
         requires { AreTables tables.now.rows }
         ensures { IfOk result (λ answer. HasWorked tables.now self.old plan answer self.new) }
     {
+        self.note_place(tables, &plan)?;
+        self.do_plan(tables, plan)
+    }
+
+    /// Notes the place of a plan, with what is committed there.
+    fn note_place(&mut self, tables: &Tables, plan: &Plan) -> Result<(), NoMemory>
+        ensures noted { OnOk result (HasNotedIfAny tables.now.rows self.old.notes (place_of plan.now) self.new.notes) }
+        ensures writes { self.new.writes ≡ self.old.writes }
+        ensures pieces { self.new.pieces ≡ self.old.pieces }
+    {
         let place = plan.place(self.alloc)?;
-        self.notes.note_if_any(tables, place)?;
+        self.notes.note_if_any(tables, place)
+    }
+
+    /// Does a plan, on the committed tables with the transaction's own writes over them.
+    fn do_plan(&mut self, tables: &Tables, plan: Plan) -> Result<Answer, NoMemory>
+        requires { AreTables tables.now.rows }
+        ensures { IfOk result (λ answer. HasWritten tables.now self.old plan answer self.new) }
+    {
         let effect = effect_on(self.alloc, tables, &self.own, plan)?;
         let Effect { answer, write } = effect;
         self.own.put_if_any(write)?;

@@ -1,5 +1,5 @@
 use Rattle.std.proofs.Common.{◌∙◌}
-use Rattle.svc_values.proofs.Endings.{last_answer_at}
+use Rattle.svc_values.proofs.Offered.{last_answer_at}
 use Rattle.stmt_meaning.proofs.effect.last_of.Goals as goal
 
 pub returns : goal.returns

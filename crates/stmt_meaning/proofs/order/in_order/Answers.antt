@@ -2,8 +2,8 @@ use Rattle.std.proofs.Common.{rules, ◌∙◌, List, subst}
 use Rattle.std.specs.Ordering.{is_lt}
 use Rattle.std.specs.List.Sorted.{IsStableBy}
 use Rattle.std.proofs.lemmas.List.Sorted.{answers_always}
-use Rattle.stmt_meaning.specs.declared.tables.PlainRow.{PlainRow}
-use Rattle.stmt_meaning.specs.Tables.{row_cmp}
+use Rattle.svc_values.specs.declared.tables.PlainRow.{PlainRow}
+use Rattle.svc_values.specs.Tables.{row_cmp}
 use Rattle.stmt_meaning.proofs.InOrder.{row_cmp_weak, sorted_in_order}
 use Rattle.stmt_meaning.proofs.order.in_order.Goals as goal
 

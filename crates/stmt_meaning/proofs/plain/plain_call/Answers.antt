@@ -1,6 +1,6 @@
 use Rattle.std.proofs.Common.{ap, sym, subst, ◌∙◌}
 use Rattle.std.proofs.lemmas.Result.{IfOk-weaker}
-use Rattle.stmt_meaning.specs.Answers.{IsMeaning}
+use Rattle.stmt_meaning.specs.PlainRuns.{IsMeaning}
 use Rattle.svc_values.specs.declared.answer.Answer.TheVariants as answer
 use Rattle.svc_values.specs.SettingsList.{put_setting}
 use Rattle.stmt_meaning.specs.Meaning.{mean, worked, statements_done}

@@ -1,6 +1,6 @@
 use Rattle.std.proofs.Common.{◌≡◌, ◌++◌, ◌≤◌, length}
 use Rattle.std.specs.Map.{values_of}
-use Rattle.stmt_meaning.specs.Effects.{selected}
+use Rattle.svc_values.specs.Tests.{selected}
 use Rattle.table_store.proofs.select.selected.Given as goal
 
 abbrev pub invariant-loop-row : goal.invariant-loop-row

@@ -1,9 +1,9 @@
 use Rattle.std.proofs.Common.{ap, ◌∙◌}
 use Rattle.std.specs.Prelude.{Some, fold}
-use Rattle.stmt_meaning.specs.declared.tables.Place.TheVariants as place
+use Rattle.svc_values.specs.declared.tables.Place.TheVariants as place
 use Rattle.stmt_meaning.specs.Meaning.{seen_at}
-use Rattle.stmt_meaning.specs.Scans.{next_scan, last_answer}
-use Rattle.stmt_meaning.specs.Tables.{with_writes}
+use Rattle.stmt_meaning.specs.InnerScans.{next_scan, last_answer}
+use Rattle.svc_values.specs.Tables.{with_writes}
 use Rattle.table_txn.proofs.ScanSteps.{answer_is}
 use Rattle.table_txn.proofs.scanning.scan_table.Goals as goal
 

@@ -3,15 +3,15 @@ use Rattle.svc_values.specs.declared.draw.Draw.{Draw}
 use Rattle.svc_values.specs.declared.draw.Draw.TheVariants as draw
 use Rattle.mutable_values.specs.declared.source.Drawn.{Drawn}
 use Rattle.mutable_values.specs.declared.source.Drawn.TheVariants as drawn
-use Rattle.mutable_values.specs.Sources.{Opening, Told, new_draw}
+use Rattle.mutable_values.specs.Sources.{Opening, DrawnFrom, new_draw}
 use Rattle.mutable_values.proofs.Draws.{draw_absent, draw_first, draw_new, sequence_absent, sequence_drawn, sequence_fault}
 use Rattle.mutable_values.proofs.Firsts.{without_none}
 use Rattle.mutable_values.proofs.source.Source.draw.Goals as goal
 
-abbrev told : Drawn → Opening → List Draw → Option Told
+abbrev told : Drawn → Opening → List Draw → Option DrawnFrom
 told answer opening kept = Some (record { answer = answer; opening = opening; kept = kept })
 
-told_not : (answer : Drawn) (opening : Opening) (kept : List Draw) (all : Option Told) → all ≡ told answer opening kept → all ≡ None → ⊥
+told_not : (answer : Drawn) (opening : Opening) (kept : List Draw) (all : Option DrawnFrom) → all ≡ told answer opening kept → all ≡ None → ⊥
 told_not answer opening kept all some none = let clash : told answer opening kept ≡ None = sym some ∙ none in cc
 
 pub returns-then-not-is_there-clause-none : goal.returns-then-not-is_there-clause-none

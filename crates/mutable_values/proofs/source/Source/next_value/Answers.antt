@@ -6,7 +6,7 @@ use Rattle.std.specs.Str.{bytes_eq}
 use Rattle.svc_values.specs.declared.draw.Draw.TheVariants as draw
 use Rattle.mutable_values.specs.declared.source.SeqState.{SeqState}
 use Rattle.mutable_values.specs.declared.source.Drawn.TheVariants as drawn
-use Rattle.mutable_values.specs.Sources.{Opening, Told, are_sequences, next_value}
+use Rattle.mutable_values.specs.Sources.{Opening, DrawnFrom, are_sequences, next_value}
 use Rattle.mutable_values.proofs.Draws.{give_keeps, new_past, new_within, placed, same_item}
 use Rattle.mutable_values.proofs.Firsts.{sequence_none}
 use Rattle.mutable_values.proofs.source.Source.next_value.Goals as goal
@@ -25,7 +25,7 @@ returns-then-not-has_value-clause-drawn c = λ kept.
     let view : c.self.inside.sequences.items ≡ opening.sequences = ap (λ (o : Opening). o.sequences) c.self.view_is in
     let fits : FitsSigned w64 c.next_end-upto.result = search rules in
     let bits = to_z-of_z w64 c.next_end-upto.result fits ∙ c.next_end-upto.ensures in
-    let told : List ℕ → ℤ → Option Told = λ name upto. Some (record { answer = drawn.Reserve name upto; opening = opening; kept = kept }) in
+    let told : List ℕ → ℤ → Option DrawnFrom = λ name upto. Some (record { answer = drawn.Reserve name upto; opening = opening; kept = kept }) in
     new_past opening kept c.args.name.now 0 at sequence (sym c.place.ensures ∙ c.in-Some.is) (c.index-sequence.ensures ∙ ap (λ l. get_or l at sequence) view) (sym c.has_value.ensures ∙ c.if-not-has_value.true)
     ∙ sym (ap₂ told c.in-Ok.ensures bits)
 
@@ -58,7 +58,7 @@ returns-clause-drawn c = λ kept.
     (c.index-sequence.ensures ∙ ap (λ l. get_or l at c.index-sequence.result.now) view) in
     let within = ap (λ (s : SeqState). int_le s.next s.upto) same ∙ sym c.has_value.ensures ∙ c.if-not-has_value.false in
     let fits : FitsSigned w64 c.give-value.result = search rules in
-    let told : List ℕ → ℤ → Opening → Option Told = λ n value after. Some (record { answer = drawn.Value (draw.Seq n value); opening = after; kept = kept }) in
+    let told : List ℕ → ℤ → Opening → Option DrawnFrom = λ n value after. Some (record { answer = drawn.Value (draw.Seq n value); opening = after; kept = kept }) in
     let after : Opening → SeqState → Opening = λ o s. record o { sequences = set o.sequences at s } in
     let bits = to_z-of_z w64 c.give-value.result fits ∙ c.give-value.ensures.given in
     new_within opening kept name 0 at sequence (ap are_sequences (sym view) ∙ c.self.invariant) place is within

@@ -1,5 +1,5 @@
 use Rattle.std.proofs.Common.{ap, ◌∙◌}
-use Rattle.stmt_meaning.specs.Scans.{is_settled}
+use Rattle.stmt_meaning.specs.InnerScans.{is_settled}
 use Rattle.stmt_meaning.proofs.ScanLaws.{settled}
 use Rattle.stmt_meaning.proofs.scan.Scan.is_settled.Goals as goal
 

@@ -1,5 +1,5 @@
 use Rattle.std.proofs.Common.{◌≡◌, List, ◌++◌, vec_len}
-use Rattle.stmt_meaning.specs.Tables.{in_order}
+use Rattle.svc_values.specs.Tables.{in_order}
 use Rattle.table_store.specs.declared.tables.TableRow.{TableRow}
 use Rattle.table_store.specs.Given.{plain}
 use Rattle.table_store.specs.Stored.{AreKept}

@@ -1,6 +1,6 @@
 use Rattle.table_store.proofs.Keeps.{of_rows}
-use Rattle.stmt_meaning.specs.declared.tables.Place.TheVariants as place
-use Rattle.stmt_meaning.specs.Tables.{rows_at}
+use Rattle.svc_values.specs.declared.tables.Place.TheVariants as place
+use Rattle.svc_values.specs.Tables.{rows_at}
 use Rattle.table_store.proofs.tables.Tables.rows.Goals as goal
 
 pub returns : goal.returns

@@ -1,7 +1,7 @@
-use Rattle.std.proofs.Common.{◌<◌, ◌≤◌, length, take, get_or, ap, sym, subst, refl, ◌∙◌, arith}
+use Rattle.std.proofs.Common.{◌<◌, ◌≤◌, length, take, get_or, ap, subst, refl, ◌∙◌, arith}
 use Rattle.std.proofs.lemmas.Result.{err_from_is_err_and}
 use Rattle.table_txn.specs.Transactions.{Transaction}
-use Rattle.table_txn.proofs.Running.{begins, at_next, ended_under, done_under, lacks_answer, goes_on, refused, ran_all, run_fits}
+use Rattle.table_txn.proofs.Running.{begins, at_next, ended_under, next_under, goes_on, refused, ran_whole, run_fits}
 use Rattle.table_txn.proofs.txn.Txn.run.Goals as goal
 
 pub loop-statement-init : goal.loop-statement-init
@@ -11,8 +11,8 @@ loop-statement-init g c = record {
   names = refl;
 }
 
-pub returns-in_err-answer-clause-ended : goal.returns-in_err-answer-clause-ended
-returns-in_err-answer-clause-ended g c =
+pub returns-in_err-is_refused-clause-ended : goal.returns-in_err-is_refused-clause-ended
+returns-in_err-is_refused-clause-ended g c =
     let p = err_from_is_err_and c.from_residual.result c.from_residual.ensures.1 in
     let l = c.loop-statement in
     let statements = c.args.statements.now in
@@ -20,19 +20,7 @@ returns-in_err-answer-clause-ended g c =
     let is = c.statement-item.is ∙ ap (λ s. get_or s l.statement-index c.statement-item.result) l.invariant.items in
     let names = g.F.DrawFrom.names c.args.draws.now in
     let at = at_next g.F.DrawFrom.drew c.args.tables.now names c.args.settings.now c.args.self.now statements c.args.draws.now l.answers.items l.drawn.items l.self l.draws statements l.statement-index c.statement-item.result lt is l.invariant.so_far in
-    rw (p.1, p.2) (ended_under g.F.DrawFrom.drew c.args.tables.now names c.args.settings.now c.args.self.now statements c.args.draws.now l.answers.items l.drawn.items l.self l.draws c.statement-item.result _ at (g.F.DrawFrom.names l.draws) l.invariant.names c.in_err-answer.field-0.0 c.run_statement.new.source c.in_err-answer.ensures.ended)
-
-pub returns-in_err-push-clause-ended : goal.returns-in_err-push-clause-ended
-returns-in_err-push-clause-ended g c =
-    let p = err_from_is_err_and c.from_residual-in_err-push.result c.from_residual-in_err-push.ensures.1 in
-    let l = c.loop-statement in
-    let statements = c.args.statements.now in
-    let lt : l.statement-index < length statements = subst (λ s. l.statement-index < length s) l.invariant.items c.loop-statement-test.true in
-    let is = c.statement-item.is ∙ ap (λ s. get_or s l.statement-index c.statement-item.result) l.invariant.items in
-    let names = g.F.DrawFrom.names c.args.draws.now in
-    let at = at_next g.F.DrawFrom.drew c.args.tables.now names c.args.settings.now c.args.self.now statements c.args.draws.now l.answers.items l.drawn.items l.self l.draws statements l.statement-index c.statement-item.result lt is l.invariant.so_far in
-    let done = done_under g.F.DrawFrom.drew c.args.tables.now names c.args.settings.now l.self c.statement-item.result l.draws l.drawn.items (g.F.DrawFrom.names l.draws) l.invariant.names c.in_ok-answer.answer c.run_statement.new.self c.run_statement.new.source c.run_statement.new.drawn.items c.in_ok-answer.ensures.done in
-    rw (p.1, p.2) (lacks_answer g.F.DrawFrom.drew c.args.tables.now names c.args.settings.now c.args.self.now statements c.args.draws.now l.answers.items l.drawn.items l.self l.draws c.statement-item.result _ at c.in_ok-answer.answer c.run_statement.new.self c.run_statement.new.source c.run_statement.new.drawn.items done)
+    rw (p.1, p.2) (ended_under g.F.DrawFrom.drew c.args.tables.now names c.args.settings.now c.args.self.now statements c.args.draws.now l.answers.items l.drawn.items l.self l.draws c.statement-item.result _ at (g.F.DrawFrom.names l.draws) l.invariant.names c.in_err-is_refused.field-0.0 c.run_next.new.source c.in_err-is_refused.ensures.ended)
 
 pub loop-statement-preserved : goal.loop-statement-preserved
 loop-statement-preserved g c =
@@ -42,12 +30,12 @@ loop-statement-preserved g c =
     let is = c.statement-item.is ∙ ap (λ s. get_or s l.statement-index c.statement-item.result) l.invariant.items in
     let names = g.F.DrawFrom.names c.args.draws.now in
     let at = at_next g.F.DrawFrom.drew c.args.tables.now names c.args.settings.now c.args.self.now statements c.args.draws.now l.answers.items l.drawn.items l.self l.draws statements l.statement-index c.statement-item.result lt is l.invariant.so_far in
-    let done = done_under g.F.DrawFrom.drew c.args.tables.now names c.args.settings.now l.self c.statement-item.result l.draws l.drawn.items (g.F.DrawFrom.names l.draws) l.invariant.names c.in_ok-answer.answer c.run_statement.new.self c.run_statement.new.source c.run_statement.new.drawn.items c.in_ok-answer.ensures.done in
+    let n = c.run_next.new in
+    let next = next_under g.F.DrawFrom.drew c.args.tables.now names c.args.settings.now l.self c.statement-item.result l.draws l.answers.items l.drawn.items (g.F.DrawFrom.names l.draws) l.invariant.names c.in_ok-is_refused.is_refused n.self n.source n.answers.items n.drawn.items c.in_ok-is_refused.ensures.done in
     record {
-      so_far = goes_on g.F.DrawFrom.drew c.args.tables.now names c.args.settings.now c.args.self.now statements c.args.draws.now l.answers.items l.drawn.items l.self l.draws c.statement-item.result _ at c.in_ok-answer.answer c.run_statement.new.self c.run_statement.new.source c.run_statement.new.drawn.items done
-          (sym c.is_refusal-is_refused.ensures ∙ c.if-is_refused.false) c.push.new.self.items c.in_ok-push.ensures.items;
+      so_far = goes_on g.F.DrawFrom.drew c.args.tables.now names c.args.settings.now c.args.self.now statements c.args.draws.now l.answers.items l.drawn.items l.self l.draws c.statement-item.result _ at c.in_ok-is_refused.is_refused n.self n.source n.answers.items n.drawn.items next c.if-is_refused.false;
       items = l.invariant.items;
-      names = c.in_ok-answer.ensures.names ∙ l.invariant.names;
+      names = c.in_ok-is_refused.ensures.names ∙ l.invariant.names;
     }
 
 pub returns-then-is_refused-clause-ran : goal.returns-then-is_refused-clause-ran
@@ -58,17 +46,16 @@ returns-then-is_refused-clause-ran g c =
     let is = c.statement-item.is ∙ ap (λ s. get_or s l.statement-index c.statement-item.result) l.invariant.items in
     let names = g.F.DrawFrom.names c.args.draws.now in
     let at = at_next g.F.DrawFrom.drew c.args.tables.now names c.args.settings.now c.args.self.now statements c.args.draws.now l.answers.items l.drawn.items l.self l.draws statements l.statement-index c.statement-item.result lt is l.invariant.so_far in
-    let done = done_under g.F.DrawFrom.drew c.args.tables.now names c.args.settings.now l.self c.statement-item.result l.draws l.drawn.items (g.F.DrawFrom.names l.draws) l.invariant.names c.in_ok-answer.answer c.run_statement.new.self c.run_statement.new.source c.run_statement.new.drawn.items c.in_ok-answer.ensures.done in
-    let next = c.run_statement.new.self in
-    let taken = c.take_back.ensures ∙ ap (λ n. let t : Transaction = record next { writes = take n next.writes } in t) c.count-count.ensures in
-    rw c.what_ran.ensures (refused g.F.DrawFrom.drew c.args.tables.now names c.args.settings.now c.args.self.now statements c.args.draws.now l.answers.items l.drawn.items l.self l.draws c.statement-item.result _ at c.in_ok-answer.answer next c.run_statement.new.source c.run_statement.new.drawn.items done
-    (sym c.is_refusal-is_refused.ensures ∙ c.if-is_refused.true) c.push.new.self.items c.in_ok-push.ensures.items c.take_back.new.self taken)
+    let n = c.run_next.new in
+    let next = next_under g.F.DrawFrom.drew c.args.tables.now names c.args.settings.now l.self c.statement-item.result l.draws l.answers.items l.drawn.items (g.F.DrawFrom.names l.draws) l.invariant.names c.in_ok-is_refused.is_refused n.self n.source n.answers.items n.drawn.items c.in_ok-is_refused.ensures.done in
+    let taken = c.take_back.ensures ∙ ap (λ count. let t : Transaction = record n.self { writes = take count n.self.writes } in t) c.count-count.ensures in
+    rw c.what_ran.ensures (refused g.F.DrawFrom.drew c.args.tables.now names c.args.settings.now c.args.self.now statements c.args.draws.now l.answers.items l.drawn.items l.self l.draws c.statement-item.result _ at c.in_ok-is_refused.is_refused n.self n.source n.answers.items n.drawn.items next c.if-is_refused.true c.take_back.new.self taken)
 
 pub returns-clause-ran : goal.returns-clause-ran
 returns-clause-ran g c =
     let l = c.loop-statement in
     let statements = c.args.statements.now in
-    rw c.what_ran-2.ensures (ran_all g.F.DrawFrom.drew c.args.tables.now (g.F.DrawFrom.names c.args.draws.now) c.args.settings.now c.args.self.now statements c.args.draws.now l.answers.items l.drawn.items l.self l.draws statements l.statement-index
+    rw c.what_ran-2.ensures (ran_whole g.F.DrawFrom.drew c.args.tables.now (g.F.DrawFrom.names c.args.draws.now) c.args.settings.now c.args.self.now c.args.statements.now c.args.draws.now l.answers.items l.drawn.items l.self l.draws statements l.statement-index
     (subst (λ s. length s ≤ l.statement-index) l.invariant.items (omega arith)) l.invariant.so_far)
 
 pub returns-clause-fits : goal.returns-clause-fits

@@ -1,12 +1,21 @@
+use Rattle.std.proofs.Common.{subst, ◌∙◌}
+use Rattle.std.specs.Prelude.{List, Ok, Err}
+use Rattle.svc_values.specs.declared.schema.Schema.{Schema}
+use Rattle.stmt_meaning.specs.InnerReading.{ReadsAll}
+use Rattle.stmt_meaning.specs.Plans.{plan_of}
 use Rattle.table_txn.proofs.Statements.{done_plan, done_refused}
 use Rattle.table_txn.proofs.txn.Txn.run_statement.Goals as goal
 
 pub returns-in_ok-work-in-Ok-clause-done : goal.returns-in_ok-work-in-Ok-clause-done
 returns-in_ok-work-in-Ok-clause-done g c =
-    done_plan g.F.DrawFrom.drew c.args.tables.now (g.F.DrawFrom.names c.args.source.now) c.args.settings.now c.args.self.now c.args.statement.now c.args.source.now c.args.drawn.now.items
-    c.in-Ok.plan c.plan_of.new.source c.plan_of.new.drawn.items c.in-Ok.ensures.read c.in_ok-work-in-Ok.field-0 c.work.new.self c.in_ok-work-in-Ok.ensures
+    let names = g.F.DrawFrom.names c.args.source.now in
+    let read = subst (λ (s : List Schema). ReadsAll g.F.DrawFrom.drew (λ given. plan_of (record { schemas = s; sequences = names }) c.args.settings.now c.args.statement.now given) c.args.source.now c.args.drawn.now.items (Ok c.in-Ok.plan) c.plan_of.new.source c.plan_of.new.drawn.items)
+    (c.as_slice-schemas.ensures.items ∙ c.schemas.ensures.schemas) c.in-Ok.ensures.read in
+    done_plan g.F.DrawFrom.drew c.args.tables.now names c.args.settings.now c.args.self.now c.args.statement.now c.args.source.now c.args.drawn.now.items c.in-Ok.plan c.plan_of.new.source c.plan_of.new.drawn.items read c.in_ok-work-in-Ok.field-0 c.work.new.self c.in_ok-work-in-Ok.ensures
 
 pub returns-in-Err-Refused-clause-done : goal.returns-in-Err-Refused-clause-done
 returns-in-Err-Refused-clause-done g c =
-    done_refused g.F.DrawFrom.drew c.args.tables.now (g.F.DrawFrom.names c.args.source.now) c.args.settings.now c.args.self.now c.args.statement.now c.args.source.now c.args.drawn.now.items
-    c.in-Err-Refused.fault c.plan_of.new.source c.plan_of.new.drawn.items (rw c.in-Err-Refused.field-0-is at c.in-Err-Refused.ensures.read)
+    let names = g.F.DrawFrom.names c.args.source.now in
+    let read = subst (λ (s : List Schema). ReadsAll g.F.DrawFrom.drew (λ given. plan_of (record { schemas = s; sequences = names }) c.args.settings.now c.args.statement.now given) c.args.source.now c.args.drawn.now.items (Err c.in-Err-Refused.fault) c.plan_of.new.source c.plan_of.new.drawn.items)
+    (c.as_slice-schemas.ensures.items ∙ c.schemas.ensures.schemas) (rw c.in-Err-Refused.field-0-is at c.in-Err-Refused.ensures.read) in
+    done_refused g.F.DrawFrom.drew c.args.tables.now names c.args.settings.now c.args.self.now c.args.statement.now c.args.source.now c.args.drawn.now.items c.in-Err-Refused.fault c.plan_of.new.source c.plan_of.new.drawn.items read

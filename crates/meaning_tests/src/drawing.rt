@@ -1,0 +1,162 @@
+//! Transactions whose values are drawn from a source of an opening.
+ghost use Rattle.std.specs.Prelude.{◌≡◌, ◌+ℤ◌, IsTrue, int_le, pos};
+ghost use Rattle.stmt_meaning.specs.Drawing.{HasDrawn};
+
+use crate::makers::{alone, name, next_of, schemas, sequences, value_of_s};
+use mutable_values::{Drawn, Grants, Kept, SeqState, Source};
+use std::alloc::Global;
+use std::process::Abort;
+use svc_values::{
+    Answer, Draw, DrawKind, Draws, Names, Row, Rows, Settings, Statement, Value, is_of_kind,
+    is_there,
+};
+use table_store::Tables;
+use table_txn::{DrawFrom, DrawFromFault, Txn};
+
+/// A source whose reservations are stored at once, with the draws that are kept.
+#[derive(Drop)]
+struct Reserving {
+    names: Names,
+    source: Source,
+    kept: Kept,
+    /// Where the last reservation ends.
+    end: Option<i64>,
+}
+
+impl Reserving {
+    /// The value of a draw at tick 7, if that is what the draw comes to. A reservation that it asks
+    /// for is taken into use.
+    fn value(&mut self, alloc: Global, kind: &DrawKind) -> Option<Draw>
+        ensures { self.new.names ≡ self.old.names }
+    {
+        if !self.source.has_room() {
+            return None;
+        }
+        match self.source.draw(alloc, kind, &mut self.kept, 7) {
+            Ok(Drawn::Value(draw)) => Some(draw),
+            Ok(Drawn::Reserve { name, upto }) => {
+                self.source.reserved(&name, upto);
+                self.end = Some(upto);
+                None
+            }
+            Err(_) => None,
+        }
+    }
+
+    /// The same, once the reservation that it asks for is stored.
+    fn value_at_last(&mut self, alloc: Global, kind: &DrawKind) -> Option<Draw>
+        ensures { self.new.names ≡ self.old.names }
+    {
+        match self.value(alloc, kind) {
+            None => self.value(alloc, kind),
+            Some(draw) => Some(draw),
+        }
+    }
+}
+
+impl DrawFrom for Reserving {
+    ghost use Rattle.meaning_tests.specs.Anything.{Anything};
+
+    ghost names = { λ s. s.names };
+
+    ghost drew = { Anything };
+
+    fn draw(&mut self, alloc: Global, kind: &DrawKind) -> Result<Draw, DrawFromFault> {
+        if !is_there(&self.names, kind) {
+            return Err(DrawFromFault::NoSequence);
+        }
+        match self.value_at_last(alloc, kind) {
+            Some(draw) if is_of_kind(kind, &draw) => Ok(draw),
+            _ => Err(DrawFromFault::Stopped),
+        }
+    }
+}
+
+/// A source of incarnation 2 whose one sequence is s, with no kept draw.
+fn source_of(rt: &impl Abort, alloc: Global, next: i64, upto: i64) -> Reserving
+    requires { IsTrue (int_le next (upto +ℤ pos 1)) }
+{
+    let mut states = Vec::new(alloc);
+    let name = name(rt, alloc, "s");
+    states
+        .push(SeqState {
+            name,
+            next,
+            upto,
+            keep: true,
+        })
+        .expect(rt, "a sequence");
+    Reserving {
+        names: sequences(rt, alloc),
+        source: Source::new(2, states),
+        kept: Kept::none(alloc),
+        end: None,
+    }
+}
+
+/// An answer of one value.
+fn one_value(rt: &impl Abort, alloc: Global, value: i64) -> Answer {
+    let mut row = Row::new(alloc);
+    row.push(Value::Int(value)).expect(rt, "a value");
+    let mut rows = Rows::new(alloc);
+    rows.push(row).expect(rt, "a row");
+    Answer::Rows(rows)
+}
+
+/// Whether a transaction that shows the next value of s is answered so.
+fn shows(rt: &impl Abort, alloc: Global, source: &mut Reserving, wanted: i64) -> bool {
+    let operand = next_of(rt, alloc, "s");
+    let statements = alone(rt, alloc, Statement::Show { operand });
+    let schemas = schemas(rt, alloc);
+    let tables = Tables::new(alloc, schemas, Vec::new(alloc)).expect(rt, "tables");
+    let mut txn = Txn::new(alloc);
+    let settings = Settings::new(alloc);
+    let ran = txn
+        .run(&tables, &settings, &statements, source)
+        .expect(rt, "answers");
+    ran.answers.get(0) == Some(&one_value(rt, alloc, wanted))
+}
+
+#[test]
+fn a_sequence_goes_on_in_reservations(rt: HostRuntime) {
+    let alloc = rt.alloc();
+    let mut source = source_of(&rt, alloc, 1, 0);
+    for value in 1..17 {
+        assert!(rt; shows(&rt, alloc, &mut source, value));
+    }
+    assert!(rt; source.end == Some(16));
+    assert!(rt; shows(&rt, alloc, &mut source, 17));
+    assert!(rt; source.end == Some(32));
+    let mut reopened = source_of(&rt, alloc, 17, 16);
+    assert!(rt; shows(&rt, alloc, &mut reopened, 17));
+    assert!(rt; reopened.end == Some(32));
+}
+
+/// The draws s 5 and s 7.
+fn two_draws(rt: &impl Abort, alloc: Global) -> Draws {
+    let mut draws = Draws::new(alloc);
+    for value in [5, 7] {
+        let draw = value_of_s(rt, alloc, value);
+        draws.push(draw).expect(rt, "a draw");
+    }
+    draws
+}
+
+#[test]
+fn granted_values_come_first(rt: HostRuntime) {
+    for (seq, values) in [(true, [5, 7, 9]), (false, [9, 10, 11])] {
+        let alloc = rt.alloc();
+        let mut source = source_of(&rt, alloc, 9, 16);
+        let grants = Grants {
+            seq,
+            clock: true,
+            id: true,
+        };
+        let draws = two_draws(&rt, alloc);
+        let kept = source.source.granted(alloc, &grants, &draws);
+        source.kept = kept.expect(&rt, "kept draws");
+        for value in values {
+            assert!(rt; shows(&rt, alloc, &mut source, value));
+        }
+    }
+}

@@ -1,0 +1,11 @@
+//! Tests of what statements mean, of committed tables, of transactions over them, and of drawn values.
+#![tactic(auto)]
+
+#[cfg(test)]
+mod drawing;
+#[cfg(test)]
+mod makers;
+#[cfg(test)]
+mod plain;
+#[cfg(test)]
+mod transactions;

@@ -1,5 +1,0 @@
-use Rattle.mutable_values.proofs.Histories.{counts_identifiers, counts_values}
-use Rattle.mutable_values.proofs.source.counts_on.Goals as goal
-
-pub returns : goal.returns
-returns c = record { values = counts_values; identifiers = counts_identifiers }

@@ -1,8 +1,0 @@
-use Rattle.std.proofs.Common.{◌≡◌, [], take}
-use Rattle.std.specs.Prelude.{Some}
-use Rattle.stmt_meaning.specs.Meaning.{seen_at}
-use Rattle.stmt_meaning.specs.declared.tables.Place.TheVariants as place
-use Rattle.stmt_meaning.proofs.plain.row_at.Given as goal
-
-abbrev pub invariant-loop-row : goal.invariant-loop-row
-invariant-loop-row l = seen_at (take l.row-index l.rows) (Some (place.Row l.table l.key)) ≡ []

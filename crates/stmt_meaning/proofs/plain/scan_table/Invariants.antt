@@ -1,9 +1,0 @@
-use Rattle.std.proofs.Common.{◌≡◌, take}
-use Rattle.std.specs.Prelude.{Some}
-use Rattle.stmt_meaning.specs.Meaning.{seen_at}
-use Rattle.stmt_meaning.specs.Scans.{scanned}
-use Rattle.stmt_meaning.specs.declared.tables.Place.TheVariants as place
-use Rattle.stmt_meaning.proofs.plain.scan_table.Given as goal
-
-abbrev pub invariant-loop-row : goal.invariant-loop-row
-invariant-loop-row l = l.scan ≡ scanned l.fn.work (seen_at (take l.row-index l.rows) (Some (place.Table l.table)))
