@@ -12,9 +12,9 @@ use Rattle.svc_values.specs.declared.schema.Column.{Column}
 use Rattle.svc_values.specs.contracts.value.ValuePartialEq.TheImpl.{eq-value}
 use Rattle.svc_values.specs.Kinds.{has_column, have_distinct_names}
 use Rattle.svc_values.specs.Same.{same_value}
-use Rattle.stmt_meaning.specs.Operands.{is_name_of}
-use Rattle.stmt_meaning.specs.Plans.{key_of}
-use Rattle.commit_log.specs.Bases.{names_differ, keys_differ, column_name}
+use Rattle.svc_values.specs.Names.{is_name_of, names_differ}
+use Rattle.svc_values.specs.Schemas.{key_of}
+use Rattle.commit_log.specs.Bases.{keys_differ, column_name}
 use Rattle.commit_log.specs.Keys.{is_key}
 
 -- ---- names

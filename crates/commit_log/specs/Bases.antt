@@ -7,19 +7,13 @@ use Rattle.svc_values.specs.declared.schema.Schema.{Schema}
 use Rattle.svc_values.specs.declared.schema.Shape.{Shape}
 use Rattle.svc_values.specs.Kinds.{row_fits}
 use Rattle.svc_values.specs.Same.{same_value}
-use Rattle.svc_values.specs.Schemas.{is_declared}
-use Rattle.stmt_meaning.specs.declared.tables.PlainRow.{PlainRow}
-use Rattle.stmt_meaning.specs.Operands.{is_name_of}
-use Rattle.stmt_meaning.specs.Plans.{key_of}
-use Rattle.stmt_meaning.specs.Tables.{in_order}
+use Rattle.svc_values.specs.Schemas.{is_declared, key_of}
+use Rattle.svc_values.specs.declared.tables.PlainRow.{PlainRow}
+use Rattle.svc_values.specs.Names.{names_differ}
+use Rattle.svc_values.specs.Tables.{in_order}
 use Rattle.commit_log.specs.declared.base.Base.{Base}
 use Rattle.commit_log.specs.declared.base.BaseTable.{BaseTable}
 use Rattle.commit_log.specs.declared.base.BaseSequence.{BaseSequence}
-
--- no name stands twice
-abbrev pub names_differ : List (List ℕ) → Bool
-names_differ [] = true
-names_differ (name ∷ names) = not (is_name_of names name) && names_differ names
 
 -- no two rows have one key
 abbrev pub keys_differ : List (List Value) → Bool

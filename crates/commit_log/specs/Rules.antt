@@ -8,7 +8,7 @@ use Rattle.svc_values.specs.declared.entry.Ltxid.{Ltxid}
 use Rattle.ltxid_book.specs.declared.State.{State}
 use Rattle.ltxid_book.specs.Journal.{Committed, book_of}
 use Rattle.ltxid_book.specs.Sessions.{may_commit as can_commit}
-use Rattle.stmt_meaning.specs.Fitting.{writes_fit}
+use Rattle.svc_values.specs.Fitting.{writes_fit}
 use Rattle.commit_log.specs.declared.base.Base.{Base}
 use Rattle.commit_log.specs.declared.base.BaseSequence.{BaseSequence}
 use Rattle.commit_log.specs.declared.journal.Journal.{Journal}

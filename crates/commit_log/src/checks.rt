@@ -2,9 +2,9 @@
 ghost use Rattle.std.specs.Prelude.{◌≡◌, ◌&&◌, IfOk, map};
 ghost use Rattle.std.specs.List.{list_all};
 ghost use Rattle.svc_values.specs.Kinds.{row_fits};
-ghost use Rattle.svc_values.specs.Schemas.{is_declared as is_declared_lem};
-ghost use Rattle.stmt_meaning.specs.Plans.{key_of as key_of_lem};
-ghost use Rattle.commit_log.specs.Bases.{names_differ, table_name, keys_differ as keys_differ_lem, is_table as is_table_lem, is_sequence as is_sequence_lem, is_base as is_base_lem, schemas_of as schemas_of_lem, sequence_name, shape_of as shape_of_lem};
+ghost use Rattle.svc_values.specs.Schemas.{is_declared as is_declared_def, key_of as key_of_def};
+ghost use Rattle.svc_values.specs.Names.{names_differ};
+ghost use Rattle.commit_log.specs.Bases.{table_name, keys_differ as keys_differ_def, is_table as is_table_def, is_sequence as is_sequence_def, is_base as is_base_def, schemas_of as schemas_of_def, sequence_name, shape_of as shape_of_def};
 
 use crate::base::{Base, BaseSequence, BaseTable};
 use crate::keys::Keys;
@@ -14,14 +14,14 @@ use svc_values::{Names, NoMemory, Row, Schema, Schemas, Shape, TryCopy, Value};
 
 // Whether there is a column, and no two have one name.
 fn is_declared(schema: &Schema) -> bool
-    ensures { result ≡ is_declared_lem schema.now }
+    ensures { result ≡ is_declared_def schema.now }
 {
     !schema.columns.is_empty() && are_distinct(schema.columns.as_slice())
 }
 
 // A copy of the row's key.
 fn key_of(alloc: Global, row: &Row) -> Result<Value, NoMemory>
-    ensures { IfOk result (λ key. key ≡ key_of_lem row.now) }
+    ensures { IfOk result (λ key. key ≡ key_of_def row.now) }
 {
     match row.as_slice() {
         [] => Ok(Value::Int(0)),
@@ -31,7 +31,7 @@ fn key_of(alloc: Global, row: &Row) -> Result<Value, NoMemory>
 
 // Whether no two rows have one key: n log n for n rows.
 fn keys_differ(alloc: Global, rows: &[Row]) -> Result<bool, NoMemory>
-    ensures { IfOk result (λ differ. differ ≡ keys_differ_lem rows.now) }
+    ensures { IfOk result (λ differ. differ ≡ keys_differ_def rows.now) }
 {
     let mut taken = Keys::new(alloc);
     for row in rows {
@@ -53,14 +53,14 @@ fn rows_fit(schema: &Schema, rows: &[Row]) -> bool
 
 // Whether the table is declared as it may be, and its rows fit.
 fn has_fitting_rows(table: &BaseTable) -> bool
-    ensures { result ≡ (is_declared_lem table.now.schema && list_all (row_fits table.now.schema.columns) table.now.rows) }
+    ensures { result ≡ (is_declared_def table.now.schema && list_all (row_fits table.now.schema.columns) table.now.rows) }
 {
     is_declared(&table.schema) && rows_fit(&table.schema, table.rows.as_slice())
 }
 
 #[tactic(auto, unfolding(crate::specs::Bases::is_table))]
 fn is_table(alloc: Global, table: &BaseTable) -> Result<bool, NoMemory>
-    ensures { IfOk result (λ is. is ≡ is_table_lem table.now) }
+    ensures { IfOk result (λ is. is ≡ is_table_def table.now) }
 {
     if !has_fitting_rows(table) {
         return Ok(false);
@@ -69,7 +69,7 @@ fn is_table(alloc: Global, table: &BaseTable) -> Result<bool, NoMemory>
 }
 
 fn are_tables(alloc: Global, tables: &[BaseTable]) -> Result<bool, NoMemory>
-    ensures { IfOk result (λ are. are ≡ list_all is_table_lem tables.now) }
+    ensures { IfOk result (λ are. are ≡ list_all is_table_def tables.now) }
 {
     for table in tables {
         if !is_table(alloc, table)? {
@@ -81,20 +81,20 @@ fn are_tables(alloc: Global, tables: &[BaseTable]) -> Result<bool, NoMemory>
 
 // Whether a sequence begins at 0 to 1,000,000,000.
 fn is_sequence(sequence: &BaseSequence) -> bool
-    ensures { result ≡ is_sequence_lem sequence.now }
+    ensures { result ≡ is_sequence_def sequence.now }
 {
     sequence.start >= 0 && sequence.start <= 1_000_000_000
 }
 
 fn are_sequences(sequences: &[BaseSequence]) -> bool
-    ensures { result ≡ list_all is_sequence_lem sequences.now }
+    ensures { result ≡ list_all is_sequence_def sequences.now }
 {
     sequences.iter().all(is_sequence)
 }
 
 // Whether names stand once, and sequences begin as they may.
 fn has_fitting_names(base: &Base) -> bool
-    ensures { result ≡ ((names_differ (map table_name base.now.tables) && names_differ (map sequence_name base.now.sequences)) && list_all is_sequence_lem base.now.sequences) }
+    ensures { result ≡ ((names_differ (map table_name base.now.tables) && names_differ (map sequence_name base.now.sequences)) && list_all is_sequence_def base.now.sequences) }
 {
     let sequences = base.sequences.as_slice();
     are_distinct(base.tables.as_slice()) && are_distinct(sequences) && are_sequences(sequences)
@@ -103,7 +103,7 @@ fn has_fitting_names(base: &Base) -> bool
 // Whether a store may begin with this base: n log n for n rows.
 #[tactic(auto, unfolding(crate::specs::Bases::is_base))]
 pub fn is_base(alloc: Global, base: &Base) -> Result<bool, NoMemory>
-    ensures { IfOk result (λ is. is ≡ is_base_lem base.now) }
+    ensures { IfOk result (λ is. is ≡ is_base_def base.now) }
 {
     if !has_fitting_names(base) {
         return Ok(false);
@@ -113,7 +113,7 @@ pub fn is_base(alloc: Global, base: &Base) -> Result<bool, NoMemory>
 
 // The declarations of a base.
 fn schemas_of(alloc: Global, base: &Base) -> Result<Schemas, NoMemory>
-    ensures { IfOk result (λ schemas. schemas ≡ schemas_of_lem base.now) }
+    ensures { IfOk result (λ schemas. schemas ≡ schemas_of_def base.now) }
 {
     let mut schemas = Vec::new(alloc);
     for table in base.tables.as_slice() {
@@ -135,7 +135,7 @@ fn names_of(alloc: Global, base: &Base) -> Result<Names, NoMemory>
 
 // What exists in a base, whatever its rows.
 pub fn shape_of(alloc: Global, base: &Base) -> Result<Shape, NoMemory>
-    ensures { IfOk result (λ shape. shape ≡ shape_of_lem base.now) }
+    ensures { IfOk result (λ shape. shape ≡ shape_of_def base.now) }
 {
     Ok(Shape {
         schemas: schemas_of(alloc, base)?,

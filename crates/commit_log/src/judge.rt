@@ -1,10 +1,10 @@
 //! A journal under way: records are judged one by one and added to it.
 ghost use Rattle.std.specs.Prelude.{◌≡◌, Some, None, OnOk, IfOk, IsErrOf, IsTrue, [], map, false};
 ghost use Rattle.svc_values.specs.Identifiers.{IsLtxid};
-ghost use Rattle.stmt_meaning.specs.Fitting.{writes_fit as writes_fit_lem};
+ghost use Rattle.svc_values.specs.Fitting.{writes_fit as writes_fit_def};
 ghost use Rattle.canon_bytes.specs.Entries.{FitsEntry};
-ghost use Rattle.commit_log.specs.Bases.{shape_of as shape_of_lem};
-ghost use Rattle.commit_log.specs.Rules.{Empty, new_journal as new_journal_lem, after, may_open, may_commit, may_block, may_reserve};
+ghost use Rattle.commit_log.specs.Bases.{shape_of as shape_of_def};
+ghost use Rattle.commit_log.specs.Rules.{Empty, new_journal as new_journal_def, after, may_open, may_commit, may_block, may_reserve};
 ghost use Rattle.commit_log.specs.Journals.{after_payload};
 ghost use Rattle.commit_log.specs.Judging.{progress_in, Keeps};
 
@@ -72,7 +72,7 @@ pub struct Judge {
 
 // A journal of nothing but its base.
 fn new_journal(alloc: Global, base: Base) -> Journal
-    ensures { result ≡ new_journal_lem base }
+    ensures { result ≡ new_journal_def base }
 {
     Journal {
         base,
@@ -86,7 +86,7 @@ fn new_journal(alloc: Global, base: Base) -> Journal
 
 // Whether each write fits what is declared.
 fn writes_fit(shape: &Shape, writes: &[Write]) -> bool
-    ensures { result ≡ writes_fit_lem shape.now.schemas writes.now }
+    ensures { result ≡ writes_fit_def shape.now.schemas writes.now }
 {
     writes.iter().all(|write| write_fits(shape, write))
 }

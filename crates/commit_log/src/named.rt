@@ -1,7 +1,6 @@
 //! Names that stand once.
 ghost use Rattle.std.specs.Prelude.{◌≡◌, ℕ, List, map};
-ghost use Rattle.stmt_meaning.specs.Operands.{is_name_of};
-ghost use Rattle.commit_log.specs.Bases.{names_differ};
+ghost use Rattle.svc_values.specs.Names.{is_name_of, names_differ};
 
 use crate::base::{BaseSequence, BaseTable};
 use svc_values::{Column, Name};

@@ -3,7 +3,7 @@ use Rattle.std.proofs.Common.{◌≡◌, ℕ, Bool, ◌&&◌, List, [], ◌∷�
 use Rattle.std.specs.Prelude.{IsTrue, nat_le, Ok}
 use Rattle.svc_values.specs.declared.entry.Entry.{Entry}
 use Rattle.svc_values.specs.declared.entry.Write.{Write}
-use Rattle.stmt_meaning.specs.Fitting.{writes_fit}
+use Rattle.svc_values.specs.Fitting.{writes_fit}
 use Rattle.ltxid_book.specs.declared.State.{State}
 use Rattle.ltxid_book.specs.Sessions.{state_in, may_commit as can_commit, after_commit, Says}
 use Rattle.commit_log.specs.declared.journal.Journal.{Journal}

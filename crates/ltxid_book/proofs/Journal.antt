@@ -6,7 +6,7 @@ use Rattle.std.proofs.lemmas.Bool.Decides.{nat_tests}
 use Rattle.std.proofs.Math.Bool.{or-true, or-false}
 use Rattle.svc_values.specs.declared.entry.Ltxid.{Ltxid}
 use Rattle.ltxid_book.specs.declared.State.{State}
-use Rattle.ltxid_book.specs.Identifiers.{is_of, same_ltxid}
+use Rattle.svc_values.specs.Identifiers.{is_of, same_ltxid}
 use Rattle.ltxid_book.specs.Sessions.{may_commit}
 use Rattle.ltxid_book.specs.Journal.{Committed, commits_of, last_completed, is_blocked, next_ltxid, book_of, BlocksStand}
 use Rattle.ltxid_book.specs.Laws.{BeginsUntouched, FollowsCommits, FollowsBlocks, TellsBlocks}

@@ -3,7 +3,7 @@ use Rattle.std.specs.Prelude.{◌≡◌, ℕ, Bool, true, false, List, [], ◌�
 use Rattle.std.specs.List.{list_any}
 use Rattle.svc_values.specs.declared.entry.Ltxid.{Ltxid}
 use Rattle.ltxid_book.specs.declared.State.{State}
-use Rattle.ltxid_book.specs.Identifiers.{is_of, same_ltxid}
+use Rattle.svc_values.specs.Identifiers.{is_of, same_ltxid}
 
 -- a commit of a journal: its identifier, and whether the committing call had no statements
 pub record Committed : Type 0 where

@@ -1,4 +1,3 @@
-pub mod Identifiers
 pub mod Journal
 pub mod Laws
 pub mod Sessions

@@ -4,7 +4,7 @@ use Rattle.std.specs.Prelude.{◌≡◌, ℕ, ◌+◌, ◌==◌, ◌&&◌, Bool,
 use Rattle.std.specs.Map.{lookup}
 use Rattle.svc_values.specs.declared.entry.Ltxid.{Ltxid}
 use Rattle.ltxid_book.specs.declared.State.{State}
-use Rattle.ltxid_book.specs.Identifiers.{is_of}
+use Rattle.svc_values.specs.Identifiers.{is_of}
 
 -- a session that never committed and is not blocked
 abbrev pub untouched : State

@@ -1,6 +1,6 @@
 use Rattle.std.proofs.Common.{sym, ap, ◌∙◌}
 use Rattle.std.proofs.lemmas.Bool.{le-leb, lt-leb}
-use Rattle.stmt_meaning.specs.Fitting.{writes_fit}
+use Rattle.svc_values.specs.Fitting.{writes_fit}
 use Rattle.ltxid_book.specs.Sessions.{state_in, may_commit as can_commit}
 use Rattle.commit_log.proofs.Committing.{may_by_book, three_hold, second_fails, first_fails}
 use Rattle.commit_log.proofs.judge.Judge.can_commit.Goals as goal
