@@ -3,8 +3,6 @@
 
 mod recorded;
 mod recorder;
-#[cfg(test)]
-mod tests;
 
 pub use recorded::{NoteFault, Recorded, Seen};
 pub use recorder::{Recorder, follows_notes};

@@ -86,8 +86,8 @@ impl Recorder {
     }
 }
 
-/// A law, with nothing to run: after any notes and purges a recorder holds the calls noted since the
-/// last purge, in order.
+/// A law, with nothing to run: after any notes that were taken, and purges, a recorder holds the
+/// calls noted since the last purge, in order. A note that is refused changes nothing.
 pub fn follows_notes()
     ensures { HoldsNotedCalls }
 {}

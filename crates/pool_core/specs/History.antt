@@ -41,7 +41,8 @@ queue_step queue (Took client (take.Lent connection)) = without queue client
 queue_step queue (Left client) = without queue client
 queue_step queue _ = queue
 
--- the clients that were told to wait and were neither served since nor left, in the order in which they joined
+-- the clients that were told to wait and were neither served since nor left, in the order in which
+-- they joined
 abbrev pub waiters_after : List Did → List ℕ
 waiters_after history = fold queue_step [] history
 
@@ -53,7 +54,8 @@ idle_step idle (Gone connection) = without idle connection
 idle_step idle (Drained closed) = []
 idle_step idle _ = idle
 
--- the connections that were given back and kept, and were neither lent since nor gone, in the order in which they came back
+-- the connections that were given back and kept, and were neither lent since nor gone, in the order
+-- in which they came back
 abbrev pub idle_after : List Did → List ℕ
 idle_after history = fold idle_step [] history
 

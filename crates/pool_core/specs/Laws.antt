@@ -33,7 +33,8 @@ ClosesDraining =
     → Run (unused max) (before ++ GaveBack connection answer ∷ after) last → is_among connection (opened_in before) ≡ true
     → (answer ≡ back.Closed) ↔ (is_among connection (draining_in before) ≡ true)
 
--- what the pool holds is what its calls tell: the queue is in the order in which the waiters joined it
+-- what the pool holds is what its calls tell: the queue is in the order in which the waiters joined
+-- it
 pub record IsTold (max : ℕ) (history : List Did) (slots : Slots) : Type 0 where
   pub slots_are : slots.max ≡ max
   pub held : slots.lent ≡ held_after history

@@ -8,8 +8,8 @@ use Rattle.pool_core.specs.declared.answers.Back.TheVariants as back
 
 -- `lent` counts the slots that requests hold, those that are connecting included. The queue is in
 -- the order in which its clients joined it, and the idle connections are in the order in which they
--- were given back. `opened` is the last connection that was opened, and `drained` the one at the last
--- drain, each 0 where there is none.
+-- were given back. `opened` is the last connection that was opened, and `drained` the one at the
+-- last drain, each 0 where there is none.
 pub record Slots : Type 0 where
   pub max : ℕ
   pub lent : ℕ

@@ -1,7 +1,7 @@
 //! What a pool answers.
 
 /// What a client gets that asks for a connection.
-#[derive(Clone, Copy, Debug, PartialEq, Eq)]
+#[derive(Clone, Copy)]
 pub enum Take {
     /// A slot, and this idle connection.
     Lent(u64),
@@ -12,7 +12,7 @@ pub enum Take {
 }
 
 /// What becomes of a connection that is given back.
-#[derive(Clone, Copy, Debug, PartialEq, Eq)]
+#[derive(Clone, Copy)]
 pub enum Back {
     /// It is idle from now on.
     Idle,

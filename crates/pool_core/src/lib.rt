@@ -1,10 +1,9 @@
-//! The pool: slots that requests hold, clients that wait for one, and connections that are lent again.
+//! The pool: slots that requests hold, clients that wait for one, and connections that are lent
+//! again.
 #![tactic(auto)]
 
 mod answers;
 mod pool;
-#[cfg(test)]
-mod tests;
 
 pub use answers::{Back, Take};
 pub use pool::{Pool, lends_in_order};

@@ -9,9 +9,9 @@ use std::collections::VecDeque;
 use std::marker::Model;
 use svc_values::NoMemory;
 
-/// A number of slots, a queue of clients that wait for one, and the idle connections. A request holds
-/// one slot from the answer `Lent` or `Open` until its connection is given back or lost, also where it
-/// goes from one connection to another.
+/// A number of slots, a queue of clients that wait for one, and the idle connections. A request
+/// holds one slot from the answer `Lent` or `Open` until its connection is given back or lost, also
+/// where it goes from one connection to another.
 ///
 /// The pool knows slots, not who holds them. `take` is for a client that holds none.
 #[derive(Drop)]
@@ -69,12 +69,12 @@ impl Pool {
         }
     }
 
-    /// Asks for a slot and a connection. The client waits exactly where no slot is left beside those
-    /// that are held and those of the waiters before it. Else it leaves the queue, and gets the
-    /// connection that has been idle longest, or leave to open one.
+    /// Asks for a slot and a connection. The client waits exactly where no slot is left beside
+    /// those that are held and those of the waiters before it. Else it leaves the queue, and gets
+    /// the connection that has been idle longest, or leave to open one.
     ///
-    /// Memory is taken only where the client joins the queue. Where it is refused the pool stays as it
-    /// was. Linear in the waiters.
+    /// Memory is taken only where the client joins the queue. Where it is refused the pool stays as
+    /// it was. Linear in the waiters.
     pub fn take(&mut self, client: u64) -> Result<Take, NoMemory>
         ensures answer { IfOk result (λ take. take ≡ take_answer self.old client) }
         ensures after { OnOk result (self.new ≡ after_take self.old client) }
@@ -105,9 +105,9 @@ impl Pool {
         self.opened = connection;
     }
 
-    /// Takes back a connection with its slot. `Closed` comes exactly where it was opened before the last
-    /// drain. The connection has been opened, is not idle, and has not ended. Where memory is refused the
-    /// pool stays as it was. Constant.
+    /// Takes back a connection with its slot. `Closed` comes exactly where it was opened before the
+    /// last drain. The connection has been opened, is not idle, and has not ended. Where memory is
+    /// refused the pool stays as it was. Constant.
     pub fn give_back(&mut self, connection: u64) -> Result<Back, NoMemory>
         requires slot { 0 < self.old.lent }
         requires was_opened { connection ≤ self.old.opened }
@@ -134,25 +134,25 @@ impl Pool {
         self.lent -= 1;
     }
 
-    /// Lets go of an idle connection that has ended. Another one changes nothing. Linear in the idle
-    /// connections; takes no memory.
+    /// Lets go of an idle connection that has ended. Another one changes nothing. Linear in the
+    /// idle connections; takes no memory.
     pub fn gone(&mut self, connection: u64)
         ensures { self.new ≡ after_gone self.old connection }
     {
         take_out(&mut self.idle, connection);
     }
 
-    /// Lets a client leave the queue. One that does not wait changes nothing. Linear in the waiters;
-    /// takes no memory.
+    /// Lets a client leave the queue. One that does not wait changes nothing. Linear in the
+    /// waiters; takes no memory.
     pub fn leave(&mut self, client: u64)
         ensures { self.new ≡ after_leave self.old client }
     {
         take_out(&mut self.queue, client);
     }
 
-    /// Lets all connections that were opened so far go: the idle ones at once, which the caller closes,
-    /// in the order in which they were given back, and each other one when it is given back. Where
-    /// memory is refused the pool stays as it was. Linear in the idle connections.
+    /// Lets all connections that were opened so far go: the idle ones at once, which the caller
+    /// closes, in the order in which they were given back, and each other one when it is given
+    /// back. Where memory is refused the pool stays as it was. Linear in the idle connections.
     pub fn drain(&mut self) -> Result<Vec<u64>, NoMemory>
         ensures closed { IfOk result (λ closed. closed.items ≡ self.old.idle) }
         ensures after { OnOk result (self.new ≡ after_drain self.old) }
@@ -165,9 +165,11 @@ impl Pool {
     }
 }
 
-/// A law, with nothing to run, over every list of calls of a pool with their answers. No connection is
-/// lent that is out already, or that drains; the one that is lent has been idle longest; a client waits
-/// exactly where no slot is left for it; the queue is in the order in which the waiters joined it.
+/// A law, with nothing to run, over every list of calls that a pool may be given, with their
+/// answers: connections are opened with rising numbers, one that is given back was opened and is
+/// not idle, and a slot is held at each `give_back` and `lost`. No connection is lent that is out
+/// already, or that drains; the one that is lent has been idle longest; a client waits exactly
+/// where no slot is left for it; the queue is in the order in which the waiters joined it.
 pub fn lends_in_order()
     ensures takes { TakesFairly }
     ensures closes { ClosesDraining }

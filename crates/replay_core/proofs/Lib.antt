@@ -1,1 +1,1 @@
-pub mod Repeats
+mod Repeats

@@ -1,4 +1,3 @@
-pub mod Deciding
 pub mod Lending
-pub mod States
+pub mod Telling
 pub mod Verifying

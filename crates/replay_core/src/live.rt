@@ -1,11 +1,12 @@
 //! A request on a session.
 ghost use Rattle.std.specs.Prelude.{◌≡◌, []};
 ghost use Rattle.std.specs.Borrow.{sem};
-ghost use Rattle.replay_core.specs.States.{lost_by};
+ghost use Rattle.client_model.specs.States.{lost_by};
 ghost use Rattle.replay_core.specs.Lending.{LiveLends};
 
+use crate::held::Held;
 use crate::lost::Lost;
-use crate::track::Track;
+use client_model::Track;
 use std::marker::Model;
 use svc_values::Ltxid;
 
@@ -17,7 +18,7 @@ pub struct Live {
 }
 
 impl Model for Live {
-    ghost use Rattle.replay_core.specs.States.{Living};
+    ghost use Rattle.client_model.specs.States.{Living};
 
     ghost Value = { Living };
 
@@ -33,11 +34,18 @@ impl Live {
         Live::resumed(track, ltxid)
     }
 
-    // The state in which a request goes on, on another session.
+    /// The state in which a request goes on, on this session.
     pub(crate) fn resumed(track: Track, ltxid: Ltxid) -> Live
         ensures { result ≡ record { track = track; ltxid = ltxid } }
     {
         Live { track, ltxid }
+    }
+
+    /// The identifier of the session.
+    pub fn ltxid(&self) -> &Ltxid
+        ensures { result.now ≡ self.now.ltxid }
+    {
+        &self.ltxid
     }
 
     /// Takes the identifier that a reply carries.
@@ -53,6 +61,13 @@ impl Live {
         ensures value { result.now ≡ self.old.track }
     {
         &mut self.track
+    }
+
+    /// Takes the track out, to be changed by value and put back by `Held::join`.
+    pub fn part(self) -> (Track, Held)
+        ensures { result ≡ (self.track, self.ltxid) }
+    {
+        (self.track, Held::new(self.ltxid))
     }
 
     /// The connection is gone, by this event.

@@ -1,14 +1,14 @@
 //! A request without a session.
 ghost use Rattle.std.specs.Prelude.{◌≡◌};
-ghost use Rattle.replay_core.specs.States.{asked_on};
+ghost use Rattle.client_model.specs.States.{asked_on};
 
 use crate::asked::Asked;
-use crate::track::Track;
+use client_model::Track;
 use std::marker::Model;
 use svc_values::Ltxid;
 
-/// A request whose connection was lost. Nothing is known of its last transaction but the identifier,
-/// whose outcome is to be asked on a new session.
+/// A request whose connection was lost. Nothing is known of its last transaction but the
+/// identifier, whose outcome is to be asked on a new session.
 #[derive(Drop)]
 pub struct Lost {
     track: Track,
@@ -17,7 +17,7 @@ pub struct Lost {
 }
 
 impl Model for Lost {
-    ghost use Rattle.replay_core.specs.States.{Losing};
+    ghost use Rattle.client_model.specs.States.{Losing};
 
     ghost Value = { Losing };
 
@@ -25,7 +25,7 @@ impl Model for Lost {
 }
 
 impl Lost {
-    // A request that lost the session with this identifier, by this event.
+    /// A request that lost the session with this identifier, by this event.
     pub(crate) fn new(track: Track, ltxid: Ltxid, event: u64) -> Lost
         ensures { result ≡ record { track = track; ltxid = ltxid; event = event } }
     {
@@ -41,6 +41,13 @@ impl Lost {
         ensures { result.now ≡ self.now.ltxid }
     {
         &self.ltxid
+    }
+
+    /// The event that ended the connection of the lost session.
+    pub fn event(&self) -> u64
+        ensures { result ≡ self.now.event }
+    {
+        self.event
     }
 
     /// The outcome was asked on a new session, which has the identifier `fresh`.

@@ -2,14 +2,14 @@
 ghost use Rattle.std.specs.Prelude.{◌≡◌, ◌≤◌, ◌<◌, ◌+◌, ◌^◌, ◌↔◌, length, Some, IsSome, IsNone, IsTrue};
 ghost use Rattle.std.specs.Option.{option_copied};
 ghost use Rattle.call_recorder.specs.declared.recorded.Recorded.{Recorded};
-ghost use Rattle.replay_core.specs.States.{IsRepeating, next_of, lost_in_replay};
-ghost use Rattle.replay_core.specs.Verifying.{is_done, compared, ready_of, VerifiesAll};
+ghost use Rattle.client_model.specs.States.{IsRepeating, next_of, lost_in_replay};
+ghost use Rattle.client_model.specs.Verifying.{compared};
+ghost use Rattle.replay_core.specs.Verifying.{is_done, ready_of, VerifiesAll};
 
 use crate::live::Live;
 use crate::lost::Lost;
-use crate::told::{Mismatch, Over};
-use crate::track::Track;
 use call_recorder::Recorded;
+use client_model::{Mismatch, Over, Track};
 use std::marker::Model;
 use svc_values::Ltxid;
 
@@ -23,7 +23,7 @@ pub struct Replaying {
 }
 
 impl Model for Replaying {
-    ghost use Rattle.replay_core.specs.States.{Repeating, IsRepeating};
+    ghost use Rattle.client_model.specs.States.{Repeating, IsRepeating};
 
     ghost Value = { Repeating };
 
@@ -40,7 +40,7 @@ pub struct Ready {
 }
 
 impl Model for Ready {
-    ghost use Rattle.replay_core.specs.States.{Living};
+    ghost use Rattle.client_model.specs.States.{Living};
 
     ghost Value = { Living };
 
@@ -48,7 +48,7 @@ impl Model for Ready {
 }
 
 impl Replaying {
-    // One replay more, on the session with this identifier, with no call verified yet.
+    /// One replay more, on the session with this identifier, with no call verified yet.
     pub(crate) fn start(mut track: Track, ltxid: Ltxid, event: u64) -> Replaying
         requires another { track.replays + 1 < 2 ^ 64 }
         requires before { length track.recorder.calls ≤ track.call }
@@ -63,6 +63,20 @@ impl Replaying {
         }
     }
 
+    /// The identifier of the session on which the calls are repeated.
+    pub fn ltxid(&self) -> &Ltxid
+        ensures { result.now ≡ self.now.ltxid }
+    {
+        &self.ltxid
+    }
+
+    /// The event that ended the connection of the session that was lost before.
+    pub fn event(&self) -> u64
+        ensures { result ≡ self.now.event }
+    {
+        self.event
+    }
+
     /// The recorded call to be repeated next, and `None` exactly where all are verified.
     pub fn next(&self) -> Option<&Recorded>
         ensures next { option_copied result ≡ next_of self.now }
@@ -72,8 +86,8 @@ impl Replaying {
         self.track.recorder.entry(self.verified)
     }
 
-    /// Takes the digest of the next call's answers: refused exactly where it is another one than the
-    /// recorded one, and then the request is over.
+    /// Takes the digest of the next call's answers: refused exactly where it is another one than
+    /// the recorded one, and then the request is over.
     pub fn verify(mut self, now: &[u8; 32]) -> Result<Replaying, (Over, Mismatch)>
         requires { IsSome (next_of self) }
         ensures { (one : Recorded) → next_of self ≡ Some one → result ≡ compared one self now.now }
@@ -96,8 +110,8 @@ impl Replaying {
         Err((over, Mismatch { call, seen, now }))
     }
 
-    /// The connection is gone, by this event. An outcome was taken on its session, so the identifier
-    /// of that session is the one to be asked.
+    /// The connection is gone, by this event. An outcome was taken on its session, so the
+    /// identifier of that session is the one to be asked.
     pub fn lose(self, event: u64) -> Lost
         ensures { result ≡ lost_in_replay self event }
     {
@@ -119,6 +133,13 @@ impl Replaying {
 }
 
 impl Ready {
+    /// The identifier of the session on which the calls were repeated.
+    pub fn ltxid(&self) -> &Ltxid
+        ensures { result.now ≡ self.now.ltxid }
+    {
+        &self.ltxid
+    }
+
     /// The state in which the lost call is sent, without the mark.
     pub fn submit(self) -> Live
         ensures { result ≡ self }

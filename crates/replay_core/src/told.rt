@@ -1,11 +1,12 @@
 //! What an outcome leads to.
 ghost use Rattle.std.specs.Prelude.{◌≡◌};
 ghost use Rattle.std.specs.Borrow.{sem};
+ghost use Rattle.client_model.specs.States.{resumed};
 ghost use Rattle.replay_core.specs.Lending.{FreshLends};
 
 use crate::live::Live;
 use crate::replaying::Replaying;
-use crate::track::Track;
+use client_model::{Over, Track};
 use request_bounds::Why;
 use std::marker::Model;
 use svc_values::Ltxid;
@@ -16,22 +17,41 @@ use svc_values::Ltxid;
 pub struct Fresh {
     track: Track,
     ltxid: Ltxid,
+    event: u64,
 }
 
 impl Model for Fresh {
-    ghost use Rattle.replay_core.specs.States.{Living};
+    ghost use Rattle.client_model.specs.States.{Resuming};
 
-    ghost Value = { Living };
+    ghost Value = { Resuming };
 
-    ghost view = { λ s. record { track = s.track; ltxid = s.ltxid } };
+    ghost view = { λ s. record { track = s.track; ltxid = s.ltxid; event = s.event } };
 }
 
 impl Fresh {
-    // On the session with this identifier.
-    pub(crate) fn new(track: Track, ltxid: Ltxid) -> Fresh
-        ensures { result ≡ record { track = track; ltxid = ltxid } }
+    /// On the session with this identifier, after the loss by the event.
+    pub(crate) fn new(track: Track, ltxid: Ltxid, event: u64) -> Fresh
+        ensures { result ≡ record { track = track; ltxid = ltxid; event = event } }
     {
-        Fresh { track, ltxid }
+        Fresh {
+            track,
+            ltxid,
+            event,
+        }
+    }
+
+    /// The identifier of the session that answered.
+    pub fn ltxid(&self) -> &Ltxid
+        ensures { result.now ≡ self.now.ltxid }
+    {
+        &self.ltxid
+    }
+
+    /// The event that ended the connection of the lost session.
+    pub fn event(&self) -> u64
+        ensures { result ≡ self.now.event }
+    {
+        self.event
     }
 
     /// Lends the track, to which the driver applies its rule as to a reply. The identifier stays.
@@ -44,26 +64,10 @@ impl Fresh {
 
     /// The request goes on with its next call.
     pub fn resume(self) -> Live
-        ensures { result ≡ self }
+        ensures { result ≡ resumed self }
     {
         Live::resumed(self.track, self.ltxid)
     }
-}
-
-/// A request that ends: its track, and the event of the loss.
-#[derive(Drop)]
-pub struct Over {
-    pub track: Track,
-    pub event: u64,
-}
-
-/// A repeated call that was answered otherwise than before: its index in the request, from 0, and the
-/// digests of both answers.
-#[derive(Clone, Copy, Debug, PartialEq, Eq)]
-pub struct Mismatch {
-    pub call: u64,
-    pub seen: [u8; 32],
-    pub now: [u8; 32],
 }
 
 /// What the outcome of a lost identifier leads to.

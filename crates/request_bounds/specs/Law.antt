@@ -12,7 +12,8 @@ use Rattle.request_bounds.specs.Rules.{Rules}
 abbrev pub HoldsSettings : Rules → Type 0
 HoldsSettings rules = ((name : List ℕ) (value : Value) (index : ℕ) → IsSome (rules.submit (call.Set name value) index)) ⊎ IsTrue rules.keeps
 
--- a purge comes only where the answers end with Committed or Conflict, and then the settings are held
+-- a purge comes only where the answers end with Committed or Conflict, and then the settings are
+-- held
 abbrev pub PurgesDecided : Rules → Type 0
 PurgesDecided rules = (answers : List Answer) → rules.reply answers ≡ after.Purge → IsTrue (ends_decided answers) × HoldsSettings rules
 

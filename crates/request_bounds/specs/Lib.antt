@@ -1,5 +1,5 @@
 pub mod Law
-pub mod Lawful
 pub mod Limits
 pub mod Replies
 pub mod Rules
+pub mod InnerLawful

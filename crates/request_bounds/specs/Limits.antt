@@ -6,7 +6,8 @@ abbrev pub IsPast : Option ℕ → ℕ → Type 0
 IsPast None now = Unit {0}
 IsPast (Some tick) now = tick ≤ now
 
--- a first try waits for nothing, each other one until `delay` ticks have passed since the failed one
+-- a first try waits for nothing, each other one until `delay` ticks have passed since the failed
+-- one
 abbrev pub has_waited : Option ℕ → ℕ → ℕ → Bool
 has_waited None now delay = true
 has_waited (Some last) now delay = nat_le delay (now - last)

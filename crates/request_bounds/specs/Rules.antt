@@ -1,5 +1,5 @@
 -- What each rule decides: a row of functions for each.
-use Rattle.std.specs.Prelude.{ℕ, Bool, false, List, Option, Some, None, if◌then◌else◌}
+use Rattle.std.specs.Prelude.{ℕ, Bool, true, false, List, Option, Some, None, if◌then◌else◌}
 use Rattle.svc_values.specs.declared.answer.Answer.{Answer}
 use Rattle.svc_values.specs.declared.call.Call.{Call}
 use Rattle.svc_values.specs.declared.call.Call.TheVariants as call
@@ -38,3 +38,8 @@ static_rules = record { submit = stopped_static; reply = λ answers. if ends_dec
 -- dynamic session state: no replay after the first transaction
 abbrev pub dynamic_rules : Rules
 dynamic_rules = record { submit = stopped_at; reply = λ answers. if ends_decided answers then after.Stop why.AfterCommit else after.Record; keeps = false }
+
+-- settings that are kept: recording begins anew after each transaction, and a later session begins
+-- with the settings that were shown
+abbrev pub auto_rules : Rules
+auto_rules = record { submit = stopped_at; reply = λ answers. if ends_decided answers then after.Purge else after.Record; keeps = true }

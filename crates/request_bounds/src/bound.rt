@@ -10,8 +10,8 @@ ghost use Rattle.request_bounds.specs.Law.{IsLawful};
 use crate::rule::{After, Why};
 use svc_values::{Answer, Call};
 
-/// Tells how far a request stays protected. Its answers follow from the call or the answers alone, and
-/// none of its methods takes memory.
+/// Tells how far a request stays protected. Its answers follow from the call or the answers alone,
+/// and none of its methods takes memory.
 pub trait BoundRule {
     ghost submit: { Self → Submitted → ℕ → Option Reason };
 
@@ -19,7 +19,8 @@ pub trait BoundRule {
 
     ghost keeps: { Self → Bool };
 
-    /// Whether the submission of this call, which has this index in its request, ends the protection.
+    /// Whether the submission of this call, which has this index in its request, ends the
+    /// protection.
     fn on_submit(&self, call: &Call, index: u64) -> Option<Why>
         requires { IsMade call.now }
         ensures { result ≡ submit self.now call.now index };

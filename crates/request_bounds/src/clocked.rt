@@ -2,11 +2,11 @@
 ghost use Rattle.std.specs.Prelude.{◌≡◌, ◌↔◌, ◌≤◌, ◌<◌, ◌-◌, ℕ, IsTrue, nat_le, nat_lt};
 ghost use Rattle.request_bounds.specs.Limits.{IsPast, has_waited};
 
-/// The limits of a service. `retries` is how many tries in a row may fail, `replays` how many replays
-/// a request may start. `delay`, `timeout` and `wait` are ticks: between a failed try and the next,
-/// from a request's first submitted call to a replay, and in the queue of the pool. No method takes
-/// memory, and a tick that is handed in as an earlier one is not above `now`.
-#[derive(Clone, Copy, Debug, PartialEq, Eq)]
+/// The limits of a service. `retries` is how many tries in a row may fail, `replays` how many
+/// replays a request may start. `delay`, `timeout` and `wait` are ticks: between a failed try and
+/// the next, from a request's first submitted call to a replay, and in the queue of the pool. No
+/// method takes memory, and a tick that is handed in as an earlier one is not above `now`.
+#[derive(Clone, Copy)]
 pub struct Clocked {
     pub retries: u64,
     pub delay: u64,
@@ -34,8 +34,8 @@ impl Clocked {
         tries >= self.retries
     }
 
-    /// Whether it is too late for a replay, where `first` is the tick of the request's first submitted
-    /// call.
+    /// Whether it is too late for a replay, where `first` is the tick of the request's first
+    /// submitted call.
     pub fn late(&self, first: u64, now: u64) -> bool
         requires { first ≤ now }
         ensures { IsTrue result ↔ (self.now.timeout < now - first) }

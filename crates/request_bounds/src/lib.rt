@@ -6,10 +6,8 @@ mod bound;
 mod clocked;
 mod rule;
 mod rules;
-#[cfg(test)]
-mod tests;
 
 pub use bound::BoundRule;
 pub use clocked::Clocked;
 pub use rule::{After, Why};
-pub use rules::{DynamicRule, OffRule, StaticRule};
+pub use rules::{DynamicRule, OffRule, StaticRule, auto_is_lawful};

@@ -3,9 +3,9 @@ ghost use Rattle.std.specs.Prelude.{◌≡◌, ℕ};
 
 use svc_values::{Answer, Call};
 
-/// Why a request can't be replayed any more. A number is the index of the call in the request, from 0,
-/// that of `Full` the greatest number of calls that are recorded.
-#[derive(Clone, Copy, Debug, PartialEq, Eq)]
+/// Why a request can't be replayed any more. A number is the index of the call in the request, from
+/// 0, that of `Full` the greatest number of calls that are recorded.
+#[derive(Clone, Copy, PartialEq, Eq)]
 pub enum Why {
     /// There is no replay.
     Off,
@@ -24,11 +24,12 @@ pub enum Why {
 }
 
 /// What a reply does to the recorder.
-#[derive(Clone, Copy, Debug, PartialEq, Eq)]
+#[derive(Clone, Copy, PartialEq, Eq)]
 pub enum After {
     /// Its call is recorded.
     Record,
-    /// The recorded calls are dropped, since their transaction has ended, and the call is not recorded.
+    /// The recorded calls are dropped, since their transaction has ended, and the call is not
+    /// recorded.
     Purge,
     /// The request is not replayed any more.
     Stop(Why),

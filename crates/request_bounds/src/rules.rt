@@ -1,29 +1,30 @@
 //! The rules of a service without replay, with static and with dynamic session state.
 ghost use Rattle.std.specs.Prelude.{◌≡◌};
-ghost use Rattle.request_bounds.specs.Rules.{stopped_at, off_rules, static_rules, dynamic_rules};
-ghost use Rattle.request_bounds.specs.Replies.{ends_decided};
-ghost use Rattle.request_bounds.specs.Lawful.{off_lawful, static_lawful, dynamic_lawful};
+ghost use Rattle.request_bounds.specs.Law.{IsLawful};
+ghost use Rattle.request_bounds.specs.Rules.{stopped_at as stopped_at_def, off_rules, static_rules, dynamic_rules, auto_rules};
+ghost use Rattle.request_bounds.specs.Replies.{ends_decided as ends_decided_def};
+ghost use Rattle.request_bounds.specs.InnerLawful.{off_lawful, static_lawful, dynamic_lawful};
 
 use crate::bound::BoundRule;
 use crate::rule::{After, Why};
 use svc_values::{Answer, Call, ends_committed, ends_conflict};
 
 /// No replay at all.
-#[derive(Clone, Copy, Debug, PartialEq, Eq)]
+#[derive(Clone, Copy)]
 pub struct OffRule;
 
 /// Static session state: recording begins anew after each transaction, and a call that changes a
 /// setting ends the protection.
-#[derive(Clone, Copy, Debug, PartialEq, Eq)]
+#[derive(Clone, Copy)]
 pub struct StaticRule;
 
 /// Dynamic session state: the first transaction of a request that is decided ends its protection.
-#[derive(Clone, Copy, Debug, PartialEq, Eq)]
+#[derive(Clone, Copy)]
 pub struct DynamicRule;
 
 /// Whether a commit was reached and decided: the last answer is `Committed` or `Conflict`.
 fn ends_decided(answers: &[Answer]) -> bool
-    ensures { result ≡ ends_decided answers.now }
+    ensures { result ≡ ends_decided_def answers.now }
 {
     ends_committed(answers) || ends_conflict(answers)
 }
@@ -31,7 +32,7 @@ fn ends_decided(answers: &[Answer]) -> bool
 /// The reason that a command gives under each rule that replays: what alters the service is not
 /// repeated, and whoever asks not to be replayed is not.
 fn stopped_at(call: &Call, index: u64) -> Option<Why>
-    ensures { result ≡ stopped_at call.now index }
+    ensures { result ≡ stopped_at_def call.now index }
 {
     match call {
         Call::Alter { .. } => Some(Why::Restricted(index)),
@@ -116,3 +117,9 @@ impl BoundRule for DynamicRule {
         false
     }
 }
+
+/// A law, with nothing to run: the row of a service that keeps settings through a replay, where
+/// each transaction begins the recording anew, is lawful too.
+pub fn auto_is_lawful()
+    ensures { IsLawful auto_rules }
+{}

@@ -26,14 +26,16 @@ impl SessionState {
         }
     }
 
-    /// Begins a request: the settings are the given ones, and those of before are dropped. It takes no memory.
+    /// Begins a request: the settings are the given ones, and those of before are dropped. It takes
+    /// no memory.
     pub fn begin(&mut self, settings: Settings)
         ensures { self.new.settings ≡ settings }
     {
         self.settings = settings;
     }
 
-    /// Sets the name, in the place of the value that it had, if any. The cost is logarithmic in the names that are set.
+    /// Sets the name, in the place of the value that it had, if any. The cost is logarithmic in the
+    /// names that are set.
     pub fn set(&mut self, name: Name, value: Value) -> Result<(), NoMemory>
         ensures ok { OnOk result (self.new.settings ≡ put_setting self.old.settings name value) }
         ensures err { OnErr result (self.new ≡ self.old) }
@@ -41,7 +43,8 @@ impl SessionState {
         self.settings.put(name, value)
     }
 
-    /// The value of the name, and `None` exactly where it is not set. The cost is logarithmic in the names that are set.
+    /// The value of the name, and `None` exactly where it is not set. The cost is logarithmic in
+    /// the names that are set.
     pub fn get(&self, name: &Name) -> Option<&Value>
         ensures { option_copied result ≡ setting_of self.now.settings name.now }
     {
@@ -55,6 +58,3 @@ impl SessionState {
         self.settings = Settings::new(self.alloc);
     }
 }
-
-#[cfg(test)]
-mod tests;

@@ -1,0 +1,15 @@
+mod Calming
+mod Causes
+mod Fits
+mod Going
+mod Outcomes
+mod Repeating
+mod Replies
+mod Rows
+mod Sending
+mod Showing
+mod Slots
+mod Stepped
+pub mod Steps
+pub mod Tables
+mod Trying
