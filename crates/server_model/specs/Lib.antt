@@ -1,0 +1,16 @@
+pub mod Base
+pub mod Core
+pub mod Draws
+pub mod Fresh
+pub mod Items
+pub mod Legal
+pub mod NewValues
+pub mod Outcomes
+pub mod Runs
+pub mod Serve
+pub mod Sessions
+pub mod ToldRight
+pub mod Walk
+pub mod Seen
+pub mod ServiceCalls
+pub mod Laws

@@ -1,0 +1,255 @@
+-- What each call of a service does to what is seen of it.
+use Rattle.std.specs.Prelude.{◌≡◌, ◌≢◌, ◌⊎◌, ◌+◌, ◌*◌, ◌%◌, ◌<◌, ◌≤◌, ℕ, Bool, true, false, List, [], ◌∷◌, ◌++◌, length, filter, Option, Some, None, All, nat_lt, if◌then◌else◌}
+use Rattle.svc_values.specs.declared.draw.Draw.{Draw}
+use Rattle.svc_values.specs.declared.draw.DrawKind.{DrawKind}
+use Rattle.svc_values.specs.declared.draw.DrawKind.TheVariants as kind
+use Rattle.svc_values.specs.declared.call.Call.{Call}
+use Rattle.svc_values.specs.declared.answer.Answer.{Answer}
+use Rattle.svc_values.specs.declared.entry.Entry.{Entry}
+use Rattle.svc_values.specs.declared.entry.Ltxid.{Ltxid}
+use Rattle.svc_values.specs.declared.frame.Up.{Up}
+use Rattle.svc_values.specs.declared.frame.Up.TheVariants as up
+use Rattle.svc_values.specs.declared.frame.Down.TheVariants as down
+use Rattle.outcome_call.specs.declared.Verdict.{Verdict}
+use Rattle.outcome_call.specs.declared.Verdict.TheVariants as verdict
+use Rattle.svc_values.specs.declared.entry.SessionId.{SessionId}
+use Rattle.svc_values.specs.Identifiers.{ltxid_of}
+use Rattle.server_model.specs.Outcomes.{Told, Silent, Says, Stopped, down_of}
+use Rattle.server_model.specs.Runs.{Happened, Served, Asked}
+use Rattle.server_model.specs.NewValues.{asked_of}
+use Rattle.server_model.specs.Seen.{Store, Living, Seen, connection_in, without_connection, with_session, Rose, Keeps, KeepsStore}
+
+-- ---- connect, reap, stop_after
+
+abbrev pub if_connected : Bool → ℕ → List Living → List Living
+if_connected false connection living = living
+if_connected true connection living = living ++ record { connection = connection; session = None } ∷ []
+
+-- it connects exactly where it is up, and the connection has no session yet
+pub record Connected (old : Seen) (connection : ℕ) (answer : Bool) (new : Seen) : Type 0 where
+  pub keeps : Keeps old new
+  pub keeps_store : KeepsStore old new
+  pub answered : answer ≡ old.is_up
+  pub living : new.living ≡ if_connected answer connection old.living
+
+pub record Reaped (old : Seen) (connection : ℕ) (new : Seen) : Type 0 where
+  pub keeps : Keeps old new
+  pub keeps_store : KeepsStore old new
+  pub living : new.living ≡ without_connection connection old.living
+
+abbrev pub with_stop : Seen → Option ℕ → Seen
+with_stop old stop = record old { stop = stop; calls = old.calls + 1 }
+
+-- ---- stops
+
+abbrev pub is_of_sequence : DrawKind → Bool
+is_of_sequence (kind.Seq name) = true
+is_of_sequence kind.Clock = false
+is_of_sequence kind.Id = false
+
+-- the sequence operands of the frame's call
+abbrev pub sequence_operands : Up → ℕ
+sequence_operands (up.Call replay kept called) = length (filter is_of_sequence (asked_of called))
+sequence_operands _ = 0
+
+-- the frame may make a device call
+abbrev pub may_store : Up → Bool
+may_store (up.Call replay kept called) = true
+may_store (up.Outcome x) = true
+may_store _ = false
+
+-- In a quiet service a fault comes only under a stop of fewer device calls than these records take.
+-- Under a stop a record is added by an answered call only where the stop lets it through.
+pub record StopCause (old new : Seen) (records : ℕ) (told : Told) : Type 0 where
+  pub rose : told ≡ Stopped → Rose old new
+  pub quiet : old.is_quiet ≡ true → new.faults ≢ old.faults → (n : ℕ) × (old.stop ≡ Some n) × (n < old.per_record * records)
+  pub reached : (n : ℕ) → old.stop ≡ Some n → new.store.records ≢ old.store.records → told ≢ Stopped → old.per_record ≤ n
+
+-- In a quiet service a fault comes only under a stop.
+pub record StopsOnly (old new : Seen) (is_stopped : Bool) : Type 0 where
+  pub rose : is_stopped ≡ true → Rose old new
+  pub quiet : old.is_quiet ≡ true → new.faults ≢ old.faults → old.stop ≢ None
+
+-- ---- what a call adds to the store
+
+-- at most so many entries, blocks and lines together, and records
+pub record Adds (old new : Store) (lines most : ℕ) : Type 0 where
+  pub incarnation : new.incarnation ≡ old.incarnation
+  pub more_entries : List Entry
+  pub more_blocked : List Ltxid
+  pub more_alerts : List (List ℕ)
+  pub entries : new.entries ≡ old.entries ++ more_entries
+  pub blocked : new.blocked ≡ old.blocked ++ more_blocked
+  pub alerts : new.alerts ≡ old.alerts ++ more_alerts
+  pub few : length more_entries + length more_blocked + length more_alerts ≤ lines
+  pub records : (old.records ≤ new.records) × (new.records ≤ old.records + most)
+
+-- ---- serve
+
+-- the connection's session: the one that it has, or the next one
+abbrev pub next_session : Seen → SessionId
+next_session old = record { incarnation = old.store.incarnation; session = old.sessions + 1 }
+
+abbrev pub SessionOf : Seen → ℕ → SessionId → ℕ → Type 0
+SessionOf old connection session sessions =
+    ((connection_in old.living connection ≡ Some (Some session)) × (sessions ≡ old.sessions)) ⊎ ((connection_in old.living connection ≡ Some None) × (session ≡ next_session old) × (sessions ≡ old.sessions + 1))
+
+-- the answer ends the session
+abbrev pub ends_session : Up → Told → Bool
+ends_session up.Close Silent = true
+ends_session frame (Says down.Blocked) = true
+ends_session frame (Says (down.Refused cause)) = true
+ends_session _ _ = false
+
+-- at a stop no connection lives any more
+abbrev pub living_after : Up → Told → ℕ → SessionId → List Living → List Living
+living_after frame Stopped connection session living = []
+living_after frame told connection session living = if ends_session frame told then without_connection connection living else with_session connection session living
+
+abbrev pub is_up_after : Told → Bool
+is_up_after Stopped = false
+is_up_after _ = true
+
+-- A frame joins the history as one thing, of the connection's session. It adds at most one entry,
+-- block or line, and a block for each sequence operand.
+pub record ServedOne (old : Seen) (connection now : ℕ) (frame : Up) (told : Told) (new : Seen) : Type 0 where
+  pub keeps : Keeps old new
+  pub session : SessionId
+  pub of_connection : SessionOf old connection session new.sessions
+  pub history : new.history ≡ old.history ++ Served session now frame told ∷ []
+  pub living : new.living ≡ living_after frame told connection session old.living
+  pub is_up : new.is_up ≡ is_up_after told
+  pub kept : new.kept ≡ old.stop
+  pub adds : Adds old.store new.store 1 (1 + sequence_operands frame)
+  pub cause : StopCause old new (1 + sequence_operands frame) told
+  -- a frame that stores nothing is never stopped
+  pub silent : may_store frame ≡ false → (told ≢ Stopped) × (new.faults ≡ old.faults) × (new.store ≡ old.store)
+
+-- ---- crash and up
+
+abbrev pub is_failover : ℕ → Bool
+is_failover pick = nat_lt 3 (pick % 8)
+
+-- A crash ends all connections and takes the stop away. What a service that was up, or settled,
+-- held stays. Behind a pick that takes a store away there is one store.
+pub record Crashed (old : Seen) (pick : ℕ) (new : Seen) : Type 0 where
+  pub start : new.start ≡ old.start
+  pub history : new.history ≡ old.history
+  pub store : (old.is_up ≡ true) ⊎ (old.is_settled ≡ true) → new.store ≡ old.store
+  pub down : (new.is_up ≡ false) × (new.is_settled ≡ true) × (new.is_opened ≡ false)
+  pub living : new.living ≡ []
+  pub is_quiet : new.is_quiet ≡ old.is_quiet
+  pub faults : old.faults ≤ new.faults
+  pub stop : (new.stop ≡ None) × (new.kept ≡ old.kept)
+  pub per_record : new.per_record ≡ (if is_failover pick then 4 else old.per_record)
+  pub crashes : (new.crashes ≡ old.crashes + 1) × (new.last_pick ≡ Some pick) × (new.last_stop ≡ old.kept)
+  pub calls : new.calls ≡ old.calls + 1
+  pub is_spent : new.is_spent ≡ false
+
+-- a crash may take a store away only of a service that was opened since its last crash
+abbrev pub MayCrash : Seen → ℕ → Type 0
+MayCrash old pick = is_failover pick ≡ true → old.is_opened ≡ true
+
+-- what no opening changes
+pub record KeepsOpening (old new : Seen) : Type 0 where
+  pub start : new.start ≡ old.start
+  pub history : new.history ≡ old.history
+  pub living : new.living ≡ old.living
+  pub is_quiet : new.is_quiet ≡ old.is_quiet
+  pub per_record : new.per_record ≡ old.per_record
+  pub crashes : (new.crashes ≡ old.crashes) × (new.last_pick ≡ old.last_pick) × (new.last_stop ≡ old.last_stop)
+  pub faults : old.faults ≤ new.faults
+  pub stop : old.stop ≡ None → new.stop ≡ None
+  pub kept : new.kept ≡ old.stop
+  pub calls : new.calls ≡ old.calls + 1
+  pub is_spent : new.is_spent ≡ false
+  pub entries : (new.store.entries ≡ old.store.entries) × (new.store.blocked ≡ old.store.blocked) × (new.store.alerts ≡ old.store.alerts)
+
+-- an opening of the next incarnation, which has made no session
+pub record Opened (old new : Seen) : Type 0 where
+  pub keeps : KeepsOpening old new
+  pub is_up : (new.is_up ≡ true) × (new.is_opened ≡ true)
+  pub incarnation : new.store.incarnation ≡ old.store.incarnation + 1
+  pub sessions : new.sessions ≡ 0
+  pub cause : StopsOnly old new false
+
+-- an opening that was stopped is stored or not
+pub record StoppedOpening (old new : Seen) : Type 0 where
+  pub keeps : KeepsOpening old new
+  pub is_up : (new.is_up ≡ false) × (new.is_opened ≡ old.is_opened)
+  pub incarnation : (new.store.incarnation ≡ old.store.incarnation) ⊎ (new.store.incarnation ≡ old.store.incarnation + 1)
+  pub cause : StopsOnly old new true
+
+-- ---- outside, ask
+
+-- what runs of calls from outside are in a history: one frame each, up to one that was answered
+-- Blocked
+abbrev pub RunsAre : SessionId → ℕ → List Call → List (List Answer × List Draw) → List Happened → Type 0
+RunsAre session now [] [] history = history ≡ []
+RunsAre session now [] (run ∷ runs) history = ⊥
+RunsAre session now (called ∷ calls) [] history = history ≡ Served session now (up.Call false [] called) (Says down.Blocked) ∷ []
+RunsAre session now (called ∷ calls) (run ∷ runs) history =
+    (x : Ltxid) × (more : List Happened) × ((history ≡ Served session now (up.Call false [] called) (Says (down.Reply run.0 run.1 x)) ∷ more) × RunsAre session now calls runs more)
+
+abbrev pub begins_outside : SessionId → ℕ → List Happened
+begins_outside session now = Served session now up.Connect (Says (down.Hello (ltxid_of session 0))) ∷ Served session now (up.Begin []) Silent ∷ []
+
+-- calls that were run in a session of their own, which begins without settings
+pub record RanOutside (old : Seen) (calls : List Call) (now : ℕ) (x : Ltxid) (runs : List (List Answer × List Draw)) (new : Seen) : Type 0 where
+  pub keeps : Keeps old new
+  pub of_session : x ≡ ltxid_of (next_session old) 0
+  pub more : List Happened
+  pub ran : RunsAre (next_session old) now calls runs more
+  pub history : new.history ≡ old.history ++ begins_outside (next_session old) now ++ more
+  pub others : (new.living ≡ old.living) × (new.is_up ≡ true) × (new.kept ≡ old.kept) × (new.sessions ≡ old.sessions + 1)
+  pub incarnation : new.store.incarnation ≡ old.store.incarnation
+  pub cause : StopsOnly old new false
+
+abbrev pub IsOf : SessionId → Happened → Type 0
+IsOf session (Served other now frame told) = other ≡ session
+IsOf session (Asked x told) = ⊥
+
+-- a stop: the service is down, and of the calls a front was served
+pub record StoppedOutside (old new : Seen) : Type 0 where
+  pub keeps : Keeps old new
+  pub more : List Happened
+  pub served : All (IsOf (next_session old)) more
+  pub history : new.history ≡ old.history ++ more
+  pub others : (new.living ≡ []) × (new.is_up ≡ false) × (new.kept ≡ old.kept)
+  pub cause : StopsOnly old new true
+
+abbrev pub IsAnswer : Verdict → Type 0
+IsAnswer verdict.BlockIt = ⊥
+IsAnswer _ = Unit {0}
+
+-- an identifier was asked, and joins the history
+pub record AskedOne (old : Seen) (x : Ltxid) (told : Verdict) (new : Seen) : Type 0 where
+  pub keeps : Keeps old new
+  pub verdict : IsAnswer told
+  pub history : new.history ≡ old.history ++ Asked x (Says (down_of told)) ∷ []
+  pub others : (new.living ≡ old.living) × (new.is_up ≡ true) × (new.kept ≡ old.kept) × (new.sessions ≡ old.sessions)
+  pub adds : Adds old.store new.store 1 1
+  pub cause : StopsOnly old new false
+
+pub record StoppedAsk (old : Seen) (x : Ltxid) (new : Seen) : Type 0 where
+  pub keeps : Keeps old new
+  pub history : new.history ≡ old.history ++ Asked x Stopped ∷ []
+  pub others : (new.living ≡ []) × (new.is_up ≡ false) × (new.kept ≡ old.kept)
+  pub adds : Adds old.store new.store 1 1
+  pub cause : StopsOnly old new true
+
+-- ---- journal, image
+
+-- a call that only reads the store
+pub record Looked (old new : Seen) : Type 0 where
+  pub keeps : Keeps old new
+  pub keeps_store : KeepsStore old new
+  pub living : new.living ≡ old.living
+  pub cause : StopsOnly old new false
+
+-- a reading that was stopped leaves the service down
+pub record StoppedLook (old new : Seen) : Type 0 where
+  pub keeps : Keeps old new
+  pub unchanged : (new.history ≡ old.history) × (new.store ≡ old.store) × (new.kept ≡ old.kept)
+  pub down : (new.living ≡ []) × (new.is_up ≡ false)
+  pub cause : StopsOnly old new true

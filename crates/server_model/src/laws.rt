@@ -1,0 +1,62 @@
+//! Laws of the plain server. Each function does nothing, and its contract is the law.
+ghost use Rattle.server_model.specs.Laws.{ServeGrows, ServeStays, RunsSerial, RunsStand, NeverAfterBlock, EntryNumbers, EntryFromItem, AnswersStand, BlocksAreStored, TellsNext, TellsOutcomes, TellsAsks, RunsAlerts, RunsTold, RunsFront, ServiceStores};
+
+/// A frame stores no entry, or one of its session, under its identifier, which is not blocked. It
+/// leaves the base, the incarnation and which session it is.
+pub fn serve_grows()
+    ensures entries { ServeGrows }
+    ensures stays { ServeStays }
+{}
+
+/// The entries that a store gained in a run are a serial run from its tables at the start.
+pub fn runs_serial()
+    ensures { RunsSerial }
+{}
+
+/// The entries of each session are numbered in order, and each blocked identifier stays its session's
+/// next one: no identifier is both blocked and an entry's.
+pub fn runs_number()
+    ensures numbers { EntryNumbers }
+    ensures stand { RunsStand }
+    ensures never { NeverAfterBlock }
+{}
+
+/// Every entry comes from a call of its session, answered or stopped. A commit that was answered is
+/// stored, and an identifier that was told uncommitted is blocked, in this run and in each that goes on
+/// from it.
+pub fn runs_store()
+    ensures entries { EntryFromItem }
+    ensures answers { AnswersStand }
+    ensures blocks { BlocksAreStored }
+{}
+
+/// A Hello and a Reply carry their session's next identifier, and outcomes are told by the table, each at
+/// the moment at which it is told.
+pub fn runs_tell()
+    ensures next { TellsNext }
+    ensures outcomes { TellsOutcomes }
+    ensures asks { TellsAsks }
+{}
+
+/// The alerts that a store gained in a run are the lines that were answered, in order, and some of those
+/// that were stopped.
+pub fn runs_alert()
+    ensures { RunsAlerts }
+{}
+
+/// Each frame of a run is told as it has to be: identifiers, outcomes, refusals, and nothing where
+/// nothing is due.
+pub fn runs_told()
+    ensures { RunsTold }
+{}
+
+/// A run has a run for each front of its history, and its store goes on from that one's.
+pub fn runs_front()
+    ensures { RunsFront }
+{}
+
+/// Whatever has a history of the plain server has a store that goes on by serial entries, numbered in
+/// order, none of them blocked.
+pub fn service_stores()
+    ensures { ServiceStores }
+{}
