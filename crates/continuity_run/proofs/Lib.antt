@@ -5,7 +5,6 @@ pub mod DistinctKeys
 pub mod ReadTables
 pub mod ReadCalls
 pub mod ReadDocuments
-mod ValueEquality
 mod NoDraws
 mod SerialRun
 mod Literals

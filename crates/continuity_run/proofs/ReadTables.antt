@@ -16,7 +16,7 @@ use Rattle.svc_values.specs.declared.value.Value.{Value}
 use Rattle.svc_values.specs.declared.schema.Column.{Column}
 use Rattle.svc_values.specs.Kinds.{row_fits, has_column, have_distinct_names}
 use Rattle.svc_values.specs.Same.{same_value}
-use Rattle.stmt_meaning.specs.Plans.{key_of}
+use Rattle.svc_values.specs.Schemas.{key_of}
 use Rattle.continuity_run.specs.declared.document.DocTable.{DocTable}
 use Rattle.continuity_run.specs.ValueForm.{name_of, value_of}
 use Rattle.continuity_run.specs.CallForm.{part}

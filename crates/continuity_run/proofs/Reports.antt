@@ -4,9 +4,9 @@ use Rattle.std.specs.Prelude.{map, ◌&&◌, nat_le, length}
 use Rattle.std.specs.List.{list_all}
 use Rattle.svc_values.specs.declared.call.Call.{Call}
 use Rattle.svc_values.specs.Calls.{is_made}
-use Rattle.stmt_meaning.specs.declared.tables.PlainRow.{PlainRow}
+use Rattle.svc_values.specs.declared.tables.PlainRow.{PlainRow}
 use Rattle.stmt_meaning.specs.Serial.{Serial}
-use Rattle.stmt_meaning.specs.Tables.{with_writes}
+use Rattle.svc_values.specs.Tables.{with_writes}
 use Rattle.continuity_run.specs.declared.document.Request.{Request}
 use Rattle.continuity_run.specs.declared.document.Client.{Client}
 use Rattle.continuity_run.specs.declared.document.Document.{Document}

@@ -2,25 +2,25 @@
 use Rattle.std.proofs.Common.{◌≡◌, ℕ, ◌+◌, List, [], ◌∷◌, ◌++◌, length, Bool, true, false, Option, Some, None, if◌then◌else◌, refl, sym, ap, ◌∙◌, subst, append_assoc, append-nil, length-append}
 use Rattle.std.specs.Prelude.{option_and_then, MatchBool}
 use Rattle.std.specs.Option.{option_map}
-use Rattle.svc_values.specs.declared.value.Value.{Value}
 use Rattle.svc_values.specs.declared.schema.Shape.{Shape}
 use Rattle.svc_values.specs.declared.call.Call.{Call}
 use Rattle.svc_values.specs.declared.entry.Piece.{Piece}
 use Rattle.svc_values.specs.declared.entry.Entry.{Entry}
 use Rattle.svc_values.specs.Endings.{ends_committed}
-use Rattle.stmt_meaning.specs.declared.tables.PlainRow.{PlainRow}
+use Rattle.svc_values.specs.declared.tables.PlainRow.{PlainRow}
 use Rattle.stmt_meaning.specs.Meaning.{Meant, mean}
-use Rattle.stmt_meaning.specs.Tables.{with_writes}
-use Rattle.stmt_meaning.proofs.MeanLocal.{mean-tables}
-use Rattle.stmt_meaning.proofs.Writes.{with_writes-append}
+use Rattle.svc_values.specs.Tables.{with_writes}
+use Rattle.stmt_meaning.proofs.Offered.{mean-tables}
+use Rattle.svc_values.proofs.Offered.{with_writes-append}
 use Rattle.stmt_meaning.specs.Serial.{Replays, Transaction, Serial}
 use Rattle.continuity_run.specs.declared.report.ShownCall.{ShownCall}
 use Rattle.continuity_run.specs.Run.{Run, step, run_of, after_call, committed_run, open_run, piece_of, entry_of, shown_with, identifier}
 use Rattle.continuity_run.specs.Headline.{ShownInTurn, shown_piece, settings_after, HasEntry, OneEntryEach, writes_of}
 use Rattle.continuity_run.proofs.NoDraws.{Kept, KeptIf, kept}
+use Rattle.svc_values.specs.SettingsList.{NamedValues}
 
 abbrev Settings : Type 0
-Settings = List (List ℕ × Value)
+Settings = NamedValues
 
 -- pieces run whole, none of which commits
 abbrev Pending : Shape → List PlainRow → Settings → List Piece → List PlainRow → Settings → Type 0

@@ -11,13 +11,12 @@ use Rattle.svc_values.specs.declared.schema.Schema.{Schema}
 use Rattle.svc_values.specs.Kinds.{row_fits}
 use Rattle.svc_values.specs.Same.{same_value}
 use Rattle.svc_values.specs.SameLaws.{same_value_decides}
-use Rattle.svc_values.specs.Schemas.{is_declared}
-use Rattle.stmt_meaning.specs.declared.tables.PlainRow.{PlainRow}
-use Rattle.stmt_meaning.specs.declared.tables.Place.{Place}
-use Rattle.stmt_meaning.specs.declared.tables.Place.TheVariants as place
-use Rattle.stmt_meaning.specs.Tables.{is_at, rows_at}
-use Rattle.stmt_meaning.specs.Plans.{schema_of, key_of}
-use Rattle.stmt_meaning.specs.Fitting.{is_row_of, tables_fit}
+use Rattle.svc_values.specs.Schemas.{is_declared, schema_of, key_of}
+use Rattle.svc_values.specs.declared.tables.PlainRow.{PlainRow}
+use Rattle.svc_values.specs.declared.tables.Place.{Place}
+use Rattle.svc_values.specs.declared.tables.Place.TheVariants as place
+use Rattle.svc_values.specs.Tables.{is_at, rows_at}
+use Rattle.svc_values.specs.Fitting.{is_row_of, tables_fit}
 use Rattle.table_store.specs.Stored.{AreApart}
 use Rattle.continuity_run.specs.declared.document.DocTable.{DocTable}
 use Rattle.continuity_run.specs.Documents.{is_table, have_distinct_keys}

@@ -8,14 +8,13 @@ use Rattle.svc_values.specs.declared.call.Call.{Call}
 use Rattle.svc_values.specs.declared.call.Call.TheVariants as call
 use Rattle.svc_values.specs.declared.answer.Answer.{Answer}
 use Rattle.svc_values.specs.Endings.{ends_committed}
-use Rattle.stmt_meaning.specs.Tables.{rows_at, with_writes}
+use Rattle.svc_values.specs.Tables.{rows_at, with_writes}
 use Rattle.stmt_meaning.specs.Meaning.{Meant, mean}
 use Rattle.stmt_meaning.specs.Laws.{closed_by}
-use Rattle.stmt_meaning.proofs.Commits.{commits_last}
-use Rattle.stmt_meaning.proofs.MeanLocal.{mean-tables}
-use Rattle.stmt_meaning.proofs.Writes.{with_writes-append}
+use Rattle.stmt_meaning.proofs.Offered.{commits_last, mean-tables}
+use Rattle.svc_values.proofs.Offered.{with_writes-append}
 use Rattle.table_store.specs.Stored.{Stored}
-use Rattle.table_txn.specs.Reads.{Read}
+use Rattle.stmt_meaning.specs.Reads.{Read}
 use Rattle.table_txn.specs.Transactions.{Transaction}
 use Rattle.continuity_run.specs.declared.run.Progress.{Progress}
 use Rattle.continuity_run.specs.Progress.{shape_now, run_seen, IsAlone, HasWorked, IsNoted, IsCommitted, IsNext}

@@ -3,23 +3,25 @@ use Rattle.std.proofs.Common.{◌≡◌, ℕ, List, [], ◌∷◌, ◌++◌, tru
 use Rattle.std.specs.List.{list_all, AllByRecursion}
 use Rattle.std.specs.Option.{option_map}
 use Rattle.std.proofs.lemmas.List.Elements.{All-append, All-from_recursion}
-use Rattle.svc_values.specs.declared.value.Value.{Value}
 use Rattle.svc_values.specs.declared.draw.Draw.{Draw}
+use Rattle.svc_values.specs.declared.draw.DrawKind.{DrawKind}
 use Rattle.svc_values.specs.declared.statement.Statement.{Statement}
 use Rattle.svc_values.specs.declared.answer.Answer.{Answer}
-use Rattle.stmt_meaning.specs.declared.tables.PlainRow.{PlainRow}
-use Rattle.stmt_meaning.specs.declared.tables.Place.{Place}
-use Rattle.stmt_meaning.specs.Tables.{rows_at, with_writes}
-use Rattle.stmt_meaning.specs.Fitting.{writes_fit}
+use Rattle.svc_values.specs.declared.tables.PlainRow.{PlainRow}
+use Rattle.svc_values.specs.declared.tables.Place.{Place}
+use Rattle.svc_values.specs.Tables.{rows_at, with_writes}
+use Rattle.svc_values.specs.Fitting.{writes_fit}
+use Rattle.stmt_meaning.specs.Drawing.{AsksNext}
 use Rattle.stmt_meaning.specs.Meaning.{Meant}
 use Rattle.table_store.specs.Stored.{Stored}
-use Rattle.table_txn.specs.Reads.{Read, reads_at}
+use Rattle.stmt_meaning.specs.Reads.{Read, reads_at}
 use Rattle.table_txn.specs.Transactions.{Transaction, HasRun, meaning, shape_of}
 use Rattle.continuity_run.specs.DocumentForm.{has_literals}
 use Rattle.continuity_run.specs.Progress.{IsAlone, HasWorked}
 use Rattle.continuity_run.proofs.Literals.{literals_leave}
+use Rattle.svc_values.specs.SettingsList.{NamedValues}
 
-pub worked : (tables : Stored) (names : List (List ℕ)) (settings : List (List ℕ × Value)) (old : Transaction) (statements : List Statement) (answers : List Answer) (draws : List Draw) (new : Transaction)
+pub worked : (tables : Stored) (names : List (List ℕ)) (settings : NamedValues) (old : Transaction) (statements : List Statement) (answers : List Answer) (draws : List Draw) (new : Transaction)
     → names ≡ [] → list_all has_literals statements ≡ true → HasRun tables names settings old statements answers draws new → HasWorked tables settings old statements answers new
 worked tables names settings old statements answers draws new none literal ran =
     let left : ran.meant.rest ≡ draws = literals_leave (shape_of tables names) (with_writes tables.rows old.writes) settings statements false draws ran.meant literal ran.means in
@@ -37,7 +39,7 @@ unchanged_now : (rows : List PlainRow) (places : List Place) → AllByRecursion 
 unchanged_now rows [] = tt
 unchanged_now rows (at ∷ places) = (refl, unchanged_now rows places)
 
-pub still_alone : (tables : Stored) (names : List (List ℕ)) (settings : List (List ℕ × Value)) (old : Transaction) (statements : List Statement) (answers : List Answer) (draws : List Draw) (new : Transaction)
+pub still_alone : (tables : Stored) (names : List (List ℕ)) (settings : NamedValues) (old : Transaction) (statements : List Statement) (answers : List Answer) (draws : List Draw) (new : Transaction)
     → IsAlone tables old → IsTrue (writes_fit tables.schemas new.writes) → HasRun tables names settings old statements answers draws new → IsAlone tables new
 still_alone tables names settings old statements answers draws new alone fitting ran = record {
   fitting = fitting;
@@ -55,8 +57,17 @@ none_left all None rest asked = absurd (let x : ◌≡◌ {A = Option (List Draw
 none_left all (Some m) rest asked = sym (rest m refl) ∙ (let x : ◌≡◌ {A = Option (List Draw)} (Some m.rest) (Some []) = asked in cc)
 
 -- literals ask for no draw
-pub none_asked : (tables : Stored) (names : List (List ℕ)) (settings : List (List ℕ × Value)) (old : Transaction) (statements : List Statement) (given more : List Draw) → list_all has_literals statements ≡ true
+none_asked : (tables : Stored) (names : List (List ℕ)) (settings : NamedValues) (old : Transaction) (statements : List Statement) (given more : List Draw) → list_all has_literals statements ≡ true
     → option_map (λ (m : Meant). m.rest) (meaning tables names settings old statements (given ++ more)) ≡ Some [] → more ≡ []
 none_asked tables names settings old statements given more literal asked =
     none_behind given more (none_left (given ++ more) (meaning tables names settings old statements (given ++ more))
     (λ m is. literals_leave (shape_of tables names) (with_writes tables.rows old.writes) settings statements false (given ++ more) m literal is) asked)
+
+-- so no source of draws stops them
+pub none_ended : (tables : Stored) (names : List (List ℕ)) (settings : NamedValues) (old : Transaction) (statements : List Statement) (given more : List Draw) → list_all has_literals statements ≡ true
+    → option_map (λ (m : Meant). m.rest) (meaning tables names settings old statements (given ++ more)) ≡ Some []
+    → (asked : DrawKind) → AsksNext (λ draws. option_map (λ (m : Meant). m.rest) (meaning tables names settings old statements draws)) given asked → ⊥
+none_ended tables names settings old statements given more literal all asked next =
+    let some = subst (λ (m : List Draw). option_map (λ (m : Meant). m.rest) (meaning tables names settings old statements (given ++ m)) ≡ Some []) (none_asked tables names settings old statements given more literal all) all in
+    let none = next [] refl in
+    absurd (let x : ◌≡◌ {A = Option (List Draw)} None (Some []) = sym none ∙ some in cc)

@@ -21,8 +21,8 @@ use Rattle.svc_values.specs.declared.call.Call.{Call}
 use Rattle.svc_values.specs.declared.call.Call.TheVariants as call
 use Rattle.svc_values.specs.Kinds.{row_fits}
 use Rattle.svc_values.specs.Same.{same_value}
-use Rattle.stmt_meaning.specs.Plans.{operands_of}
-use Rattle.stmt_meaning.specs.Plans.{key_of}
+use Rattle.svc_values.specs.Calls.{operands_of}
+use Rattle.svc_values.specs.Schemas.{key_of}
 use Rattle.continuity_run.specs.declared.document.Request.{Request}
 use Rattle.continuity_run.specs.declared.document.Client.{Client}
 use Rattle.continuity_run.specs.declared.document.DocTable.{DocTable}

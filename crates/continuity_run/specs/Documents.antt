@@ -4,10 +4,9 @@ use Rattle.std.specs.List.{list_all, list_any}
 use Rattle.std.specs.Str.{bytes_eq}
 use Rattle.svc_values.specs.Kinds.{row_fits}
 use Rattle.svc_values.specs.Same.{same_value}
-use Rattle.svc_values.specs.Schemas.{is_declared}
+use Rattle.svc_values.specs.Schemas.{is_declared, key_of}
 use Rattle.svc_values.specs.Calls.{is_made}
 use Rattle.svc_values.specs.declared.call.Call.{Call}
-use Rattle.stmt_meaning.specs.Plans.{key_of}
 use Rattle.continuity_run.specs.declared.document.Request.{Request}
 use Rattle.continuity_run.specs.declared.document.Client.{Client}
 use Rattle.continuity_run.specs.declared.document.DocTable.{DocTable}

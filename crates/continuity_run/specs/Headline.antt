@@ -2,7 +2,6 @@
 -- that was shown committed stands there once, with the calls of the script and the replies that were shown.
 use Rattle.std.specs.Prelude.{◌≡◌, ℕ, ◌+◌, List, [], ◌∷◌, ◌++◌, map, Some, MatchBool}
 use Rattle.std.specs.List.{flat_map}
-use Rattle.svc_values.specs.declared.value.Value.{Value}
 use Rattle.svc_values.specs.declared.schema.Shape.{Shape}
 use Rattle.svc_values.specs.declared.call.Call.{Call}
 use Rattle.svc_values.specs.declared.call.Call.TheVariants.{Set}
@@ -11,10 +10,10 @@ use Rattle.svc_values.specs.declared.entry.Entry.{Entry}
 use Rattle.svc_values.specs.declared.entry.Write.{Write}
 use Rattle.svc_values.specs.Calls.{is_lone_commit}
 use Rattle.svc_values.specs.Endings.{ends_committed}
-use Rattle.svc_values.specs.SettingsList.{put_setting}
-use Rattle.stmt_meaning.specs.declared.tables.PlainRow.{PlainRow}
-use Rattle.stmt_meaning.specs.declared.tables.Place.TheVariants as place
-use Rattle.stmt_meaning.specs.Tables.{rows_at, with_writes}
+use Rattle.svc_values.specs.SettingsList.{NamedValues, put_setting}
+use Rattle.svc_values.specs.declared.tables.PlainRow.{PlainRow}
+use Rattle.svc_values.specs.declared.tables.Place.TheVariants as place
+use Rattle.svc_values.specs.Tables.{rows_at, with_writes}
 use Rattle.stmt_meaning.specs.Meaning.{Meant, mean}
 use Rattle.stmt_meaning.specs.Serial.{Serial}
 use Rattle.continuity_run.specs.declared.document.Client.{Client}
@@ -28,7 +27,7 @@ use Rattle.continuity_run.specs.Start.{shape_of, start_of}
 use Rattle.continuity_run.specs.Run.{identifier}
 
 -- The calls of a script are shown one after the other, each once, with the answers of its meaning after those before it.
-abbrev pub ShownInTurn : Shape → List PlainRow → List (List ℕ × Value) → List Call → List ShownCall → Type 0
+abbrev pub ShownInTurn : Shape → List PlainRow → NamedValues → List Call → List ShownCall → Type 0
 ShownInTurn shape tables settings [] shown = shown ≡ []
 ShownInTurn shape tables settings (call ∷ calls) [] = ⊥
 ShownInTurn shape tables settings (call ∷ calls) (one ∷ more) =
@@ -38,20 +37,20 @@ abbrev pub shown_piece : Call → ShownCall → Piece
 shown_piece call one = record { call = call; answers = one.answers; draws = one.draws }
 
 -- the settings after a call: a `set` changes one
-abbrev pub settings_after : List (List ℕ × Value) → Call → List (List ℕ × Value)
+abbrev pub settings_after : NamedValues → Call → NamedValues
 settings_after settings (Set name x) = put_setting settings name x
 settings_after settings _ = settings
 
 -- The first of the entries is that of the transaction which this call ends, and the rest are those of the later ones.
 -- `began` are the settings before the transaction's first call, and `taken` its calls before this one.
-abbrev pub HasEntry : ℕ → List (List ℕ × Value) → List Piece → Call → ShownCall → List Entry → (List Entry → Type 0) → Type 0
+abbrev pub HasEntry : ℕ → NamedValues → List Piece → Call → ShownCall → List Entry → (List Entry → Type 0) → Type 0
 HasEntry commits began taken call one [] Rest = ⊥
 HasEntry commits began taken call one (entry ∷ entries) Rest =
     (entry.ltxid ≡ identifier commits) × ((entry.completed ≡ is_lone_commit call) × ((entry.settings ≡ began) × ((entry.pieces ≡ taken ++ shown_piece call one ∷ []) × ((one.ltxid ≡ identifier (commits + 1)) × Rest entries))))
 
 -- Each transaction that was shown committed has its entry, with its calls, the answers that were shown and the identifier
 -- that the client held before its last call; and there is no other entry.
-abbrev pub OneEntryEach : ℕ → List (List ℕ × Value) → List (List ℕ × Value) → List Piece → List Call → List ShownCall → List Entry → Type 0
+abbrev pub OneEntryEach : ℕ → NamedValues → NamedValues → List Piece → List Call → List ShownCall → List Entry → Type 0
 OneEntryEach commits began settings taken [] shown entries = entries ≡ []
 OneEntryEach commits began settings taken (call ∷ calls) [] entries = ⊥
 OneEntryEach commits began settings taken (call ∷ calls) (one ∷ more) entries =

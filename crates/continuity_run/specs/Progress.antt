@@ -1,22 +1,22 @@
 -- The code's run so far, seen as a run.
-use Rattle.std.specs.Prelude.{◌≡◌, ℕ, ◌+◌, List, [], ◌∷◌, ◌++◌, All, IsTrue, Some, length, false}
-use Rattle.svc_values.specs.declared.value.Value.{Value}
+use Rattle.std.specs.Prelude.{◌≡◌, ◌+◌, List, [], ◌∷◌, ◌++◌, All, IsTrue, Some, length, false}
 use Rattle.svc_values.specs.declared.schema.Shape.{Shape}
 use Rattle.svc_values.specs.declared.statement.Statement.{Statement}
 use Rattle.svc_values.specs.declared.call.Call.{Call}
 use Rattle.svc_values.specs.declared.call.Call.TheVariants as call
 use Rattle.svc_values.specs.declared.answer.Answer.{Answer}
 use Rattle.svc_values.specs.Calls.{is_lone_commit}
-use Rattle.stmt_meaning.specs.declared.tables.PlainRow.{PlainRow}
-use Rattle.stmt_meaning.specs.Tables.{rows_at, with_writes}
-use Rattle.stmt_meaning.specs.Fitting.{writes_fit}
+use Rattle.svc_values.specs.declared.tables.PlainRow.{PlainRow}
+use Rattle.svc_values.specs.Tables.{rows_at, with_writes}
+use Rattle.svc_values.specs.Fitting.{writes_fit}
 use Rattle.stmt_meaning.specs.Meaning.{Meant, mean}
 use Rattle.table_store.specs.Stored.{Stored}
-use Rattle.table_txn.specs.Reads.{Read}
+use Rattle.stmt_meaning.specs.Reads.{Read}
 use Rattle.table_txn.specs.Notes.{AreNotes}
 use Rattle.table_txn.specs.Transactions.{Transaction, empty}
 use Rattle.continuity_run.specs.declared.run.Progress.{Progress}
 use Rattle.continuity_run.specs.Run.{Run, step, identifier}
+use Rattle.svc_values.specs.SettingsList.{NamedValues}
 
 -- the declarations stay, and no document of this form has sequences
 abbrev pub shape_now : Stored → Shape
@@ -46,7 +46,7 @@ pub record IsAlone (tables : Stored) (transaction : Transaction) : Type 0 where
   pub unchanged : All (λ read. rows_at tables.rows read.at ≡ read.found) reads
 
 -- statements that were run without a draw
-pub record HasWorked (tables : Stored) (settings : List (List ℕ × Value)) (old : Transaction) (statements : List Statement) (answers : List Answer) (new : Transaction) : Type 0 where
+pub record HasWorked (tables : Stored) (settings : NamedValues) (old : Transaction) (statements : List Statement) (answers : List Answer) (new : Transaction) : Type 0 where
   pub meant : Meant
   pub means : mean (shape_now tables) (seen_by tables old) settings (call.Work statements false) [] ≡ Some meant
   pub answered : answers ≡ meant.answers

@@ -1,7 +1,6 @@
 -- A run of calls in one session, with nothing lost: each call on the tables as the session sees them.
 use Rattle.std.specs.Prelude.{ℕ, ◌+◌, List, [], ◌∷◌, ◌++◌, length, Option, Some, option_and_then, if◌then◌else◌}
 use Rattle.std.specs.Option.{option_map}
-use Rattle.svc_values.specs.declared.value.Value.{Value}
 use Rattle.svc_values.specs.declared.schema.Shape.{Shape}
 use Rattle.svc_values.specs.declared.call.Call.{Call}
 use Rattle.svc_values.specs.declared.entry.Ltxid.{Ltxid}
@@ -10,17 +9,18 @@ use Rattle.svc_values.specs.declared.entry.Entry.{Entry}
 use Rattle.svc_values.specs.declared.entry.Write.{Write}
 use Rattle.svc_values.specs.Calls.{is_lone_commit}
 use Rattle.svc_values.specs.Endings.{ends_committed}
-use Rattle.stmt_meaning.specs.declared.tables.PlainRow.{PlainRow}
+use Rattle.svc_values.specs.declared.tables.PlainRow.{PlainRow}
 use Rattle.stmt_meaning.specs.Meaning.{Meant, mean}
 use Rattle.continuity_run.specs.declared.report.ShownCall.{ShownCall}
+use Rattle.svc_values.specs.SettingsList.{NamedValues}
 
 -- The committed tables, and those that the session sees: with the writes of its transaction. `began` are the settings at the
 -- transaction's start. The pieces and writes are the transaction's so far.
 pub record Run : Type 0 where
   pub committed : List PlainRow
   pub seen : List PlainRow
-  pub settings : List (List ℕ × Value)
-  pub began : List (List ℕ × Value)
+  pub settings : NamedValues
+  pub began : NamedValues
   pub pieces : List Piece
   pub writes : List Write
   pub entries : List Entry

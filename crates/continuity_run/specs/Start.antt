@@ -4,9 +4,9 @@ use Rattle.std.specs.List.{flat_map}
 use Rattle.svc_values.specs.declared.value.Value.{Value}
 use Rattle.svc_values.specs.declared.schema.Schema.{Schema}
 use Rattle.svc_values.specs.declared.schema.Shape.{Shape}
-use Rattle.stmt_meaning.specs.declared.tables.PlainRow.{PlainRow}
-use Rattle.stmt_meaning.specs.Tables.{in_order}
-use Rattle.stmt_meaning.specs.Plans.{key_of}
+use Rattle.svc_values.specs.declared.tables.PlainRow.{PlainRow}
+use Rattle.svc_values.specs.Tables.{in_order}
+use Rattle.svc_values.specs.Schemas.{key_of}
 use Rattle.continuity_run.specs.declared.document.DocTable.{DocTable}
 
 abbrev pub schema_in : DocTable → Schema

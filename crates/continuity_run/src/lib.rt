@@ -9,8 +9,6 @@ mod reading;
 mod report;
 mod run;
 mod start;
-#[cfg(test)]
-mod tests;
 mod top;
 mod whole;
 mod writing;

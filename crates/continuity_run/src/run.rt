@@ -4,9 +4,9 @@ ghost use Rattle.std.specs.List.{list_all};
 ghost use Rattle.stmt_meaning.specs.Laws.{closed_by};
 ghost use Rattle.continuity_run.specs.DocumentForm.{is_built, has_literals};
 ghost use Rattle.continuity_run.specs.Documents.{IsDocument};
-ghost use Rattle.continuity_run.specs.Headline.{Headline, calls_of as calls_of_lem, calls_of_requests as calls_of_requests_lem, transcript_of as transcript_lem, transcripts_of as transcripts_lem};
+ghost use Rattle.continuity_run.specs.Headline.{Headline, calls_of as calls_of_def, calls_of_requests as calls_of_requests_def, transcript_of as transcript_def, transcripts_of as transcripts_def};
 ghost use Rattle.continuity_run.specs.Progress.{run_seen, shape_now, IsAlone, HasWorked, IsNext, IsNoted, IsCommitted};
-ghost use Rattle.continuity_run.specs.Run.{run_of, start_run, identifier as identifier_lem};
+ghost use Rattle.continuity_run.specs.Run.{run_of, start_run, identifier as identifier_def};
 
 use crate::document::{Client, Document, Request};
 use crate::report::{
@@ -51,7 +51,7 @@ fn start(alloc: Global, tables: Tables) -> Progress
 
 /// The identifier of the only session after so many commits.
 fn identifier(commits: u64) -> Ltxid
-    ensures { result ≡ identifier_lem commits }
+    ensures { result ≡ identifier_def commits }
 {
     Ltxid {
         incarnation: 1,
@@ -73,10 +73,7 @@ fn run_statements(
     ensures ran { IfOk result (λ answers. HasWorked tables.now settings.now transaction.old statements.now answers transaction.new) }
     ensures alone { OnOk result (IsAlone tables.now transaction.new) }
 {
-    let mut none = ListDraws {
-        names: Names::new(alloc),
-        draws: Draws::new(alloc),
-    };
+    let mut none = ListDraws::new(Names::new(alloc), Draws::new(alloc));
     match transaction.run(tables, settings, statements, &mut none) {
         Ok(ran) => Ok(ran.answers),
         Err(TxnFault::NoMemory) => Err(NoMemory),
@@ -107,7 +104,7 @@ fn piece_of(alloc: Global, call: &Call, answers: &Answers) -> Result<Piece, NoMe
 }
 
 fn shown_with(alloc: Global, answers: Answers, commits: u64) -> ShownCall
-    ensures { result ≡ record { answers = answers; draws = []; ltxid = identifier_lem commits } }
+    ensures { result ≡ record { answers = answers; draws = []; ltxid = identifier_def commits } }
 {
     ShownCall {
         answers,
@@ -216,7 +213,7 @@ fn run_calls(alloc: Global, tables: Tables, calls: &[Call]) -> Result<Progress, 
 }
 
 fn calls_in(requests: &[Request]) -> &[Call]
-    ensures { result.now ≡ calls_of_requests_lem requests.now }
+    ensures { result.now ≡ calls_of_requests_def requests.now }
 {
     match requests {
         [] => &[],
@@ -225,7 +222,7 @@ fn calls_in(requests: &[Request]) -> &[Call]
 }
 
 fn calls_of(clients: &[Client]) -> &[Call]
-    ensures { result.now ≡ calls_of_lem clients.now }
+    ensures { result.now ≡ calls_of_def clients.now }
 {
     match clients {
         [] => &[],
@@ -238,7 +235,7 @@ fn transcript_of(
     requests: &[Request],
     shown: ShownCalls,
 ) -> Result<Transcript, NoMemory>
-    ensures { IfOk result (λ transcript. transcript ≡ transcript_lem requests.now shown) }
+    ensures { IfOk result (λ transcript. transcript ≡ transcript_def requests.now shown) }
 {
     let mut transcript = Transcript::new(alloc);
     if !requests.is_empty() {
@@ -252,7 +249,7 @@ fn transcripts_of(
     clients: &[Client],
     shown: ShownCalls,
 ) -> Result<Transcripts, NoMemory>
-    ensures { IfOk result (λ transcripts. transcripts ≡ transcripts_lem clients.now shown) }
+    ensures { IfOk result (λ transcripts. transcripts ≡ transcripts_def clients.now shown) }
 {
     let mut transcripts = Transcripts::new(alloc);
     match clients {

@@ -4,8 +4,8 @@ ghost use Rattle.std.specs.List.{list_all};
 ghost use Rattle.std.specs.Str.{bytes_eq};
 ghost use Rattle.table_store.specs.Given.{plain};
 ghost use Rattle.continuity_run.specs.Documents.{is_table, have_distinct_keys};
-ghost use Rattle.continuity_run.specs.Headline.{table_at as table_at_lem};
-ghost use Rattle.continuity_run.specs.Start.{plain_row, schema_in, rows_of, start_of as start_lem};
+ghost use Rattle.continuity_run.specs.Headline.{table_at as table_at_def};
+ghost use Rattle.continuity_run.specs.Start.{plain_row, schema_in, rows_of, start_of as start_def};
 
 use crate::document::{DocRows, DocTable, DocTables};
 use crate::report::{ReportTable, ReportTables};
@@ -53,14 +53,14 @@ pub fn start_of(alloc: Global, tables: DocTables) -> Result<Tables, NoMemory>
     requires each { IsTrue (list_all is_table tables) }
     requires names { IsTrue (have_distinct_keys bytes_eq (λ table. table.name) tables) }
     requires few { length tables ≤ 32 }
-    ensures { IfOk result (λ made. made ≡ record { schemas = map schema_in tables; rows = start_lem tables }) }
+    ensures { IfOk result (λ made. made ≡ record { schemas = map schema_in tables; rows = start_def tables }) }
 {
     let (schemas, rows) = gathered(alloc, tables)?;
     Tables::new(alloc, Schemas::from_vec(schemas), rows)
 }
 
 fn table_at(alloc: Global, tables: &Tables, name: &Name) -> Result<ReportTable, NoMemory>
-    ensures { IfOk result (λ one. one ≡ table_at_lem tables.now.rows name.now) }
+    ensures { IfOk result (λ one. one ≡ table_at_def tables.now.rows name.now) }
 {
     Ok(ReportTable {
         name: name.copy(alloc)?,
@@ -70,7 +70,7 @@ fn table_at(alloc: Global, tables: &Tables, name: &Name) -> Result<ReportTable, 
 
 /// The rows of each table, in the order of the declarations. Linear in the rows.
 pub fn tables_at(alloc: Global, tables: &Tables) -> Result<ReportTables, NoMemory>
-    ensures { IfOk result (λ all. all ≡ map (λ schema. table_at_lem tables.now.rows schema.name) tables.now.schemas) }
+    ensures { IfOk result (λ all. all ≡ map (λ schema. table_at_def tables.now.rows schema.name) tables.now.schemas) }
 {
     let mut all = Vec::new(alloc);
     for schema in tables.schemas().as_slice() {

@@ -4,7 +4,7 @@ ghost use Rattle.json_form.specs.Faults.{Fails};
 ghost use Rattle.continuity_run.specs.Causes.{Rose};
 ghost use Rattle.continuity_run.specs.DocumentForm.{document_at};
 ghost use Rattle.continuity_run.specs.Documents.{IsDocument};
-ghost use Rattle.continuity_run.specs.Clauses.{is_command as is_command_lem, IsAnswer, IsReported, IsDone, IsCut, IsRead, IsRefused, Writes, WritesFront, IfDocument, IsBefore, IsReply};
+ghost use Rattle.continuity_run.specs.Clauses.{is_command as is_command_def, IsAnswer, IsReported, IsDone, IsCut, IsRead, IsRefused, Writes, WritesFront, IfDocument, IsBefore, IsReply};
 
 use crate::document::Document;
 use crate::outside::{Sink, Source};
@@ -53,7 +53,7 @@ impl Status {
 
 /// Whether the words are the one command, `run`.
 fn is_command(words: &[String]) -> bool
-    ensures { result ≡ is_command_lem words.now }
+    ensures { result ≡ is_command_def words.now }
 {
     match words {
         [word] => word.as_str() == "run",
@@ -121,7 +121,7 @@ pub fn continuity<S: Source, K: Sink>(
     sink: &mut K,
 ) -> Status
     // The words are those of no command, and then the source is unread.
-    ensures words { (result ≡ Status.Words) ↔ (is_command_lem words.now ≡ false) }
+    ensures words { (result ≡ Status.Words) ↔ (is_command_def words.now ≡ false) }
     ensures unread { result ≡ Status.Words → source.new ≡ source.old }
 
     // The source or the sink failed.

@@ -3,9 +3,9 @@ ghost use Rattle.std.specs.Prelude.{◌≡◌, ◌≤◌, length, [], ◌∷◌}
 ghost use Rattle.std.specs.List.{list_all};
 ghost use Rattle.serde_json.specs.View.{view};
 ghost use Rattle.json_form.specs.Faults.{Gives};
-ghost use Rattle.stmt_meaning.specs.Plans.{operand_of};
-ghost use Rattle.continuity_run.specs.CallForm.{call_of, call_of_items as call_of_items_lem, work_of};
-ghost use Rattle.continuity_run.specs.DocumentForm.{is_literal as is_literal_lem, has_literals as has_literals_lem, is_built as is_built_lem, built_call_of};
+ghost use Rattle.svc_values.specs.Calls.{operand_of};
+ghost use Rattle.continuity_run.specs.CallForm.{call_of, call_of_items as call_of_items_def, work_of};
+ghost use Rattle.continuity_run.specs.DocumentForm.{is_literal as is_literal_def, has_literals as has_literals_def, is_built as is_built_def, built_call_of};
 
 use crate::item::Item;
 use crate::reading::item::ItemReader;
@@ -39,7 +39,7 @@ fn work_of_items(alloc: Global, items: Vec<Item>) -> Result<Call, DocFault>
 
 /// The call that one item makes by itself.
 fn lone_call(alloc: Global, item: Item) -> Result<Call, DocFault>
-    ensures { Gives result (call_of_items_lem (item ∷ [])) }
+    ensures { Gives result (call_of_items_def (item ∷ [])) }
 {
     match item {
         Item::Statement(statement) => {
@@ -63,7 +63,7 @@ fn lone_call(alloc: Global, item: Item) -> Result<Call, DocFault>
 /// The call that these items make: one command alone, or statements with a commit at most last.
 fn call_of_items(alloc: Global, mut items: Vec<Item>) -> Result<Call, DocFault>
     requires { length items.items ≤ 8 }
-    ensures { Gives result (call_of_items_lem items.items) }
+    ensures { Gives result (call_of_items_def items.items) }
 {
     if items.len() != 1 {
         return work_of_items(alloc, items);
@@ -83,13 +83,13 @@ fn call_from(alloc: Global, value: &Json) -> Result<Call, DocFault>
 }
 
 fn is_literal(operand: &Operand) -> bool
-    ensures { result ≡ is_literal_lem operand.now }
+    ensures { result ≡ is_literal_def operand.now }
 {
     matches!(operand, Operand::Lit(_))
 }
 
 fn changes_by_literal(change: &Change) -> bool
-    ensures { result ≡ is_literal_lem (operand_of change.now) }
+    ensures { result ≡ is_literal_def (operand_of change.now) }
 {
     match change {
         Change::To(operand) | Change::Plus(operand) => is_literal(operand),
@@ -99,7 +99,7 @@ fn changes_by_literal(change: &Change) -> bool
 /// Whether each operand of the statement is a literal.
 #[tactic(auto, unfolding(crate::specs::DocumentForm::has_literals))]
 fn has_literals(statement: &Statement) -> bool
-    ensures { result ≡ has_literals_lem statement.now }
+    ensures { result ≡ has_literals_def statement.now }
 {
     match statement {
         Statement::Insert { values, .. } => values
@@ -114,13 +114,13 @@ fn has_literals(statement: &Statement) -> bool
 }
 
 fn have_literals(statements: &[Statement]) -> bool
-    ensures { result ≡ list_all has_literals_lem statements.now }
+    ensures { result ≡ list_all has_literals_def statements.now }
 {
     statements.iter().all(|statement| has_literals(statement))
 }
 
 fn is_built(call: &Call) -> bool
-    ensures { result ≡ is_built_lem call.now }
+    ensures { result ≡ is_built_def call.now }
 {
     match call {
         Call::Work { statements, .. } => have_literals(statements.as_slice()),

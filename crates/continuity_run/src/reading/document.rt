@@ -2,7 +2,7 @@
 ghost use Rattle.std.specs.Prelude.{◌≡◌, IfOk};
 ghost use Rattle.serde_json.specs.View.{view};
 ghost use Rattle.json_form.specs.Faults.{Gives};
-ghost use Rattle.continuity_run.specs.DocumentForm.{tables_of, request_of, client_of, event_of, no_event, document_of, narrowed_code as narrowed_code_lem, placed_document_at, document_at};
+ghost use Rattle.continuity_run.specs.DocumentForm.{tables_of, request_of, client_of, event_of, no_event, document_of, narrowed_code as narrowed_code_def, placed_document_at, document_at};
 ghost use Rattle.continuity_run.specs.Documents.{IsDocument};
 
 use crate::document::{Client, DocTables, Document, Request};
@@ -114,7 +114,7 @@ pub fn read_document(alloc: Global, bytes: &[u8]) -> Result<Document, DocFault>
 
 /// The code that is told for a fault.
 fn narrowed_code(code: DocCode) -> DocCode
-    ensures { result ≡ narrowed_code_lem code }
+    ensures { result ≡ narrowed_code_def code }
 {
     match code {
         DocCode::TooLong | DocCode::NotJson => code,

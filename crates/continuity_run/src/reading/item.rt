@@ -3,7 +3,7 @@ ghost use Rattle.std.specs.Prelude.{◌≡◌, map};
 ghost use Rattle.serde_json.specs.View.{view};
 ghost use Rattle.json_form.specs.Faults.{Gives};
 ghost use Rattle.json_form.specs.Texts.{word_of};
-ghost use Rattle.continuity_run.specs.CallForm.{insert_of, update_of, delete_of, get_of, select_of, count_of, sum_of, show_of, set_of, alter_of, line_of, alone_of, item_by as item_by_lem, item_read, test_words, change_words, changed_by};
+ghost use Rattle.continuity_run.specs.CallForm.{insert_of, update_of, delete_of, get_of, select_of, count_of, sum_of, show_of, set_of, alter_of, line_of, alone_of, item_by as item_by_def, item_read, test_words, change_words, changed_by};
 ghost use Rattle.continuity_run.specs.ValueForm.{short};
 
 use crate::item::{ChangeWord, Item};
@@ -203,7 +203,7 @@ fn alone_from(alloc: Global, value: &Json, one: Item) -> Result<Item, DocFault>
 }
 
 fn item_by(alloc: Global, value: &Json, word: &str) -> Result<Item, DocFault>
-    ensures { Gives result (item_by_lem (view value.now) word.now) }
+    ensures { Gives result (item_by_def (view value.now) word.now) }
 {
     match word {
         "insert" => insert_from(alloc, value),

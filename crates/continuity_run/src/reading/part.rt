@@ -3,7 +3,7 @@ ghost use Rattle.std.specs.Prelude.{◌≡◌, IfOk, IfErr};
 ghost use Rattle.serde_json.specs.View.{view};
 ghost use Rattle.json_form.specs.Faults.{Gives};
 ghost use Rattle.json_form.specs.declared.fault.DocFault.TheVariants.{NoMemory};
-ghost use Rattle.continuity_run.specs.CallForm.{part as part_lem};
+ghost use Rattle.continuity_run.specs.CallForm.{part as part_def};
 
 use json_form::{DocFault, Reader, item, within_item};
 use serde_json::Value as Json;
@@ -17,7 +17,7 @@ pub(crate) fn part<T, R: Reader<T>>(
     at: usize,
     reader: &R,
 ) -> Result<T, DocFault>
-    ensures { Gives result (part_lem at (R.Reader.reads reader.now) (view value.now)) }
+    ensures { Gives result (part_def at (R.Reader.reads reader.now) (view value.now)) }
 {
     let inner = item(alloc, value, at)?;
     within_item(alloc, at, reader.read(alloc, inner))

@@ -8,7 +8,7 @@ ghost use Rattle.json_form.specs.Texts.{word_of};
 ghost use Rattle.json_form.specs.Values.{items_of};
 ghost use Rattle.json_form.specs.Objects.{optional};
 ghost use Rattle.continuity_run.specs.DocumentForm.{new_name, column_of, columns_of, kind_words, field_of, fixed_items, fitting, row_of, rows_of, table_of};
-ghost use Rattle.stmt_meaning.specs.Plans.{key_of as key_of_row};
+ghost use Rattle.svc_values.specs.Schemas.{key_of as key_of_row};
 ghost use Rattle.json_form.specs.declared.fault.DocFault.TheVariants.{NoMemory};
 
 use crate::document::{DocRows, DocTable};

@@ -2,7 +2,7 @@
 ghost use Rattle.std.specs.Prelude.{◌≡◌};
 ghost use Rattle.serde_json.specs.View.{view, members_view};
 ghost use Rattle.json_form.specs.Faults.{Gives, GivesBy};
-ghost use Rattle.continuity_run.specs.ValueForm.{name_of, value_of, bytes_value, bytes_object, short, only_member as only_member_lem, operand_named as operand_named_lem, operand_of, draw_words};
+ghost use Rattle.continuity_run.specs.ValueForm.{name_of, value_of, bytes_value, bytes_object, short, only_member as only_member_def, operand_named as operand_named_def, operand_of, draw_words};
 
 use json_form::{
     DocCode, DocFault, Integer, Reader, object_with, octets_from, required, text_from, within,
@@ -81,7 +81,7 @@ impl Reader<Value> for ValueReader {
 /// The name and the value of an object's only member.
 fn only_member(alloc: Global, members: &Map<String, Json>) -> Result<(&str, &Json), DocFault>
     ensures { GivesBy (λ only. (only.0.now, view only.1.now)) result
-        (only_member_lem (members_view members.now.entries)) }
+        (only_member_def (members_view members.now.entries)) }
 {
     let mut members = members.iter();
     let Some((name, value)) = members.next() else {
@@ -95,7 +95,7 @@ fn only_member(alloc: Global, members: &Map<String, Json>) -> Result<(&str, &Jso
 
 /// The operand that an object with one member is, by the member's name.
 fn operand_named(alloc: Global, value: &Json, name: &str, inner: &Json) -> Result<Operand, DocFault>
-    ensures { Gives result (operand_named_lem (view value.now) (view inner.now) name.now) }
+    ensures { Gives result (operand_named_def (view value.now) (view inner.now) name.now) }
 {
     if name == "hex" {
         return Ok(Operand::Lit(bytes_member(alloc, value)?));

@@ -1,6 +1,6 @@
 //! Writers of answers and draws.
 ghost use Rattle.std.specs.Prelude.{◌≡◌, IfOk};
-ghost use Rattle.continuity_run.specs.CallText.{refusal_code as refusal_code_lem, answer_text, draw_text};
+ghost use Rattle.continuity_run.specs.CallText.{refusal_code as refusal_code_def, answer_text, draw_text};
 
 use crate::writing::value::{RowWriter, one};
 use json_form::{Writer, Written};
@@ -9,7 +9,7 @@ use svc_values::{Answer, Draw, StatementFault};
 
 /// The number of a refusal, 1 to 9.
 fn refusal_code(fault: StatementFault) -> u8
-    ensures { result ≡ refusal_code_lem fault }
+    ensures { result ≡ refusal_code_def fault }
 {
     fault as u8
 }

@@ -2,7 +2,7 @@
 ghost use Rattle.std.specs.Prelude.{◌≡◌, IfOk, ◌∷◌, []};
 ghost use Rattle.serde_json.specs.View.{view};
 ghost use Rattle.json_form.specs.Writing.{list, text};
-ghost use Rattle.continuity_run.specs.CallText.{operand_text, test_word as test_word_lem, change_word as change_word_lem, changing as changing_lem, statement_text};
+ghost use Rattle.continuity_run.specs.CallText.{operand_text, test_word as test_word_def, change_word as change_word_def, changing as changing_def, statement_text};
 
 use crate::writing::value::OperandWriter;
 use json_form::{Writer, Written};
@@ -10,7 +10,7 @@ use std::alloc::{AllocError, Global};
 use svc_values::{Change, Name, Operand, Operands, Statement, Test};
 
 fn test_word(test: Test) -> &'static str
-    ensures { result.now ≡ test_word_lem test }
+    ensures { result.now ≡ test_word_def test }
 {
     match test {
         Test::Eq => "eq",
@@ -20,7 +20,7 @@ fn test_word(test: Test) -> &'static str
 }
 
 fn change_word(change: &Change) -> &'static str
-    ensures { result.now ≡ change_word_lem change.now }
+    ensures { result.now ≡ change_word_def change.now }
 {
     match change {
         Change::To(_) => "to",
@@ -29,7 +29,7 @@ fn change_word(change: &Change) -> &'static str
 }
 
 fn changing(change: &Change) -> &Operand
-    ensures { result.now ≡ changing_lem change.now }
+    ensures { result.now ≡ changing_def change.now }
 {
     match change {
         Change::To(operand) | Change::Plus(operand) => operand,

@@ -1,8 +1,8 @@
 //! Writers of values, rows and operands.
 ghost use Rattle.std.specs.Prelude.{◌≡◌, IfOk};
 ghost use Rattle.serde_json.specs.View.{view};
-ghost use Rattle.json_form.specs.Writing.{text as text_lem};
-ghost use Rattle.continuity_run.specs.CallText.{one as one_lem, value_text, row_text, operand_text};
+ghost use Rattle.json_form.specs.Writing.{text as text_def};
+ghost use Rattle.continuity_run.specs.CallText.{one as one_def, value_text, row_text, operand_text};
 
 use json_form::{ObjectWriter, Writer, Written};
 use std::alloc::{AllocError, Global};
@@ -10,7 +10,7 @@ use svc_values::{DrawKind, Operand, Row, Value};
 
 /// An object with one member.
 pub(crate) fn one(alloc: Global, name: &str, member: Written) -> Result<Written, AllocError>
-    ensures { IfOk result (λ w. view w.value ≡ one_lem name.now (view member.value)) }
+    ensures { IfOk result (λ w. view w.value ≡ one_def name.now (view member.value)) }
 {
     let mut object = ObjectWriter::new(alloc);
     object.put(alloc, name, member)?;
@@ -49,7 +49,7 @@ impl Writer<Row> for RowWriter {
 
 /// An object with one text.
 fn one_text(alloc: Global, name: &str, text: &str) -> Result<Written, AllocError>
-    ensures { IfOk result (λ w. view w.value ≡ one_lem name.now (text_lem text.now)) }
+    ensures { IfOk result (λ w. view w.value ≡ one_def name.now (text_def text.now)) }
 {
     let member = Written::text(alloc, text)?;
     one(alloc, name, member)

@@ -1,23 +1,29 @@
-use Rattle.std.proofs.Common.{subst}
-use Rattle.table_txn.specs.declared.fault.TxnFault.{TxnFault}
-use Rattle.table_txn.specs.Drawing.{EndedBy}
-use Rattle.table_txn.specs.Listed.{TakesFirst}
-use Rattle.continuity_run.proofs.Working.{worked, still_alone, none_asked}
+use Rattle.std.proofs.Common.{List, ap, subst, ◌∙◌}
+use Rattle.std.specs.Prelude.{option_map}
+use Rattle.svc_values.specs.declared.draw.Draw.{Draw}
+use Rattle.stmt_meaning.specs.declared.fault.TxnFault.{TxnFault}
+use Rattle.stmt_meaning.specs.Drawing.{EndedBy}
+use Rattle.stmt_meaning.specs.Listed.{Listing, TakesFirst}
+use Rattle.stmt_meaning.specs.Meaning.{Meant}
+use Rattle.table_txn.specs.Transactions.{meaning}
+use Rattle.continuity_run.proofs.Working.{worked, still_alone, none_ended}
 use Rattle.continuity_run.proofs.run.run_statements.Goals as goal
 
 pub returns-in-Ok-clause-ran : goal.returns-in-Ok-clause-ran
 returns-in-Ok-clause-ran c =
     let ran = c.in-Ok.ensures.ran in
-    worked c.args.tables.now c.new.result c.args.settings.now c.args.transaction.now c.args.statements.now c.in-Ok.ran.answers c.in-Ok.ran.draws c.run.new.self c.new.ensures c.requires.literal ran.0
+    let none = ap (λ (s : Listing). s.names) c.new-none.ensures ∙ c.new.ensures in
+    worked c.args.tables.now c.new-none.result.names c.args.settings.now c.args.transaction.now c.args.statements.now c.in-Ok.ran.answers c.in-Ok.ran.draws c.run.new.self none c.requires.literal ran.0
 
 pub returns-in-Ok-clause-alone : goal.returns-in-Ok-clause-alone
 returns-in-Ok-clause-alone c =
     let ran = c.in-Ok.ensures.ran in
-    still_alone c.args.tables.now c.new.result c.args.settings.now c.args.transaction.now c.args.statements.now c.in-Ok.ran.answers c.in-Ok.ran.draws c.run.new.self c.requires.alone c.in-Ok.ensures.fits ran.0
+    still_alone c.args.tables.now c.new-none.result.names c.args.settings.now c.args.transaction.now c.args.statements.now c.in-Ok.ran.answers c.in-Ok.ran.draws c.run.new.self c.requires.alone c.in-Ok.ensures.fits ran.0
 
 -- no draw is asked for, so none is refused
 pub unreachable-requires : goal.unreachable-requires
 unreachable-requires c =
     let ended = c.in-Err-Stopped.ensures.ended in
-    (subst (λ (f : TxnFault). EndedBy TakesFirst ended.between f c.run.new.draws ended.more) c.in-Err-Stopped.field-0-is ended.because).1
-    (none_asked c.args.tables.now c.new.result c.args.settings.now c.args.transaction.now c.args.statements.now ended.given ended.more c.requires.literal ended.asked)
+    let left = λ (draws : List Draw). option_map (λ (m : Meant). m.rest) (meaning c.args.tables.now c.new-none.result.names c.args.settings.now c.args.transaction.now c.args.statements.now draws) in
+    let stopped = subst (λ (f : TxnFault). EndedBy TakesFirst left ended.given ended.between f c.run.new.draws) c.in-Err-Stopped.field-0-is ended.because in
+    none_ended c.args.tables.now c.new-none.result.names c.args.settings.now c.args.transaction.now c.args.statements.now ended.given ended.more c.requires.literal ended.asked stopped.0 stopped.1.1

@@ -1,7 +1,7 @@
 use Rattle.std.proofs.Common.{◌∙◌, sym, subst, List, map, IsTrue}
 use Rattle.svc_values.specs.declared.schema.Schema.{Schema}
-use Rattle.stmt_meaning.specs.declared.tables.PlainRow.{PlainRow}
-use Rattle.stmt_meaning.specs.Fitting.{tables_fit}
+use Rattle.svc_values.specs.declared.tables.PlainRow.{PlainRow}
+use Rattle.svc_values.specs.Fitting.{tables_fit}
 use Rattle.table_store.specs.Given.{plain}
 use Rattle.table_store.specs.Stored.{AreApart}
 use Rattle.continuity_run.specs.Start.{schema_in}

@@ -1,6 +1,6 @@
 use Rattle.std.proofs.Common.{refl}
 use Rattle.serde_json.specs.View.{view}
-use Rattle.json_form.proofs.Counts.{is_fixed, is_not_fixed}
+use Rattle.json_form.proofs.Offered.{is_fixed, is_not_fixed}
 use Rattle.continuity_run.proofs.reading.table.items_in_count.Goals as goal
 
 pub returns-then-items-count-clause-read : goal.returns-then-items-count-clause-read

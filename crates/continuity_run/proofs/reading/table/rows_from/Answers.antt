@@ -2,9 +2,9 @@ use Rattle.std.proofs.Common.{◌≡◌, rules, sym, ap, List}
 use Rattle.json_form.specs.Arrays.{array_of, distinct}
 use Rattle.svc_values.specs.declared.schema.Column.{Column}
 use Rattle.svc_values.specs.contracts.value.ValuePartialEq.TheImpl.{eq-value}
-use Rattle.stmt_meaning.specs.Plans.{key_of}
+use Rattle.svc_values.specs.Schemas.{key_of}
 use Rattle.continuity_run.specs.DocumentForm.{row_of, rows_of}
-use Rattle.continuity_run.proofs.ValueEquality.{same_is_eq}
+use Rattle.svc_values.proofs.Offered.{same_is_eq}
 use Rattle.continuity_run.proofs.reading.table.rows_from.Goals as goal
 
 rows_by_eq : (columns : List Column) → rows_of columns ≡ array_of 0 10000 (distinct eq-value.it key_of (row_of columns))

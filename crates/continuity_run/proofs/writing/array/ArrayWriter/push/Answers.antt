@@ -3,7 +3,7 @@ use Rattle.std.specs.Prelude.{⊤}
 use Rattle.serde_json.specs.View.{view, items_view}
 use Rattle.serde_json.specs.Written.{has_float, items_have_float}
 use Rattle.serde_json.specs.declared.value.Value.{Value}
-use Rattle.json_form.proofs.NoFloats.{none_with_item}
+use Rattle.json_form.proofs.Offered.{none_with_item}
 use Rattle.continuity_run.proofs.writing.array.ArrayWriter.push.Goals as goal
 
 -- whether the item was put or not
