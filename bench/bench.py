@@ -60,6 +60,32 @@ def calls_document(calls, rows):
     return compact({"tables": [table("t", rows)], "clients": [{"requests": [{"calls": script}]}]})
 
 
+def one_request(tables, script):
+    return compact({"tables": tables, "clients": [{"requests": [{"calls": script}]}]})
+
+
+def accounts(rows):
+    return {"name": "acc", "columns": [["id", "int"], ["bal", "int"]], "rows": [[key, 100] for key in range(rows)]}
+
+
+def updates_document(calls):
+    """One transaction of eight updates a call, over 8,192 rows at most: what own writes cost."""
+    update = lambda n: ["update", "acc", n % 8_192, "bal", "plus", 1]
+    script = [[update(8 * call + n) for n in range(8)] for call in range(calls)]
+    return one_request([accounts(8_192)], script + [[["commit"]]])
+
+
+def reads_document(reads, rows):
+    """One transaction that reads a whole table so often: what a note of a table costs."""
+    return one_request([accounts(rows)], [[["count", "acc"]] for _ in range(reads)] + [[["commit"]]])
+
+
+def commits_document(commits, rows):
+    """So many transactions, each of which reads the whole table and writes one row of it: does a commit copy the table?"""
+    script = [[["count", "acc"], ["update", "acc", n % rows, "bal", "plus", 1], ["commit"]] for n in range(commits)]
+    return one_request([accounts(rows)], script)
+
+
 def long_document(size):
     """A document of about so many bytes, nearly all of them texts of rows in 32 tables."""
     rows = size // 32 // 76
@@ -111,6 +137,9 @@ CASES = {
     "long": lambda: document_case("long documents", long_document, [(4_000_000,), (8_000_000,)]),
     "rows": lambda: document_case("32 tables of rows", rows_document, [(32, 2_500), (32, 10_000)]),
     "calls": lambda: document_case("calls of one request", calls_document, [(256, 10_000), (1_024, 10_000)]),
+    "updates": lambda: document_case("one transaction of updates", updates_document, [(256,), (1_023,)]),
+    "reads": lambda: document_case("reads of a whole table in one transaction", reads_document, [(512, 1_000), (512, 10_000)]),
+    "whole": lambda: document_case("a whole-table read, an update and a commit", commits_document, [(512, 1_000), (512, 10_000)]),
     "answers": lambda: program_case("wire_bench", [["answers", "100000"], ["answers", "1000000"]], "answer"),
     "stream": lambda: program_case("wire_bench", [["stream", "1000000"], ["stream", "4000000"]], "byte"),
     "commits": lambda: program_case("log_bench", [["10000"], ["100000"]], "commit"),
