@@ -1,5 +1,5 @@
 -- What a conversation keeps: where it stands fits what its steps told.
-use Rattle.std.proofs.Common.{◌≡◌, ◌⊎◌, ℕ, ◌+◌, ◌≤◌, ◌<◌, Bool, true, false, List, [], ◌++◌, length, map, take, Option, Some, None}
+use Rattle.std.proofs.Common.{◌≡◌, ◌⊎◌, ℕ, ◌+◌, ◌≤◌, ◌<◌, Bool, true, false, List, [], ◌++◌, length, map, take, drop, Option, Some, None, if◌then◌else◌}
 use Rattle.std.specs.Prelude.{slice_get, fold, IsSome}
 use Rattle.svc_values.specs.declared.value.Value.{Value}
 use Rattle.svc_values.specs.declared.call.Call.{Call}
@@ -13,7 +13,8 @@ use Rattle.client_model.specs.declared.input.Input.{Input}
 use Rattle.client_model.specs.declared.act.Shown.{Shown}
 use Rattle.client_model.specs.declared.act.Failed.{Failed}
 use Rattle.client_model.specs.Terms.{Terms, Talk, Phase, Idle, Unbegun, Queued, Seeking, Greeting, Asked, Running, Replaying}
-use Rattle.client_model.specs.Talk.{Step}
+use Rattle.svc_values.specs.SettingsList.{with_sets}
+use Rattle.client_model.specs.Talk.{Step, settled}
 use Rattle.client_model.specs.Conversation.{is_gone_next}
 use Rattle.client_model.specs.Account.{Account, Answered, unheard, set_shown, count_uncommitted, sends}
 use Rattle.client_model.specs.Laws.{digests_of, FollowsOutcome, MaySendAll, BegunWith, settings_known, IsCaused, HoldsBy}
@@ -114,11 +115,15 @@ Fits terms calls a gone (Asked state) = Holds terms calls a state.track state.lt
 Fits terms calls a gone (Running state) = Holds terms calls a state.track state.ltxid None × (gone ≡ false → Runs a)
 Fits terms calls a gone (Replaying state) = Holds terms calls a state.track state.ltxid None × Repeats a state × IsNext state × (gone ≡ false → CallSent true a)
 
+-- the request's settings, and under a rule that keeps settings every `set` that was shown on them
+abbrev pub settings_shown : Terms → List (List ℕ × Value) → List Call → Account → List (List ℕ × Value)
+settings_shown terms settings calls a = if terms.rules.keeps then with_sets settings (take (length a.shown) calls) else settings
+
 -- the rest of a talk
 pub record IsTalk (terms : Terms) (settings : List (List ℕ × Value)) (calls : List Call) (a : Account) (talk : Talk) : Type 0 where
-  pub settings_are : talk.settings ≡ settings
-  pub calls_are : talk.calls ≡ calls
-  pub purged_are : talk.purged ≡ a.purged
+  pub settings_are : talk.settings ≡ settings_known terms settings calls a
+  pub sets_are : settled talk.settings talk.sets ≡ settings_shown terms settings calls a
+  pub left_are : talk.left ≡ drop (length a.shown) calls
   pub tries_are : talk.tries ≡ a.tries
   pub few_tries : 1 ≤ terms.limits.retries → talk.tries < terms.limits.retries
 

@@ -1,5 +1,5 @@
 -- A request that goes on: its next call, or its end.
-use Rattle.std.proofs.Common.{◌≡◌, inl, ℕ, ◌≤◌, Bool, true, false, List, [], ◌∷◌, length, Option, Some, None, refl, sym, ap, subst, ◌∙◌, arith}
+use Rattle.std.proofs.Common.{◌≡◌, inl, ℕ, ◌≤◌, Bool, true, false, List, [], ◌∷◌, length, drop, Option, Some, None, refl, sym, ap, subst, ◌∙◌, arith}
 use Rattle.std.specs.Prelude.{slice_get, fold}
 use Rattle.svc_values.specs.declared.value.Value.{Value}
 use Rattle.svc_values.specs.declared.call.Call.{Call}
@@ -10,11 +10,12 @@ use Rattle.client_model.specs.declared.input.Input.{Input}
 use Rattle.client_model.specs.declared.act.Shown.{Shown}
 use Rattle.client_model.specs.declared.act.Hold.TheVariants.{Keep}
 use Rattle.client_model.specs.Terms.{Terms, Talk}
-use Rattle.client_model.specs.Talk.{begin_of, settings_of, sends_or_ends, goes_on}
+use Rattle.client_model.specs.Talk.{begin_of, next_call, sends_or_ends, goes_on}
 use Rattle.client_model.specs.Conversation.{is_gone_next}
 use Rattle.client_model.specs.Account.{Account, begins, sends, count_uncommitted, set_shown}
 use Rattle.client_model.specs.Laws.{digests_of, FollowsOutcome, MaySendAll, BegunWith, settings_known}
-use Rattle.client_model.proofs.Fits.{Tracked, Holds, Few, IsTalk, Good, Calm}
+use Rattle.client_model.proofs.Fits.{Tracked, Holds, Few, IsTalk, Good, Calm, settings_shown}
+use Rattle.client_model.proofs.Left.{next_left}
 use Rattle.client_model.proofs.Sending.{ends_good, sends_call_good}
 
 module _ (terms : Terms) (settings : List (List ℕ × Value)) (calls : List Call) where
@@ -38,11 +39,11 @@ module _ (terms : Terms) (settings : List (List ℕ × Value)) (calls : List Cal
     };
   }
 
-  pub talk_same : (a b : Account) (talk : Talk) → b.purged ≡ a.purged → b.tries ≡ a.tries → IsTalk terms settings calls a talk → IsTalk terms settings calls b talk
-  talk_same a b talk e-purged e-tries t = record {
-    settings_are = t.settings_are;
-    calls_are = t.calls_are;
-    purged_are = t.purged_are ∙ sym e-purged;
+  pub talk_same : (a b : Account) (talk : Talk) → b.shown ≡ a.shown → b.purged ≡ a.purged → b.tries ≡ a.tries → IsTalk terms settings calls a talk → IsTalk terms settings calls b talk
+  talk_same a b talk e-shown e-purged e-tries t = record {
+    settings_are = t.settings_are ∙ ap (λ n. settings_known terms settings calls (record a { purged = n })) (sym e-purged);
+    sets_are = t.sets_are ∙ ap (λ s. settings_shown terms settings calls (record a { shown = s })) (sym e-shown);
+    left_are = t.left_are ∙ ap (λ s. drop (length s) calls) (sym e-shown);
     tries_are = t.tries_are ∙ sym e-tries;
     few_tries = t.few_tries;
   }
@@ -61,14 +62,6 @@ module _ (terms : Terms) (settings : List (List ℕ × Value)) (calls : List Cal
 
   holds_of : (a : Account) (talk : Talk) (state : Living) (call : Call) → Stands a talk state → slice_get calls state.track.call ≡ Some call → Holds terms calls a state.track state.ltxid None
   holds_of a talk state call s is = record { tracked = s.tracked; left = record { one = call; is = is }; begun = s.begun; held = s.held; ended = s.ended }
-
-  -- the settings with which a session is begun are those that the account knows
-  pub settings_same : (a : Account) (talk : Talk) → IsTalk terms settings calls a talk → settings_of terms talk ≡ settings_known terms settings calls a
-  settings_same a talk t =
-      let e : talk.settings ≡ settings = t.settings_are in
-      let f : talk.calls ≡ calls = t.calls_are in
-      let g : talk.purged ≡ a.purged = t.purged_are in
-      cc
 
   module _ (input : Input) (now : ℕ) (heard : Account) (talk : Talk) (state : Living) (alive : Bool) (shown : Option Shown) where
     -- behind these frames, after which the account is `after`
@@ -98,13 +91,13 @@ module _ (terms : Terms) (settings : List (List ℕ × Value)) (calls : List Cal
         (d.0.talks, holds_of heard talk state call d.0 is, d.1)) calm
 
     -- with nothing sent before
-    pub goes_on_good : Few terms heard → talk.calls ≡ calls
+    pub goes_on_good : Few terms heard → slice_get calls state.track.call ≡ next_call talk
         → (alive ≡ true → Stands heard talk state × FollowsOutcome (length heard.shown) heard.session)
         → (alive ≡ false → Stands heard talk state × (is_gone_next input Keep ≡ true))
         → Calm terms calls heard input now
         → Good terms settings calls input now shown heard (goes_on terms talk state alive [] shown now)
-    goes_on_good few are live dead calm =
-        or_ends_good [] heard (slice_get talk.calls state.track.call) (ap (λ c. slice_get c state.track.call) (sym are)) refl few refl
+    goes_on_good few is live dead calm =
+        or_ends_good [] heard (next_call talk) is refl few refl
         (λ on. let l : Stands heard talk state × FollowsOutcome (length heard.shown) heard.session = live on in (l.0, l.1, tt, tt, λ b. l.1))
         dead calm
 
@@ -114,7 +107,7 @@ module _ (terms : Terms) (settings : List (List ℕ × Value)) (calls : List Cal
 
     stands_last : (last : Option Up) → Stands heard talk state → Stands (record heard { last = last }) talk state
     stands_last last s = record {
-      talks = talk_same heard (record heard { last = last }) talk refl refl s.talks;
+      talks = talk_same heard (record heard { last = last }) talk refl refl refl s.talks;
       tracked = tracked_same heard (record heard { last = last }) state.track refl refl refl refl refl s.tracked;
       begun = s.begun;
       held = s.held;
@@ -126,11 +119,11 @@ module _ (terms : Terms) (settings : List (List ℕ × Value)) (calls : List Cal
         → Stands heard talk state → FollowsOutcome (length heard.shown) heard.session
         → (alive ≡ false → is_gone_next input Keep ≡ true)
         → Calm terms calls heard input now
-        → Good terms settings calls input now shown heard (sends_or_ends terms talk state alive (begin_of terms talk ∷ []) shown now found)
+        → Good terms settings calls input now shown heard (sends_or_ends terms talk state alive (begin_of talk ∷ []) shown now found)
     begins_again_good found is few talks begun stands follows dead calm =
-        or_ends_good (begin_of terms talk ∷ []) (record heard { last = Some (begin_of terms talk) }) found is
-        (begun_again (begin_of terms talk) begun) few refl
-        (λ on. (stands_last (Some (begin_of terms talk)) stands, follows, tt, (settings_same heard talk talks, tt), λ b. follows))
+        or_ends_good (begin_of talk ∷ []) (record heard { last = Some (begin_of talk) }) found is
+        (begun_again (begin_of talk) begun) few refl
+        (λ on. (stands_last (Some (begin_of talk)) stands, follows, tt, (talks.settings_are, tt), λ b. follows))
         (λ off. (stands, dead off)) calm
 
   -- the request's first Begin, on a session with this identifier
@@ -144,21 +137,21 @@ module _ (terms : Terms) (settings : List (List ℕ × Value)) (calls : List Cal
     pub begins_first_good : heard.begun ≡ false → Few terms heard → IsTalk terms settings calls heard talk → Tracked terms calls heard state.track
         → heard.session.ltxid ≡ Some state.ltxid
         → Calm terms calls heard input now
-        → Good terms settings calls input now None heard (goes_on terms talk state true (begin_of terms talk ∷ []) None now)
+        → Good terms settings calls input now None heard (goes_on terms talk state true (begin_of talk ∷ []) None now)
     begins_first_good unbegun few talks tracked is_held calm =
-        or_ends_good input now heard talk state true None (begin_of terms talk ∷ []) (first_begun (begin_of terms talk)) (slice_get talk.calls state.track.call)
-        (ap (λ c. slice_get c state.track.call) (sym talks.calls_are)) (begun_first (begin_of terms talk) unbegun) few refl
+        or_ends_good input now heard talk state true None (begin_of talk ∷ []) (first_begun (begin_of talk)) (next_call talk)
+        (next_left terms settings calls heard talk state.track talks tracked) (begun_first (begin_of talk) unbegun) few refl
         (λ on. (
           record {
-            talks = talk_same heard (first_begun (begin_of terms talk)) talk refl refl talks;
-            tracked = tracked_same heard (first_begun (begin_of terms talk)) state.track refl refl refl refl refl tracked;
+            talks = talk_same heard (first_begun (begin_of talk)) talk refl refl refl talks;
+            tracked = tracked_same heard (first_begun (begin_of talk)) state.track refl refl refl refl refl tracked;
             begun = refl;
             held = is_held;
             ended = refl;
           },
           inl refl,
           tt,
-          (settings_same heard talk talks, tt),
+          (talks.settings_are, tt),
           λ b. absurd (let none : ⊥ = cc in none),
         ))
         (λ off. absurd (let none : ⊥ = cc in none)) calm

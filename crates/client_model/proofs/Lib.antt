@@ -8,6 +8,7 @@ mod Replies
 mod Rows
 mod Sending
 mod Showing
+mod Left
 mod Slots
 mod Stepped
 pub mod Steps

@@ -28,7 +28,7 @@ use Rattle.client_model.proofs.Sending.{fails_good, ends_good}
 use Rattle.client_model.proofs.Showing.{shown_tracked, length-last}
 use Rattle.client_model.proofs.Going.{Stands, talk_same, tracked_few, begins_again_good}
 use Rattle.client_model.proofs.Stepped.{Stepped}
-use Rattle.client_model.proofs.Replies.{shown_talk}
+use Rattle.client_model.proofs.Left.{next_left, shown_talk}
 use Rattle.client_model.proofs.Repeating.{last-last, begun_marked_good}
 
 le_true : (a b : ℕ) → nat_le a b ≡ true → a ≤ b
@@ -87,7 +87,7 @@ module _ (terms : Terms) (settings : List (List ℕ × Value)) (calls : List Cal
     heard_is committed completed = ap (hears_outcome a committed completed) fits.1.last
 
     heard_talks : (committed completed : Bool) → IsTalk terms settings calls (heard committed completed) talk
-    heard_talks committed completed = talk_same terms settings calls a (heard committed completed) talk refl refl talks
+    heard_talks committed completed = talk_same terms settings calls a (heard committed completed) talk refl refl refl talks
 
     heard_few : (committed completed : Bool) → Few terms (heard committed completed)
     heard_few true completed =
@@ -140,7 +140,7 @@ module _ (terms : Terms) (settings : List (List ℕ × Value)) (calls : List Cal
       next = record { track = with_shown terms state.track call (answer.Committed ∷ []) []; ltxid = state.fresh }
 
       abbrev after : Talk
-      after = talk_shown terms talk state.track (answer.Committed ∷ [])
+      after = talk_shown terms talk call (answer.Committed ∷ [])
 
       tracked_here : Tracked terms calls (heard true true) state.track
       tracked_here = heard_tracked true true state.track refl refl refl refl refl
@@ -152,7 +152,10 @@ module _ (terms : Terms) (settings : List (List ℕ × Value)) (calls : List Cal
       tracked_behind = shown_tracked terms calls (heard true true) state.track shown call tracked_here here
 
       talks_behind : IsTalk terms settings calls behind after
-      talks_behind = shown_talk terms settings calls (heard true true) talk state.track shown call (heard_talks true true) tracked_here
+      talks_behind = shown_talk terms settings calls (heard true true) talk shown call (heard_talks true true) (ap (slice_get calls) (sym tracked_here.call) ∙ here)
+
+      next_behind : slice_get calls next.track.call ≡ next_call after
+      next_behind = next_left terms settings calls behind after next.track talks_behind tracked_behind
 
       stands_behind : Stands terms settings calls behind after next
       stands_behind = record { talks = talks_behind; tracked = tracked_behind; begun = fits.0.begun; held = fits.1.fresh; ended = refl }
@@ -182,18 +185,18 @@ module _ (terms : Terms) (settings : List (List ℕ × Value)) (calls : List Cal
       keeps_state : (next.track.set_shown && not terms.rules.keeps) ≡ false → (index : ℕ) → LosesState terms calls behind (Took (down.OutcomeIs true true) alive) index → ⊥
       keeps_state test index l = and_never next.track.set_shown terms.rules.keeps (tracked_behind.set_shown ∙ l.is_set) l.unkept test
 
-      no_call : next_call after next ≡ None → (index : ℕ) → LosesState terms calls behind (Took (down.OutcomeIs true true) alive) index → ⊥
+      no_call : next_call after ≡ None → (index : ℕ) → LosesState terms calls behind (Took (down.OutcomeIs true true) alive) index → ⊥
       no_call none index l =
-          let e : slice_get calls next.track.call ≡ None = ap (λ c. slice_get c next.track.call) (sym talks.calls_are) ∙ none in
+          let e : slice_get calls next.track.call ≡ None = next_behind ∙ none in
           let f : index ≡ next.track.call = l.follows ∙ sym tracked_behind.call in
           let g : slice_get calls index ≡ None = ap (slice_get calls) f ∙ e in
           let h : IsSome {T = Call} None = subst (λ (o : Option Call). IsSome o) g l.exists in
           let no : ⊥ = cc in no
 
-      completed_test : (found : Call) → next_call after next ≡ Some found → (test : Bool) → (next.track.set_shown && not terms.rules.keeps) ≡ test
+      completed_test : (found : Call) → next_call after ≡ Some found → (test : Bool) → (next.track.set_shown && not terms.rules.keeps) ≡ test
           → Good terms settings calls (Took (down.OutcomeIs true true) alive) now (Some shown) behind
           (if test then fails after alive (Some shown) (Disabled (why.StateLost next.track.call) state.event)
-          else sends_call terms after next alive (begin_of terms after ∷ []) (Some shown) now found)
+          else sends_call terms after next alive (begin_of after ∷ []) (Some shown) now found)
       completed_test found is true test =
           fails_good terms settings calls (Took (down.OutcomeIs true true) alive) now behind after alive (Some shown) (Disabled (why.StateLost next.track.call) state.event)
           (tracked_few terms settings calls behind next.track tracked_behind) (
@@ -204,7 +207,7 @@ module _ (terms : Terms) (settings : List (List ℕ × Value)) (calls : List Cal
               record {
                 outcome = record { ltxid = state.ltxid; alive = alive; taken = refl; asked = fits.1.last; last = last-last None a.outcomes (outcome_of true true) };
                 follows = tracked_behind.call;
-                exists = subst IsSome (sym (ap (λ c. slice_get c next.track.call) (sym talks.calls_are) ∙ is)) refl;
+                exists = subst IsSome (sym (next_behind ∙ is)) refl;
                 is_set = sym tracked_behind.set_shown ∙ and_left next.track.set_shown (not terms.rules.keeps) test;
                 unkept = and_not_right next.track.set_shown terms.rules.keeps test;
               },
@@ -212,22 +215,22 @@ module _ (terms : Terms) (settings : List (List ℕ × Value)) (calls : List Cal
           )
       completed_test found is false test =
           begins_again_good terms settings calls (Took (down.OutcomeIs true true) alive) now behind after next alive (Some shown) (Some found)
-          (ap (λ c. slice_get c next.track.call) (sym talks.calls_are) ∙ is)
+          (next_behind ∙ is)
           (tracked_few terms settings calls behind next.track tracked_behind) talks_behind fits.0.begun stands_behind follows_behind (dead (down.OutcomeIs true true) alive) (behind_calm (keeps_state test))
 
-      completed_good : (found : Option Call) → next_call after next ≡ found
+      completed_good : (found : Option Call) → next_call after ≡ found
           → Good terms settings calls (Took (down.OutcomeIs true true) alive) now (Some shown) behind (after_completed terms after next state.event alive shown now found)
       completed_good None is = ends_good terms settings calls (Took (down.OutcomeIs true true) alive) now behind after alive (Some shown) (tracked_few terms settings calls behind next.track tracked_behind) (behind_calm (no_call is))
       completed_good (Some found) is = completed_test found is (next.track.set_shown && not terms.rules.keeps) refl
 
-    committed_stepped : (found : Option Call) → next_call talk (resumed (completed_on state)) ≡ found
+    committed_stepped : (found : Option Call) → next_call talk ≡ found
         → Stepped terms settings calls a (Took (down.OutcomeIs true true) alive) now (on_completed terms talk (resumed (completed_on state)) state.event alive now found)
     committed_stepped None none =
         let left : slice_get calls state.track.call ≡ Some fits.0.left.one = fits.0.left.is in
-        let e : slice_get talk.calls state.track.call ≡ slice_get calls state.track.call = ap (λ c. slice_get c state.track.call) talks.calls_are in
+        let e : slice_get calls state.track.call ≡ next_call talk = next_left terms settings calls a talk state.track talks fits.0.tracked in
         absurd (let no : ⊥ = cc in no)
     committed_stepped (Some call) is =
-        let here : slice_get calls state.track.call ≡ Some call = ap (λ c. slice_get c state.track.call) (sym talks.calls_are) ∙ is in
+        let here : slice_get calls state.track.call ≡ Some call = next_left terms settings calls a talk state.track talks fits.0.tracked ∙ is in
         record {
           shown = Some (shown call here);
           heard = behind call here;
@@ -240,7 +243,7 @@ module _ (terms : Terms) (settings : List (List ℕ × Value)) (calls : List Cal
           );
           is_heard = ap (λ b. shows terms calls b (Some (shown call here))) (heard_is true true)
               ∙ ap (shows_found terms (heard true true) (shown call here)) (ap (slice_get calls) (sym fits.0.tracked.call) ∙ here);
-          good = completed_good call here (next_call (after call here) (next call here)) refl;
+          good = completed_good call here (next_call (after call here)) refl;
         }
 
     -- uncommitted: each that may decide
@@ -348,7 +351,7 @@ module _ (terms : Terms) (settings : List (List ℕ × Value)) (calls : List Cal
 
     pub outcome_stepped : (committed completed : Bool)
         → Stepped terms settings calls a (Took (down.OutcomeIs committed completed) alive) now (on_told terms talk state alive now (told_of state committed completed terms.limits now))
-    outcome_stepped true true = committed_stepped (next_call talk (resumed (completed_on state))) refl
+    outcome_stepped true true = committed_stepped (next_call talk) refl
     outcome_stepped true false = record {
       shown = None;
       as_shown = λ one e. absurd (let none : ⊥ = cc in none);

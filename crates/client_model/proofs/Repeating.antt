@@ -24,7 +24,7 @@ use Rattle.client_model.specs.declared.act.Shown.{Shown}
 use Rattle.client_model.specs.declared.act.Hold.TheVariants.{Keep}
 use Rattle.client_model.specs.declared.act.Failed.TheVariants.{Mismatch}
 use Rattle.client_model.specs.Terms.{Terms, Talk, Replaying}
-use Rattle.client_model.specs.Talk.{begin_of, sends_marked, on_compared, on_repeated}
+use Rattle.client_model.specs.Talk.{begin_of, next_call, sends_marked, on_compared, on_repeated}
 use Rattle.client_model.specs.Conversation.{is_gone_next}
 use Rattle.client_model.specs.Account.{Account, begins, sends}
 use Rattle.client_model.specs.Laws.{digests_of, FollowsOutcome, Differed, is_expected}
@@ -32,14 +32,9 @@ use Rattle.client_model.proofs.Fits.{Recalls, Holds, Repeats, Fits, IsTalk, Good
 use Rattle.client_model.proofs.Calming.{reply_calm}
 use Rattle.client_model.proofs.Sending.{fails_good}
 use Rattle.client_model.proofs.Showing.{map-last, length-last}
-use Rattle.client_model.proofs.Going.{Stands, talk_same, tracked_few, settings_same, goes_on_good, begins_again_good}
+use Rattle.client_model.proofs.Left.{take-next, next_left}
+use Rattle.client_model.proofs.Going.{Stands, talk_same, tracked_few, goes_on_good, begins_again_good}
 use Rattle.client_model.proofs.Stepped.{Stepped, holds_same}
-
--- one more of a list
-pub take-next : {X : Type 0} (xs : List X) (n : ℕ) (x : X) → slice_get xs n ≡ Some x → take (suc n) xs ≡ take n xs ++ x ∷ []
-take-next [] n x e = absurd (let none : ⊥ = cc in none)
-take-next (y ∷ xs) zero x e = let same : y ≡ x = cc in ap (λ z. z ∷ []) same
-take-next (y ∷ xs) (suc n) x e = ap (λ l. y ∷ l) (take-next xs n x e)
 
 pub last-last : {X : Type 0} (o : Option X) (xs : List X) (x : X) → last_or o (xs ++ x ∷ []) ≡ Some x
 last-last o [] x = refl
@@ -90,7 +85,7 @@ module _ (terms : Terms) (settings : List (List ℕ × Value)) (calls : List Cal
 
     pub marked_good : (found : Option Recorded) → next_of state ≡ found → Good terms settings calls input now None heard (sends_marked terms talk state alive [] now found)
     marked_good None none = goes_on_good terms settings calls input now heard talk (submitted state) alive None
-        (tracked_few terms settings calls heard state.track holds.tracked) talks.calls_are
+        (tracked_few terms settings calls heard state.track holds.tracked) (next_left terms settings calls heard talk state.track talks holds.tracked)
         (λ on. (stands_here, repeats_follows heard state state.track r none)) (λ off. (stands_here, dead off)) calm
     marked_good (Some one) is = by alive dead
       where
@@ -103,7 +98,7 @@ module _ (terms : Terms) (settings : List (List ℕ × Value)) (calls : List Cal
             record { one = one; is = is },
             λ gone. record { kept = one.draws; one = one.call; is = refl },
           );
-          talks = λ e. record { settings_are = talks.settings_are; calls_are = talks.calls_are; purged_are = talks.purged_are; tries_are = talks.tries_are; few_tries = talks.few_tries };
+          talks = λ e. record { settings_are = talks.settings_are; sets_are = talks.sets_are; left_are = talks.left_are; tries_are = talks.tries_are; few_tries = talks.few_tries };
           may = tt;
           begun = tt;
           begins = λ b. inl b;
@@ -114,7 +109,7 @@ module _ (terms : Terms) (settings : List (List ℕ × Value)) (calls : List Cal
         by false dead = record {
           shows = refl;
           fits = (holds, r, record { one = one; is = is }, λ gone. absurd (let off : is_gone_next input Keep ≡ true = dead refl in let none : ⊥ = cc in none));
-          talks = λ e. record { settings_are = talks.settings_are; calls_are = talks.calls_are; purged_are = talks.purged_are; tries_are = talks.tries_are; few_tries = talks.few_tries };
+          talks = λ e. record { settings_are = talks.settings_are; sets_are = talks.sets_are; left_are = talks.left_are; tries_are = talks.tries_are; few_tries = talks.few_tries };
           may = tt;
           begun = tt;
           begins = λ b. inl b;
@@ -124,21 +119,21 @@ module _ (terms : Terms) (settings : List (List ℕ × Value)) (calls : List Cal
         }
 
     -- the same behind a Begin
-    begun_last : (b : Bool) → heard.begun ≡ b → b ≡ true → (λ (c : Bool). let a : Account = record (begins heard c) { last = Some (begin_of terms talk) } in a) heard.begun ≡ record heard { last = Some (begin_of terms talk) }
-    begun_last b e is = ap (λ (c : Bool). let a : Account = record (begins heard c) { last = Some (begin_of terms talk) } in a) (e ∙ is)
+    begun_last : (b : Bool) → heard.begun ≡ b → b ≡ true → (λ (c : Bool). let a : Account = record (begins heard c) { last = Some (begin_of talk) } in a) heard.begun ≡ record heard { last = Some (begin_of talk) }
+    begun_last b e is = ap (λ (c : Bool). let a : Account = record (begins heard c) { last = Some (begin_of talk) } in a) (e ∙ is)
 
-    pub begun_marked_good : (found : Option Recorded) → next_of state ≡ found → Good terms settings calls input now None heard (sends_marked terms talk state alive (begin_of terms talk ∷ []) now found)
-    begun_marked_good None none = begins_again_good terms settings calls input now heard talk (submitted state) alive None (slice_get talk.calls state.track.call)
-        (ap (λ c. slice_get c state.track.call) (sym talks.calls_are))
+    pub begun_marked_good : (found : Option Recorded) → next_of state ≡ found → Good terms settings calls input now None heard (sends_marked terms talk state alive (begin_of talk ∷ []) now found)
+    begun_marked_good None none = begins_again_good terms settings calls input now heard talk (submitted state) alive None (next_call talk)
+        (next_left terms settings calls heard talk state.track talks holds.tracked)
         (tracked_few terms settings calls heard state.track holds.tracked) talks holds.begun stands_here (repeats_follows heard state state.track r none) dead calm
     begun_marked_good (Some one) is = by alive dead
       where
         frame : Up
         frame = up.Call true one.draws one.call
 
-        by : (alive : Bool) → (alive ≡ false → is_gone_next input Keep ≡ true) → Good terms settings calls input now None heard (sends_marked terms talk state alive (begin_of terms talk ∷ []) now (Some one))
+        by : (alive : Bool) → (alive ≡ false → is_gone_next input Keep ≡ true) → Good terms settings calls input now None heard (sends_marked terms talk state alive (begin_of talk ∷ []) now (Some one))
         by true dead =
-            let path : fold (sends terms now) heard (begin_of terms talk ∷ up.Call true one.draws one.call ∷ []) ≡ with_last (Some (up.Call true one.draws one.call)) =
+            let path : fold (sends terms now) heard (begin_of talk ∷ up.Call true one.draws one.call ∷ []) ≡ with_last (Some (up.Call true one.draws one.call)) =
             ap (λ (a : Account). sends terms now a (up.Call true one.draws one.call)) (begun_last heard.begun refl holds.begun) in
             record {
               shows = refl;
@@ -149,9 +144,9 @@ module _ (terms : Terms) (settings : List (List ℕ × Value)) (calls : List Cal
                 λ gone. record { kept = one.draws; one = one.call; is = refl },
               );
               talks = λ e. subst (λ (a : Account). IsTalk terms settings calls a (record talk { phase = Replaying state })) (sym path)
-                  (record { settings_are = talks.settings_are; calls_are = talks.calls_are; purged_are = talks.purged_are; tries_are = talks.tries_are; few_tries = talks.few_tries });
+                  (record { settings_are = talks.settings_are; sets_are = talks.sets_are; left_are = talks.left_are; tries_are = talks.tries_are; few_tries = talks.few_tries });
               may = tt;
-              begun = (settings_same terms settings calls heard talk talks, tt);
+              begun = (talks.settings_are, tt);
               begins = λ b. inl holds.begun;
               holds = refl;
               calm = λ none. calm;
@@ -160,7 +155,7 @@ module _ (terms : Terms) (settings : List (List ℕ × Value)) (calls : List Cal
         by false dead = record {
           shows = refl;
           fits = (holds, r, record { one = one; is = is }, λ gone. absurd (let off : is_gone_next input Keep ≡ true = dead refl in let none : ⊥ = cc in none));
-          talks = λ e. record { settings_are = talks.settings_are; calls_are = talks.calls_are; purged_are = talks.purged_are; tries_are = talks.tries_are; few_tries = talks.few_tries };
+          talks = λ e. record { settings_are = talks.settings_are; sets_are = talks.sets_are; left_are = talks.left_are; tries_are = talks.tries_are; few_tries = talks.few_tries };
           may = tt;
           begun = tt;
           begins = λ b. inl b;
@@ -197,7 +192,7 @@ module _ (terms : Terms) (settings : List (List ℕ × Value)) (calls : List Cal
     heard = record a { session = record a.session { repeated = a.session.repeated ++ terms.digest answers ∷ [] } }
 
     heard_talks : IsTalk terms settings calls heard talk
-    heard_talks = talk_same terms settings calls a heard talk refl refl talks
+    heard_talks = talk_same terms settings calls a heard talk refl refl refl talks
 
     heard_holds : Holds terms calls heard state.track state.ltxid None
     heard_holds = holds_same terms settings calls a heard state.track state.ltxid None refl refl refl refl refl refl refl refl fits.0

@@ -149,7 +149,7 @@ module _ (terms : Terms) (settings : List (List ℕ × Value)) (calls : List Cal
       λ gone. record { follows = follows_more (length after.shown) after.session l.2; sent = record { kept = []; one = call; is = refl } },
     );
     talks = λ not_idle. subst (λ (a : Account). IsTalk terms settings calls a (record talk { phase = Running (record state { track = with_submitted terms state.track call now }) })) (sym path)
-        (record { settings_are = l.0.settings_are; calls_are = l.0.calls_are; purged_are = l.0.purged_are; tries_are = l.0.tries_are; few_tries = l.0.few_tries });
+        (record { settings_are = l.0.settings_are; sets_are = l.0.sets_are; left_are = l.0.left_are; tries_are = l.0.tries_are; few_tries = l.0.few_tries });
     may = may-last heard before call l.3 l.5;
     begun = begun-last (settings_known terms settings calls heard) before false [] call l.4;
     begins = λ b. inr (subst (λ (a : Account). IsSome a.first) (sym path) (option_or-some after.first now));
@@ -172,7 +172,7 @@ module _ (terms : Terms) (settings : List (List ℕ × Value)) (calls : List Cal
       record {
         shows = refl;
         fits = (record { tracked = d.1.tracked; left = d.1.left; begun = d.1.begun; held = d.1.held; ended = d.1.ended }, λ gone. absurd (let none : ⊥ = cc (d.2) in none));
-        talks = λ not_idle. record { settings_are = d.0.settings_are; calls_are = d.0.calls_are; purged_are = d.0.purged_are; tries_are = d.0.tries_are; few_tries = d.0.few_tries };
+        talks = λ not_idle. record { settings_are = d.0.settings_are; sets_are = d.0.sets_are; left_are = d.0.left_are; tries_are = d.0.tries_are; few_tries = d.0.few_tries };
         may = tt;
         begun = tt;
         begins = λ b. inl b;

@@ -13,7 +13,7 @@ use Rattle.call_recorder.specs.declared.recorded.Recorded.{Recorded}
 use Rattle.client_model.specs.declared.track.Track.{Track}
 use Rattle.client_model.specs.declared.act.Shown.{Shown}
 use Rattle.client_model.specs.Terms.{Terms}
-use Rattle.client_model.specs.Talk.{is_set, recorded_as, with_recorded, with_reply, with_counted, with_shown, purged_at}
+use Rattle.client_model.specs.Talk.{is_set, recorded_as, with_recorded, with_reply, with_counted, with_shown}
 use Rattle.client_model.specs.Account.{Account, reply_reason, since_after, purged_after, shows_call}
 use Rattle.client_model.proofs.Fits.{Recalls, Tracked}
 
@@ -138,9 +138,3 @@ module _ (terms : Terms) (calls : List Call) where
 
     pub shown_tracked : Tracked terms calls (shows_call terms a shown call) (with_shown terms k call shown.answers shown.draws)
     shown_tracked = reply_by (terms.rules.reply shown.answers)
-
--- the calls shown before the last purge are counted alike
-pub purged-same : (before n m : ℕ) (r : After) → n ≡ m → purged_at before n r ≡ purged_after before m r
-purged-same before n m after.Record e = refl
-purged-same before n m after.Purge e = ap (λ k. k + 1) e
-purged-same before n m (after.Stop w) e = refl

@@ -41,14 +41,10 @@ has_connection _ = false
 
 module _ (terms : Terms) (settings : List (List ℕ × Value)) (calls : List Call) where
   -- the rest of a talk, in another phase
-  talk_in : (a b : Account) (talk : Talk) (phase : Phase) → b.purged ≡ a.purged → b.tries ≡ a.tries → IsTalk terms settings calls a talk → IsTalk terms settings calls b (stands talk phase)
-  talk_in a b talk phase e f t = record {
-    settings_are = t.settings_are;
-    calls_are = t.calls_are;
-    purged_are = t.purged_are ∙ sym e;
-    tries_are = t.tries_are ∙ sym f;
-    few_tries = t.few_tries;
-  }
+  talk_in : (a b : Account) (talk : Talk) (phase : Phase) → b.shown ≡ a.shown → b.purged ≡ a.purged → b.tries ≡ a.tries → IsTalk terms settings calls a talk → IsTalk terms settings calls b (stands talk phase)
+  talk_in a b talk phase e-shown e-purged e-tries t =
+      let s : IsTalk terms settings calls b talk = talk_same terms settings calls a b talk e-shown e-purged e-tries t in
+      record { settings_are = s.settings_are; sets_are = s.sets_are; left_are = s.left_are; tries_are = s.tries_are; few_tries = s.few_tries }
 
   pub start_stepped : (a : Account) (now : ℕ) (talk : Talk) → IsTalk terms settings calls a talk → Fits terms calls a false Unbegun
       → Stepped terms settings calls a Start now (talk_step terms talk Start now)
@@ -72,7 +68,7 @@ module _ (terms : Terms) (settings : List (List ℕ × Value)) (calls : List Cal
         ap (λ b. b.slot) fits,
         ap (λ b. b.waits) fits,
       );
-      talks = λ e. talk_in a a talk (Queued None) refl refl talks;
+      talks = λ e. talk_in a a talk (Queued None) refl refl refl talks;
       may = tt;
       begun = tt;
       begins = λ b. inl b;
@@ -113,7 +109,7 @@ module _ (terms : Terms) (settings : List (List ℕ × Value)) (calls : List Cal
     waiting_good false long = record {
       shows = refl;
       fits = (fresh_waited, fits.1, waits);
-      talks = λ e. talk_in a waited talk (Queued (Some (unwrap_or from now))) refl refl talks;
+      talks = λ e. talk_in a waited talk (Queued (Some (unwrap_or from now))) refl refl refl talks;
       may = tt;
       begun = tt;
       begins = λ b. inl b;
@@ -135,7 +131,7 @@ module _ (terms : Terms) (settings : List (List ℕ × Value)) (calls : List Cal
           heard = b;
           is_heard = refl;
           good = begins_first_good terms settings calls (Lent connection ltxid) now b talk (record { track = unsubmitted terms; ltxid = ltxid })
-              f.begun (fresh_few terms settings calls b f) (talk_same terms settings calls a b talk refl refl talks) (unsubmitted_tracked terms settings calls b f) refl (plain_calm terms calls b now (Lent connection ltxid) refl);
+              f.begun (fresh_few terms settings calls b f) (talk_same terms settings calls a b talk refl refl refl talks) (unsubmitted_tracked terms settings calls b f) refl (plain_calm terms calls b now (Lent connection ltxid) refl);
         }
 
   -- what holds where a slot is held or granted: nothing was begun, or something is lost
@@ -175,8 +171,8 @@ module _ (terms : Terms) (settings : List (List ℕ × Value)) (calls : List Cal
           fits = subst (λ o. Fits terms calls c false (Greeting o)) (sym is) (greeting_fits c lost false (lost_same a c lost refl refl refl refl refl refl refl refl refl l) refl);
           talks = λ e. record {
             settings_are = talks.settings_are;
-            calls_are = talks.calls_are;
-            purged_are = talks.purged_are;
+            sets_are = talks.sets_are;
+            left_are = talks.left_are;
             tries_are = refl;
             few_tries = λ some. let z : 0 < terms.limits.retries = omega arith in z;
           };
@@ -219,8 +215,8 @@ module _ (terms : Terms) (settings : List (List ℕ × Value)) (calls : List Cal
       fits = subst (λ o. Fits terms calls tried false (Seeking o)) (sym is) (seeking_fits tried lost false (lost_same a tried lost refl refl refl refl refl refl refl refl refl l));
       talks = λ e. record {
         settings_are = talks.settings_are;
-        calls_are = talks.calls_are;
-        purged_are = talks.purged_are;
+        sets_are = talks.sets_are;
+        left_are = talks.left_are;
         tries_are = ap (λ n. n + 1) talks.tries_are;
         few_tries = λ some. le_false terms.limits.retries (talk.tries + 1) many;
       };
@@ -277,7 +273,7 @@ module _ (terms : Terms) (settings : List (List ℕ × Value)) (calls : List Cal
     good = record {
       shows = refl;
       fits = gone_fits a event gone talk.phase connected fits;
-      talks = λ e. talk_in a (gone_on a event) talk (loses talk.phase event) refl refl talks;
+      talks = λ e. talk_in a (gone_on a event) talk (loses talk.phase event) refl refl refl talks;
       may = tt;
       begun = tt;
       begins = λ b. inl b;

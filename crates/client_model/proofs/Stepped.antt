@@ -126,7 +126,7 @@ module _ (terms : Terms) (settings : List (List ℕ × Value)) (calls : List Cal
     good = record {
       shows = refl;
       fits = (fresh_same a (greeted a ltxid) refl refl refl refl refl refl refl fits.0, λ e. absurd (let none : ⊥ = cc in none));
-      talks = λ e. record { settings_are = talks.settings_are; calls_are = talks.calls_are; purged_are = talks.purged_are; tries_are = talks.tries_are; few_tries = talks.few_tries };
+      talks = λ e. record { settings_are = talks.settings_are; sets_are = talks.sets_are; left_are = talks.left_are; tries_are = talks.tries_are; few_tries = talks.few_tries };
       may = tt;
       begun = tt;
       begins = λ b. inl b;
@@ -143,7 +143,7 @@ module _ (terms : Terms) (settings : List (List ℕ × Value)) (calls : List Cal
     good = record {
       shows = refl;
       fits = (holds_same a (greeted a ltxid) lost.track lost.ltxid (Some lost.event) refl refl refl refl refl refl refl refl fits.0, λ e. absurd (let none : ⊥ = cc in none));
-      talks = λ e. record { settings_are = talks.settings_are; calls_are = talks.calls_are; purged_are = talks.purged_are; tries_are = talks.tries_are; few_tries = talks.few_tries };
+      talks = λ e. record { settings_are = talks.settings_are; sets_are = talks.sets_are; left_are = talks.left_are; tries_are = talks.tries_are; few_tries = talks.few_tries };
       may = tt;
       begun = tt;
       begins = λ b. inl b;
@@ -160,7 +160,7 @@ module _ (terms : Terms) (settings : List (List ℕ × Value)) (calls : List Cal
         heard = greeted a ltxid;
         is_heard = refl;
         good = begins_first_good terms settings calls (Took (down.Hello ltxid) true) now (greeted a ltxid) talk (record { track = unsubmitted terms; ltxid = ltxid })
-            f.begun (fresh_few (greeted a ltxid) f) (talk_same terms settings calls a (greeted a ltxid) talk refl refl talks) (unsubmitted_tracked (greeted a ltxid) f) refl
+            f.begun (fresh_few (greeted a ltxid) f) (talk_same terms settings calls a (greeted a ltxid) talk refl refl refl talks) (unsubmitted_tracked (greeted a ltxid) f) refl
             (other_calm terms calls (greeted a ltxid) now (down.Hello ltxid) true refl (ap (λ l. is_expected l (down.Hello ltxid)) (fits.1 refl)));
       }
   hello_stepped a (Some lost) ltxid true now talk talks fits =
@@ -176,7 +176,7 @@ module _ (terms : Terms) (settings : List (List ℕ × Value)) (calls : List Cal
             holds_same a b lost.track lost.ltxid (Some lost.event) refl refl refl refl refl refl refl refl fits.0,
             record { fresh = refl; not_first = refl; none_repeated = refl; none_sent = refl; last = refl },
           );
-          talks = λ e. record { settings_are = talks.settings_are; calls_are = talks.calls_are; purged_are = talks.purged_are; tries_are = talks.tries_are; few_tries = talks.few_tries };
+          talks = λ e. record { settings_are = talks.settings_are; sets_are = talks.sets_are; left_are = talks.left_are; tries_are = talks.tries_are; few_tries = talks.few_tries };
           may = tt;
           begun = tt;
           begins = λ b. inl b;

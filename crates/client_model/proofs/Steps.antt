@@ -102,7 +102,7 @@ module _ (terms : Terms) (settings : List (List ℕ × Value)) (calls : List Cal
         → Stepped terms settings calls a (Took frame alive) now (takes terms talk (Running state) frame alive now)
     running_stepped state (down.Hello ltxid) alive is fits =
         bad_stepped terms settings calls a (down.Hello ltxid) alive now talk (hears terms a (Took (down.Hello ltxid) alive) now None) refl (tracked_few terms settings calls a state.track fits.0.tracked) (ap (λ l. is_expected l (down.Hello ltxid)) (fits.1 refl).sent.is)
-    running_stepped state (down.Reply answers draws ltxid) alive is fits = reply_stepped terms settings calls a state answers draws ltxid alive now talk talks fits (next_call talk state) refl
+    running_stepped state (down.Reply answers draws ltxid) alive is fits = reply_stepped terms settings calls a state answers draws ltxid alive now talk talks fits (next_call talk) refl
     running_stepped state (down.OutcomeIs committed completed) alive is fits =
         bad_stepped terms settings calls a (down.OutcomeIs committed completed) alive now talk a (ap (hears_outcome a committed completed) (fits.1 refl).sent.is) (tracked_few terms settings calls a state.track fits.0.tracked) (ap (λ l. is_expected l (down.OutcomeIs committed completed)) (fits.1 refl).sent.is)
     running_stepped state (down.OutcomeRefused ahead next) alive is fits =
@@ -241,8 +241,12 @@ module _ (terms : Terms) (settings : List (List ℕ × Value)) (calls : List Cal
       let s : Stepped terms settings calls a one.0 one.1 step = step_stepped a gone one.1 talk talks one.0 fits may.0 in
       last_fits inputs (after_step terms calls a (done_at terms talk one)) (is_gone_next one.0 step.1.hold) step.0 (next_talks a one.0 one.1 step s) (next_fits a one.0 one.1 step s) may.1
 
+  keeps_none : (keeps : Bool) (all : List (List ℕ × Value)) → all ≡ (if keeps then all else all)
+  keeps_none true all = refl
+  keeps_none false all = refl
+
   pub first_talks : IsTalk terms settings calls unheard (requested settings calls)
-  first_talks = record { settings_are = refl; calls_are = refl; purged_are = refl; tries_are = refl; few_tries = λ some. let z : 0 < terms.limits.retries = omega arith in z }
+  first_talks = record { settings_are = keeps_none terms.rules.keeps settings; sets_are = keeps_none terms.rules.keeps settings; left_are = refl; tries_are = refl; few_tries = λ some. let z : 0 < terms.limits.retries = omega arith in z }
 
   fits_few : (a : Account) (gone : Bool) (phase : Phase) → Fits terms calls a gone phase → Few terms a
   fits_few a gone Idle f = f

@@ -79,7 +79,7 @@ module _ (terms : Terms) (talk : Talk) (now : ℕ) (held : Option Ltxid) (shown 
   or_ends_links state alive before (Some call) is = call_links state alive before call is
 
   goes_links : (state : Living) (alive : Bool) (before : List Up) → held ≡ Some state.ltxid → Links held shown (goes_on terms talk state alive before shown now)
-  goes_links state alive before is = or_ends_links state alive before (next_call talk state) is
+  goes_links state alive before is = or_ends_links state alive before (next_call talk) is
 
 -- frames before a marked call
 none_marked : (before : List Up) (kept : List Draw) (call : Call) → NoneSent before → NoneSent (before ++ up.Call true kept call ∷ [])
@@ -113,9 +113,9 @@ module _ (terms : Terms) (talk : Talk) (now : ℕ) (held : Option Ltxid) where
 
   lost_links : (state : Living) (event : ℕ) (alive : Bool) (shown : Shown) (call : Call) (lost : Bool) → held ≡ Some state.ltxid
       → Links held (Some shown) (if lost then fails talk alive (Some shown) (Disabled (why.StateLost state.track.call) event)
-      else sends_call terms talk state alive (begin_of terms talk ∷ []) (Some shown) now call)
+      else sends_call terms talk state alive (begin_of talk ∷ []) (Some shown) now call)
   lost_links state event alive shown call true is = fails_links terms talk now held (Some shown) alive (Disabled (why.StateLost state.track.call) event)
-  lost_links state event alive shown call false is = call_links terms talk now held (Some shown) state alive (begin_of terms talk ∷ []) call is
+  lost_links state event alive shown call false is = call_links terms talk now held (Some shown) state alive (begin_of talk ∷ []) call is
 
   after_links : (state : Living) (event : ℕ) (alive : Bool) (shown : Shown) (found : Option Call) → held ≡ Some state.ltxid
       → Links held (Some shown) (after_completed terms talk state event alive shown now found)
@@ -131,15 +131,15 @@ module _ (terms : Terms) (talk : Talk) (now : ℕ) (held : Option Ltxid) where
       → (shown : Option Shown) × Links held shown (on_completed terms talk state event alive now found)
   completed_links state event alive None is = (None, fails_links terms talk now held None alive (BadPeer (tag_of (down.OutcomeIs true true))))
   completed_links state event alive (Some call) is =
-      let after : Talk = talk_shown terms talk state.track (answer.Committed ∷ []) in
+      let after : Talk = talk_shown terms talk call (answer.Committed ∷ []) in
       let next : Living = record state { track = with_shown terms state.track call (answer.Committed ∷ []) [] } in
       let shown : Shown = record { answers = answer.Committed ∷ []; draws = []; ltxid = state.ltxid } in
-      (Some shown, after_links terms after now held next event alive shown (next_call after next) is)
+      (Some shown, after_links terms after now held next event alive shown (next_call after) is)
 
   late_links : (asking : Asking) (alive : Bool) (late : Bool) → held ≡ Some asking.fresh
       → Links held None (on_told terms talk asking alive now (if late then told.Late (over asking) else told.Replay (repeated asking)))
   late_links asking alive true is = fails_links terms talk now held None alive (ReplayTimeout (unwrap_or asking.track.first 0) now)
-  late_links asking alive false is = repeats_links terms talk now held (repeated asking) alive (begin_of terms talk ∷ []) tt is
+  late_links asking alive false is = repeats_links terms talk now held (repeated asking) alive (begin_of talk ∷ []) tt is
 
   many_links : (asking : Asking) (alive : Bool) (many : Bool) → held ≡ Some asking.fresh
       → Links held None (on_told terms talk asking alive now (if many then told.Replays (over asking)
@@ -153,13 +153,13 @@ module _ (terms : Terms) (talk : Talk) (now : ℕ) (held : Option Ltxid) where
 
   told_links : (asking : Asking) (alive committed completed : Bool) → held ≡ Some asking.fresh
       → (shown : Option Shown) × Links held shown (on_told terms talk asking alive now (told_of asking committed completed terms.limits now))
-  told_links asking alive true true is = completed_links (resumed (completed_on asking)) asking.event alive (next_call talk (resumed (completed_on asking))) is
+  told_links asking alive true true is = completed_links (resumed (completed_on asking)) asking.event alive (next_call talk) is
   told_links asking alive true false is = (None, fails_links terms talk now held None alive (Incomplete asking.ltxid))
   told_links asking alive false completed is = (None, reason_links asking alive asking.track.why is)
 
   hello_links : (lost : Option Losing) (ltxid : Ltxid) (alive : Bool) → Links (Some ltxid) None (on_hello terms talk lost ltxid alive now)
   hello_links lost ltxid false = record { linked = tt; sent = inl tt; shows = refl }
-  hello_links None ltxid true = goes_links terms talk now (Some ltxid) None (record { track = unsubmitted terms; ltxid = ltxid }) true (begin_of terms talk ∷ []) refl
+  hello_links None ltxid true = goes_links terms talk now (Some ltxid) None (record { track = unsubmitted terms; ltxid = ltxid }) true (begin_of talk ∷ []) refl
   hello_links (Some lost) ltxid true = record { linked = refl; sent = inl tt; shows = refl }
 
   reply_links : (state : Living) (answers : List Answer) (draws : List Draw) (ltxid : Ltxid) (alive : Bool) (found : Option Call)
@@ -168,7 +168,7 @@ module _ (terms : Terms) (talk : Talk) (now : ℕ) (held : Option Ltxid) where
   reply_links state answers draws ltxid alive (Some call) =
       let shown : Shown = record { answers = answers; draws = draws; ltxid = ltxid } in
       let next : Living = record { track = with_shown terms state.track call answers draws; ltxid = ltxid } in
-      (Some shown, goes_links terms (talk_shown terms talk state.track answers) now (Some ltxid) (Some shown) next alive [] refl)
+      (Some shown, goes_links terms (talk_shown terms talk call answers) now (Some ltxid) (Some shown) next alive [] refl)
 
   bad_links : (frame : Down) (alive : Bool) (other : Option Ltxid) → Links other None (bad_peer talk alive frame)
   bad_links frame alive other = fails_links terms talk now other None alive (BadPeer (tag_of frame))
@@ -182,7 +182,7 @@ module _ (terms : Terms) (talk : Talk) (now : ℕ) (held : Option Ltxid) where
   took_links (Greeting lost) is linked (down.Hello ltxid) alive = (None, hello_links lost ltxid alive)
   took_links (Asked asking) is linked (down.OutcomeIs committed completed) alive = told_links asking alive committed completed linked
   took_links (Asked asking) is linked (down.OutcomeRefused ahead.Forgotten next) alive = (None, fails_links terms talk now held None alive (Unknown asking.ltxid))
-  took_links (Running state) is linked (down.Reply answers draws ltxid) alive = reply_links state answers draws ltxid alive (next_call talk state)
+  took_links (Running state) is linked (down.Reply answers draws ltxid) alive = reply_links state answers draws ltxid alive (next_call talk)
   took_links (Replaying state) is linked (down.Reply answers draws ltxid) alive = (None, repeated_links terms talk now held state answers draws ltxid alive (next_of state) linked)
   took_links phase is linked frame alive = (None, bad_links frame alive _)
 

@@ -1,5 +1,5 @@
 -- What a client does at an input, and where its conversation stands then.
-use Rattle.std.specs.Prelude.{ℕ, ◌+◌, ◌-◌, Bool, true, false, not, ◌&&◌, ◌||◌, nat_le, List, [], ◌∷◌, ◌++◌, length, take, get_or, slice_get, Option, Some, None, unwrap_or, Result, Ok, Err, if◌then◌else◌}
+use Rattle.std.specs.Prelude.{ℕ, ◌+◌, ◌-◌, Bool, true, false, not, ◌&&◌, ◌||◌, nat_le, List, [], ◌∷◌, ◌++◌, length, drop, fold, get_or, slice_get, Option, Some, None, unwrap_or, Result, Ok, Err, if◌then◌else◌}
 use Rattle.std.specs.Option.{option_or}
 use Rattle.svc_values.specs.declared.value.Value.{Value}
 use Rattle.svc_values.specs.declared.answer.Answer.{Answer}
@@ -13,7 +13,7 @@ use Rattle.svc_values.specs.declared.frame.Up.TheVariants as up
 use Rattle.svc_values.specs.declared.frame.Ahead.TheVariants as ahead
 use Rattle.svc_values.specs.declared.frame.Down.{Down}
 use Rattle.svc_values.specs.declared.frame.Down.TheVariants as down
-use Rattle.svc_values.specs.SettingsList.{with_sets}
+use Rattle.svc_values.specs.SettingsList.{put_setting}
 use Rattle.canon_bytes.specs.DownBytes.{spell_down}
 use Rattle.request_bounds.specs.declared.rule.Why.{Why}
 use Rattle.request_bounds.specs.declared.rule.Why.TheVariants as why
@@ -69,13 +69,30 @@ ends talk alive shown = (stands talk Idle, record { send = if_alive alive (up.En
 
 -- SETTINGS ----------------------------------------------------------------------------------------
 
--- what a Begin carries: the request's own settings, or under a rule that keeps settings those that
--- were known at the last purge
-abbrev pub settings_of : Terms → Talk → List (List ℕ × Value)
-settings_of terms talk = if terms.rules.keeps then with_sets talk.settings (take talk.purged talk.calls) else talk.settings
+abbrev pub begin_of : Talk → Up
+begin_of talk = up.Begin talk.settings
 
-abbrev pub begin_of : Terms → Talk → Up
-begin_of terms talk = up.Begin (settings_of terms talk)
+-- the setting that a call changes, if it is a `set`
+abbrev pub set_by : Call → List (List ℕ × Value)
+set_by (call.Set name value) = (name, value) ∷ []
+set_by _ = []
+
+-- under a rule that keeps settings what a shown call sets waits for the next purge
+abbrev pub sets_by : Bool → List (List ℕ × Value) → Call → List (List ℕ × Value)
+sets_by keeps sets call = if keeps then sets ++ set_by call else sets
+
+-- the settings with these put on them, one after the other
+abbrev pub settled : List (List ℕ × Value) → List (List ℕ × Value) → List (List ℕ × Value)
+settled settings sets = fold (λ so_far one. put_setting so_far one.0 one.1) settings sets
+
+-- a purge settles what was set, by the purging call too, and then nothing waits
+abbrev pub settled_by : After → List (List ℕ × Value) → List (List ℕ × Value) → List (List ℕ × Value)
+settled_by after.Purge settings sets = settled settings sets
+settled_by _ settings sets = settings
+
+abbrev pub waits_after : After → List (List ℕ × Value) → List (List ℕ × Value)
+waits_after after.Purge sets = []
+waits_after _ sets = sets
 
 -- SUBMITTING --------------------------------------------------------------------------------------
 
@@ -95,11 +112,11 @@ abbrev pub sends_or_ends : Terms → Talk → Living → Bool → List Up → Op
 sends_or_ends terms talk state alive before shown now None = ends talk alive shown
 sends_or_ends terms talk state alive before shown now (Some call) = sends_call terms talk state alive before shown now call
 
-abbrev pub next_call : Talk → Living → Option Call
-next_call talk state = slice_get talk.calls state.track.call
+abbrev pub next_call : Talk → Option Call
+next_call talk = slice_get talk.left 0
 
 abbrev pub goes_on : Terms → Talk → Living → Bool → List Up → Option Shown → ℕ → Step
-goes_on terms talk state alive before shown now = sends_or_ends terms talk state alive before shown now (next_call talk state)
+goes_on terms talk state alive before shown now = sends_or_ends terms talk state alive before shown now (next_call talk)
 
 -- SHOWING -----------------------------------------------------------------------------------------
 
@@ -131,13 +148,12 @@ recorded_as terms call answers draws = record { call = call; seen = record { dig
 abbrev pub with_shown : Terms → Track → Call → List Answer → List Draw → Track
 with_shown terms track call answers draws = with_counted (with_reply terms track (recorded_as terms call answers draws) (terms.rules.reply answers)) call
 
--- how many calls are shown up to the last purge, where this one may be it
-abbrev pub purged_at : ℕ → ℕ → After → ℕ
-purged_at before call after.Purge = call + 1
-purged_at before call _ = before
-
-abbrev pub talk_shown : Terms → Talk → Track → List Answer → Talk
-talk_shown terms talk track answers = record talk { purged = purged_at talk.purged track.call (terms.rules.reply answers) }
+-- the first of the calls that are left is left no more
+abbrev pub talk_shown : Terms → Talk → Call → List Answer → Talk
+talk_shown terms talk call answers =
+    let after : After = terms.rules.reply answers in
+    let sets : List (List ℕ × Value) = sets_by terms.rules.keeps talk.sets call in
+    record talk { settings = settled_by after talk.settings sets; sets = waits_after after sets; left = drop 1 talk.left }
 
 -- FRAMES THAT ARE TAKEN ---------------------------------------------------------------------------
 
@@ -153,14 +169,14 @@ bad_peer talk alive frame = fails talk alive None (BadPeer (tag_of frame))
 -- outcome.
 abbrev pub on_hello : Terms → Talk → Option Losing → Ltxid → Bool → ℕ → Step
 on_hello terms talk lost ltxid false now = (stands talk (Greeting lost), quiet)
-on_hello terms talk None ltxid true now = goes_on terms talk (record { track = unsubmitted terms; ltxid = ltxid }) true (begin_of terms talk ∷ []) None now
+on_hello terms talk None ltxid true now = goes_on terms talk (record { track = unsubmitted terms; ltxid = ltxid }) true (begin_of talk ∷ []) None now
 on_hello terms talk (Some lost) ltxid true now = (stands talk (Asked (asked_on lost ltxid)), sending (up.Outcome lost.ltxid ∷ []))
 
 -- the reply is shown, and what comes next goes out
 abbrev pub on_reply : Terms → Talk → Living → List Answer → List Draw → Ltxid → Bool → ℕ → Option Call → Step
 on_reply terms talk state answers draws ltxid alive now None = bad_peer talk alive (down.Reply answers draws ltxid)
 on_reply terms talk state answers draws ltxid alive now (Some call) =
-    goes_on terms (talk_shown terms talk state.track answers) (record { track = with_shown terms state.track call answers draws; ltxid = ltxid })
+    goes_on terms (talk_shown terms talk call answers) (record { track = with_shown terms state.track call answers draws; ltxid = ltxid })
     alive [] (Some (record { answers = answers; draws = draws; ltxid = ltxid })) now
 
 -- a recorded call that is left goes out marked, with its draws; behind the last one the lost call
@@ -187,25 +203,25 @@ abbrev pub after_completed : Terms → Talk → Living → ℕ → Bool → Show
 after_completed terms talk state event alive shown now None = ends talk alive (Some shown)
 after_completed terms talk state event alive shown now (Some call) =
     if state.track.set_shown && not terms.rules.keeps then fails talk alive (Some shown) (Disabled (why.StateLost state.track.call) event)
-    else sends_call terms talk state alive (begin_of terms talk ∷ []) (Some shown) now call
+    else sends_call terms talk state alive (begin_of talk ∷ []) (Some shown) now call
 
 -- The lost call is committed and completed. It is shown with that one answer, as if it were a
 -- reply.
 abbrev pub on_completed : Terms → Talk → Living → ℕ → Bool → ℕ → Option Call → Step
 on_completed terms talk state event alive now None = bad_peer talk alive (down.OutcomeIs true true)
 on_completed terms talk state event alive now (Some call) =
-    let after : Talk = talk_shown terms talk state.track (answer.Committed ∷ []) in
+    let after : Talk = talk_shown terms talk call (answer.Committed ∷ []) in
     let next : Living = record state { track = with_shown terms state.track call (answer.Committed ∷ []) [] } in
-    after_completed terms after next event alive (record { answers = answer.Committed ∷ []; draws = []; ltxid = state.ltxid }) now (next_call after next)
+    after_completed terms after next event alive (record { answers = answer.Committed ∷ []; draws = []; ltxid = state.ltxid }) now (next_call after)
 
 -- the step for each thing that an outcome leads to
 abbrev pub on_told : Terms → Talk → Asking → Bool → ℕ → Told → Step
-on_told terms talk asking alive now (told.Committed state) = on_completed terms talk (resumed state) state.event alive now (next_call talk (resumed state))
+on_told terms talk asking alive now (told.Committed state) = on_completed terms talk (resumed state) state.event alive now (next_call talk)
 on_told terms talk asking alive now (told.Incomplete over) = fails talk alive None (Incomplete asking.ltxid)
 on_told terms talk asking alive now (told.Disabled over reason) = fails talk alive None (Disabled reason over.event)
 on_told terms talk asking alive now (told.Replays over) = fails talk alive None (Replays terms.limits.replays over.event)
 on_told terms talk asking alive now (told.Late over) = fails talk alive None (ReplayTimeout (unwrap_or over.track.first 0) now)
-on_told terms talk asking alive now (told.Replay state) = repeats terms talk state alive (begin_of terms talk ∷ []) now
+on_told terms talk asking alive now (told.Replay state) = repeats terms talk state alive (begin_of talk ∷ []) now
 
 -- A frame, in each phase. Blocked and Refused do nothing by themselves: they end the connection,
 -- and the next input says so. Every frame that is not named here fails the request.
@@ -215,7 +231,7 @@ takes terms talk phase (down.Refused cause) alive now = (talk, quiet)
 takes terms talk (Greeting lost) (down.Hello ltxid) alive now = on_hello terms talk lost ltxid alive now
 takes terms talk (Asked asking) (down.OutcomeIs committed completed) alive now = on_told terms talk asking alive now (told_of asking committed completed terms.limits now)
 takes terms talk (Asked asking) (down.OutcomeRefused ahead.Forgotten horizon) alive now = fails talk alive None (Unknown asking.ltxid)
-takes terms talk (Running state) (down.Reply answers draws ltxid) alive now = on_reply terms talk state answers draws ltxid alive now (next_call talk state)
+takes terms talk (Running state) (down.Reply answers draws ltxid) alive now = on_reply terms talk state answers draws ltxid alive now (next_call talk)
 takes terms talk (Replaying state) (down.Reply answers draws ltxid) alive now = on_repeated terms talk state answers draws ltxid alive now (next_of state)
 takes terms talk phase frame alive now = bad_peer talk alive frame
 

@@ -36,20 +36,20 @@ pub data Phase : Type 0 where
   -- it sent a recorded call again, and awaits the reply
   Replaying : Repeating → Phase
 
--- A conversation: settings and calls of the request; how many calls were shown up to the last
--- purge; how many tries in a row failed, and at which tick the last failed one was made; and the
--- phase.
+-- A conversation: the settings that a Begin carries, and those that are `set` since they were
+-- settled, under a rule that keeps settings; the calls that are not shown yet; how many tries in a
+-- row failed, and at which tick the last failed one was made; and the phase.
 pub record Talk : Type 0 where
   pub settings : List (List ℕ × Value)
-  pub calls : List Call
-  pub purged : ℕ
+  pub sets : List (List ℕ × Value)
+  pub left : List Call
   pub tries : ℕ
   pub last_try : Option ℕ
   pub phase : Phase
 
 -- with a request that has not begun
 abbrev pub requested : List (List ℕ × Value) → List Call → Talk
-requested settings calls = record { settings = settings; calls = calls; purged = 0; tries = 0; last_try = None; phase = Unbegun }
+requested settings calls = record { settings = settings; sets = []; left = calls; tries = 0; last_try = None; phase = Unbegun }
 
 -- the track at the first Begin
 abbrev pub unsubmitted : Terms → Track

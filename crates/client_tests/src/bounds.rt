@@ -1,6 +1,7 @@
 ghost use Rattle.std.specs.Prelude.{◌≡◌};
 ghost use Rattle.svc_values.specs.Calls.{IsMade};
 
+use auto_bounds::AutoRule;
 use request_bounds::{After, BoundRule, Clocked, DynamicRule, OffRule, StaticRule, Why};
 use std::alloc::Global;
 use std::process::Abort;
@@ -36,6 +37,16 @@ fn each_rule_tells_what_ends_a_replay(rt: HostRuntime) {
 }
 
 #[test]
+fn kept_settings_end_nothing(rt: HostRuntime) {
+    assert!(rt; AutoRule.keeps_settings());
+    assert!(rt; AutoRule.on_reply(&[Answer::Committed]) == After::Purge);
+    assert!(rt; AutoRule.on_reply(&[Answer::Done(1), Answer::Conflict]) == After::Purge);
+    assert!(rt; AutoRule.on_reply(&[Answer::RolledBack]) == After::Record);
+    assert!(rt; AutoRule.on_submit(&set(&rt, rt.alloc()), 3) == None);
+    assert!(rt; AutoRule.on_submit(&Call::Disable, 3) == Some(Why::Asked(3)));
+}
+
+#[test]
 fn limits_end_at_their_last_tick(rt: HostRuntime) {
     assert!(rt; LIMITS.may_try(0, None));
     assert!(rt; !LIMITS.may_try(9, Some(0)) && LIMITS.may_try(10, Some(0)));
@@ -55,5 +66,6 @@ fn stops<R: BoundRule>(rule: &R, call: &Call, answers: &[Answer]) -> bool
 fn rules_serve_through_their_bound(rt: HostRuntime) {
     assert!(rt; stops(&OffRule, &Call::Rollback, &[Answer::RolledBack]));
     assert!(rt; !stops(&StaticRule, &Call::Rollback, &[Answer::Committed]));
+    assert!(rt; !stops(&AutoRule, &Call::Rollback, &[Answer::Committed]));
     assert!(rt; stops(&DynamicRule, &Call::Rollback, &[Answer::Committed]));
 }

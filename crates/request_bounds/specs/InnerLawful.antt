@@ -1,9 +1,9 @@
 -- Each row of the table keeps the law.
-use Rattle.std.proofs.Common.{◌≡◌, Bool, true, false, if◌then◌else◌, refl, ap, inl, inr}
+use Rattle.std.proofs.Common.{◌≡◌, Bool, true, false, if◌then◌else◌, refl, inl, inr}
 use Rattle.request_bounds.specs.declared.rule.Why.TheVariants as why
 use Rattle.request_bounds.specs.declared.rule.After.TheVariants as after
 use Rattle.request_bounds.specs.Replies.{ends_decided}
-use Rattle.request_bounds.specs.Rules.{off_rules, static_rules, dynamic_rules, auto_rules}
+use Rattle.request_bounds.specs.Rules.{off_rules, static_rules, dynamic_rules}
 use Rattle.request_bounds.specs.Law.{IsLawful}
 
 pub off_lawful : IsLawful off_rules
@@ -42,11 +42,4 @@ dynamic_lawful = record {
   purges = λ answers purge. absurd (dynamic_purge (ends_decided answers) purge);
   stops = inr (λ line index. refl, λ answers ends. dynamic_record (ends_decided answers) ends);
   keeps = λ never answers ends. absurd (let none : ⊥ = cc in none);
-}
-
-pub auto_lawful : IsLawful auto_rules
-auto_lawful = record {
-  purges = λ answers purge. (purges_ended (ends_decided answers) purge, inr refl);
-  stops = inr (λ line index. refl, λ answers ends. purged_not_recorded (ends_decided answers) ends);
-  keeps = λ always answers ends. ap (λ t. if t then after.Purge else after.Record) ends;
 }

@@ -10,4 +10,4 @@ mod rules;
 pub use bound::BoundRule;
 pub use clocked::Clocked;
 pub use rule::{After, Why};
-pub use rules::{DynamicRule, OffRule, StaticRule, auto_is_lawful};
+pub use rules::{DynamicRule, OffRule, StaticRule};

@@ -1,7 +1,6 @@
 //! The rules of a service without replay, with static and with dynamic session state.
 ghost use Rattle.std.specs.Prelude.{◌≡◌};
-ghost use Rattle.request_bounds.specs.Law.{IsLawful};
-ghost use Rattle.request_bounds.specs.Rules.{stopped_at as stopped_at_def, off_rules, static_rules, dynamic_rules, auto_rules};
+ghost use Rattle.request_bounds.specs.Rules.{stopped_at as stopped_at_def, off_rules, static_rules, dynamic_rules};
 ghost use Rattle.request_bounds.specs.Replies.{ends_decided as ends_decided_def};
 ghost use Rattle.request_bounds.specs.InnerLawful.{off_lawful, static_lawful, dynamic_lawful};
 
@@ -117,9 +116,3 @@ impl BoundRule for DynamicRule {
         false
     }
 }
-
-/// A law, with nothing to run: the row of a service that keeps settings through a replay, where
-/// each transaction begins the recording anew, is lawful too.
-pub fn auto_is_lawful()
-    ensures { IsLawful auto_rules }
-{}
