@@ -1,0 +1,1 @@
+"""A picture of one run of `continuity`, as one HTML page."""

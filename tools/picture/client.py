@@ -1,0 +1,324 @@
+"""One client's steps, by the notes of its `go` events and the replies that they take.
+
+Which frame a step sends follows from what it took; that it sent any, and how many, the note tells. Answers are those
+of the report, and so are errors: what a driver decides is not decided here again.
+"""
+
+from collections import deque
+from dataclasses import dataclass, field
+
+from . import words
+from .files import need
+
+COMMIT_ENDS = ("committed", "conflict")
+BY_OUTCOME = ("disabled", "incomplete", "replays", "replaytimeout")
+STEPS = {"none": ("dot", "", "finds nothing to take yet"),
+         "early": ("dot", "too early", "may not try to connect again yet (delay)"),
+         "wait": ("ring", "waits", "waits for a place in the pool")}
+
+
+@dataclass
+class Request:
+    """One submission of a request, as far as it has come."""
+    client: int
+    place: int          # in the client's script
+    again: int          # how often it was submitted before
+    script: dict
+    report: dict
+    first: int          # the event of its first step
+    phase: object
+    held: int = 0       # the event from which on it holds a slot of the pool, or tells that it got none
+    last: int = 0       # the event that ended it
+    connection: object = None
+    shown: int = 0      # calls
+    outcomes: int = 0   # taken
+    begun: bool = False         # whether a Begin was sent
+    asked: tuple = ()           # the identifier whose outcome is to be asked
+    replaying: deque = field(default_factory=deque)     # the calls that are still to be replayed
+    replayed: int = 0
+    tries: int = 0              # to connect, that failed in a row
+    calls: dict = field(default_factory=dict)           # a span for each submitted call
+    failed: bool = False
+    losses: int = 0
+    said: list = field(default_factory=list)            # (event, words), for the headline
+
+    def tell(self, event, text):
+        self.said.append((event, text))
+
+    def fails(self, *kinds):
+        return bool(self.report["failed"]) and self.report["failed"][0] in kinds
+
+    def call(self, place):
+        return self.script["calls"][place]
+
+    def is_shown(self):
+        return self.shown == len(self.script["calls"])
+
+    def kept_from(self):
+        """The first call that a replay runs: the one after the last commit or conflict that was shown."""
+        shown = self.report["calls"][:self.shown]
+        return max((place for place, call in enumerate(shown, 1) if call[0][-1] in COMMIT_ENDS), default=0)
+
+
+class Client:
+    def __init__(self, run, number, requests, submissions, reports, keeps_settings):
+        self.run, self.number, self.lane = run, number, ("client", number)
+        self.requests, self.coming = requests, deque(zip(submissions, reports))
+        self.keeps_settings, self.request = keeps_settings, None
+
+    def go(self, word, *rest):
+        if word == "idle":
+            need(not self.request and not self.coming, f"client {self.number} is idle before its requests have ended")
+            self.run.mark(self.lane, "dot", "idle", "faint")
+            return f"client {self.number} has nothing left to do"
+        prefix = "" if self.request else self.begin()
+        if word in STEPS and not (word == "wait" and self.waits_no_longer()):
+            shape, label, text = STEPS[word]
+            self.run.mark(self.lane, shape, label, "faint")
+        else:
+            self.request.held = self.request.held or self.run.number
+            text = getattr(self, "go_" + word)(*rest)
+        return f"client {self.number}{prefix} {text}"
+
+    def begin(self):
+        need(self.coming, f"client {self.number} goes on at event {self.run.number}, its requests have ended")
+        (place, again), report = self.coming.popleft()
+        phase = self.run.span("waiting", self.lane)
+        self.request = Request(self.number, place, again, self.requests[place], report, self.run.number, phase)
+        self.run.requests.append(self.request)
+        return f", request {place + 1}{' again' if again else ''}:"
+
+    def phase(self, kind):
+        phase = self.request.phase
+        if phase.first == self.run.number:
+            phase.kind = kind
+        elif phase.kind != kind:
+            phase.last = self.run.number
+            self.request.phase = self.run.span(kind, self.lane)
+
+    # Steps without a connection.
+
+    def waits_no_longer(self):
+        return self.request.fails("poolwait") and self.request.report["failed"][2] <= self.run.tick
+
+    def go_wait(self):
+        return self.fail("waits no longer")
+
+    def go_down(self):
+        request, text = self.request, "cannot connect, the server is down"
+        request.tries += 1
+        if request.tries == 1:
+            request.tell(self.run.number, f"found the server down at event {self.run.number}")
+        if request.fails("retries") and request.report["failed"][1] == request.tries:
+            return self.fail(text)
+        self.run.mark(self.lane, "cross", "server down", "bad", "down")
+        return text
+
+    def go_open(self, number, _):
+        connection = self.run.open(self.number)
+        need(number == connection.number, f"event {self.run.number} opens connection {number} out of turn")
+        self.request.connection, self.request.tries = connection, 0
+        self.run.mark(self.lane, "ring", f"opens conn {number}", "", f"conn {number}")
+        self.run.send_up(connection, self.number, "connect")
+        return f"opens connection {number}"
+
+    def go_lent(self, number, _):
+        connection = self.run.connections[number - 1]
+        need(connection.open and not connection.held, f"event {self.run.number} lends connection {number}, which is "
+             "not idle")
+        self.request.connection, connection.held, connection.client = connection, True, self.number
+        self.run.mark(self.lane, "ring", f"lent conn {number}", "", f"conn {number}")
+        return f"is lent connection {number} by the pool; {self.send(['begin', 'call'])}"
+
+    # Steps with one.
+
+    def go_lost(self, number):
+        connection = self.request.connection
+        need(connection.number == number and not connection.open and not connection.down,
+             f"event {self.run.number} loses connection {number}, which was not lost")
+        self.run.mark(self.lane, "cross", f"conn {number} lost", "bad", "lost")
+        return f"finds connection {number} lost{self.lose()}"
+
+    def lose(self):
+        request, connection = self.request, self.request.connection
+        event, how = connection.end
+        if request.begun and not request.asked:
+            request.asked = connection.told
+        request.connection, request.losses = None, request.losses + 1
+        request.tell(event - 0.5, f"lost connection {connection.number} at event {event} ({how})")
+        self.phase("recovering")
+        return f" ({how} at event {event})"
+
+    def go_took(self, number, sent):
+        request, connection = self.request, self.request.connection
+        need(connection.number == number and connection.down,
+             f"event {self.run.number} takes a frame of connection {number}, where none is")
+        frame = self.run.take(connection.down)
+        text = getattr(self, "took_" + frame.name)(request, frame.content)
+        if request.failed:
+            return self.fail(text)
+        frames = self.frames_after(frame.name, sent) if connection.open else []
+        need(len(frames) == sent, f"event {self.run.number} notes {sent} frames sent after {frame.words}")
+        sends = self.send(frames)
+        text += f"; {sends}" if sends else ""
+        if request.is_shown():
+            return text + self.finish()
+        if not connection.open:
+            text += f"; then finds connection {number} lost{self.lose()}"
+        return text
+
+    def frames_after(self, name, sent):
+        if self.request.is_shown():
+            return ["end", "close"][:sent]
+        if name == "hello" and self.request.asked:
+            return ["outcome"]
+        return ["call"] if name == "reply" else ["begin", "call"]
+
+    def took_hello(self, request, item):
+        connection, session = request.connection, words.session(item[2])
+        connection.told = (*item[2], 0)
+        if request.asked and connection.open:
+            asked = words.identifier(request.asked)
+            self.run.mark(self.lane, "hexagon", f"asks {asked}", "ask", "asks")
+        else:
+            self.run.mark(self.lane, "ring", f"session {session}", "", session)
+        return f"has session {session}"
+
+    def took_outcomeis(self, request, item):
+        asked, committed, completed = words.identifier(item[3]), item[4] == "committed", item[5:] == [True]
+        request.outcomes, request.asked = request.outcomes + 1, ()
+        place = request.shown
+        if completed:
+            self.show(["committed"], [])
+        request.failed = request.fails(*BY_OUTCOME) and request.outcomes == len(request.report["outcomes"])
+        need(request.failed or completed or not committed, f"no error follows the outcome of event {self.run.number}")
+        text = f"learns: {asked} is {'committed' if committed else 'not committed'}"
+        request.tell(self.run.number, f"the outcome of {asked} said " + (
+            "not committed" if not committed else f"committed, so call {place} was shown as committed"
+            if completed else "committed, in the middle of a call"))
+        if completed:
+            text += f"; call {place} is shown as committed"
+        if not request.failed:
+            text += self.go_on(request, committed, place)
+        return text
+
+    def go_on(self, request, committed, place):
+        if committed:
+            self.run.mark(self.lane, "check", f"{place}: committed", "ok", f"{place}: done")
+            return ""
+        request.replaying, request.replayed = deque(range(request.kept_from(), place)), 0
+        self.phase("replaying")
+        self.run.mark(self.lane, "hexagon", "not committed", "ask", "no")
+        return ", so a replay is safe"
+
+    def took_outcomerefused(self, request, item):
+        request.failed = True
+        return f"asks for {words.identifier(item[3])}, whose outcome is no longer kept"
+
+    def took_reply(self, request, item):
+        _, _, _, mark, _, answers, draws = item
+        if mark:
+            return self.compare(request, answers)
+        place, last = request.shown, answers[-1]
+        refused = isinstance(last, dict) and "refused" in last
+        self.run.mark(self.lane, "check", f"{place}: {words.brief_answers(answers)}", "warn" if refused else "ok",
+                      str(place))
+        self.show(answers, draws)
+        request.connection.told = tuple(request.report["calls"][place][2])
+        return f"is shown call {place}: {words.answers(answers)}"
+
+    def compare(self, request, answers):
+        place = request.replaying.popleft()
+        request.replayed += 1
+        if answers != request.report["calls"][place][0]:
+            request.failed = True
+            return f"gets another answer to call {place} ({words.answers(answers)})"
+        self.run.mark(self.lane, "diamond", f"{place}: same", "replay", f"{place} same")
+        return f"finds the same answer to the replayed call {place}"
+
+    def took_blocked(self, request, item):
+        self.run.mark(self.lane, "stop", item[0], "bad")
+        return f"is told that its call was {item[0]}"
+
+    took_refused = took_blocked
+
+    def show(self, answers, draws):
+        request, place = self.request, self.request.shown
+        shown = request.report["calls"][place:place + 1]
+        need(shown and shown[0][:2] == [answers, draws], f"call {place} of client {self.number}, shown at event "
+             f"{self.run.number}, is another in its report")
+        request.shown += 1
+        request.calls[place].last = self.run.number
+
+    # What is sent.
+
+    def send(self, names):
+        said = [getattr(self, "send_" + name)(self.request.connection) for name in names]
+        return ", ".join(filter(None, said))
+
+    def send_begin(self, connection):
+        request, settings = self.request, dict(self.request.script.get("settings", []))
+        if self.keeps_settings:
+            before = request.script["calls"][:request.kept_from()]
+            settings.update(call[0][1:] for call in before if call[0][0] == "set")
+        request.begun = True
+        self.run.send_up(connection, self.number, "begin", settings=settings.items())
+        return "sends begin"
+
+    def send_call(self, connection):
+        request = self.request
+        replay = bool(request.replaying)
+        place = request.replaying[0] if replay else self.submit()
+        call = request.call(place)
+        self.run.send_up(connection, self.number, "call", f"call {place}", call, call=place,
+                         kept=request.report["calls"][place][1] if replay else None)
+        return f"{'replays' if replay else 'sends'} call {place} ({words.brief_call(call)})"
+
+    def submit(self):
+        """The current call, which goes out without the mark of a replay."""
+        request, place = self.request, self.request.shown
+        self.phase("live")
+        if place in request.calls:
+            replayed = f"{words.plural(request.replayed, 'call')} replayed, " if request.replayed else ""
+            request.tell(self.run.number, f"{replayed}call {place} sent again")
+        else:
+            request.calls[place] = self.run.span("call", self.lane, str(place))
+        return place
+
+    def send_outcome(self, connection):
+        asked = self.request.asked
+        self.run.send_up(connection, self.number, "outcome", f"outcome of {words.identifier(asked)}?", list(asked))
+        return f"asks: was {words.identifier(asked)} committed?"
+
+    def send_end(self, connection):
+        connection.held = False
+        self.run.send_up(connection, self.number, "end")
+        return ""
+
+    def send_close(self, connection):
+        self.run.send_up(connection, self.number, "close")
+        self.run.end(connection, "closed")
+        return "closes the connection, which drains"
+
+    # The end of a request.
+
+    def finish(self):
+        request, failed = self.request, self.request.report["failed"]
+        need(bool(failed) == request.failed and len(request.report["calls"]) == request.shown
+             and len(request.report["outcomes"]) == request.outcomes,
+             f"request {request.place + 1} of client {self.number} ended at event {self.run.number} otherwise than "
+             "its report says")
+        for span in (request.phase, *request.calls.values()):
+            span.last = span.last or self.run.number
+        request.last, self.request = self.run.number, None
+        return f"; request {request.place + 1} is done"
+
+    def fail(self, text):
+        request, failed, connection = self.request, self.request.report["failed"], self.request.connection
+        need(failed, f"client {self.number} fails at event {self.run.number}, and not in its report")
+        request.failed = True
+        self.run.mark(self.lane, "fail", "ERROR " + failed[0], "bad", "ERROR", words.failure(failed))
+        if connection and connection.open:
+            self.send_close(connection)
+        self.finish()
+        return self.run.bad(f"{text}. ERROR shown, {failed[0]}: {words.failure(failed)}")

@@ -1,0 +1,104 @@
+"""Follows a run by its document and its report, event by event, and gives what is to be drawn of it."""
+
+from . import words
+from .client import Client
+from .files import FAULTS, Misfit, check_schedule, need, submissions
+from .run import OUTSIDE, STORE, Event, Run
+from .sessions import Sessions
+
+
+def follow(document, report):
+    """The run; a Misfit where the report is none of this document."""
+    try:
+        walk = Walk(document, report)
+    except FAULTS as why:
+        raise Misfit(f"the report is not one of such a document ({why})") from why
+    for note in report["notes"]:
+        try:
+            walk.step(note)
+        except FAULTS as why:
+            raise Misfit(f"note {walk.run.number}, {note}, does not fit what was before it") from why
+    walk.close()
+    return walk.run
+
+
+class Walk:
+    def __init__(self, document, report):
+        self.run = Run()
+        self.schedule, clients = document.get("schedule", []), document["clients"]
+        need(len(clients) == len(report["clients"]),
+             f"the document has {len(clients)} clients, the report {len(report['clients'])}")
+        check_schedule(self.schedule, report["notes"])
+        self.sessions = Sessions(self.run, document, report)
+        self.store = self.sessions.store
+        auto = document.get("service", {}).get("failover") == "auto"
+        self.clients = []
+        for number, (client, reports) in enumerate(zip(clients, report["clients"]), 1):
+            requests = client["requests"]
+            self.clients.append(Client(self.run, number, requests, submissions(requests, reports), reports, auto))
+
+    def step(self, note):
+        run = self.run
+        run.number += 1
+        run.events.append(event := Event(run.number, run.tick, note))
+        event.words = getattr(self, "on_" + note[0])(*note[1:])
+        event.tick = run.tick
+
+    def close(self):
+        self.sessions.close()
+        for client in self.clients:
+            need(not client.request and not client.coming,
+                 f"the notes end before the requests of client {client.number} have ended")
+
+    def on_go(self, number, word, *rest):
+        return self.clients[number - 1].go(word, *rest)
+
+    def on_serve(self, number, word):
+        return self.sessions.serve(number, word)
+
+    def on_cut(self, number, up, down=None):
+        return self.sessions.cut(number, up, down)
+
+    def on_reap(self, number, none=None):
+        return "connection {} has no orphan to end".format(number) if none else self.sessions.reap(number)
+
+    def on_crash(self, number, down=None):
+        return "crash: the server is down already" if down else self.sessions.crash(number)
+
+    def on_up(self, incarnation):
+        if incarnation == "none":
+            return "the server is up already"
+        return f"the store is opened again, incarnation {incarnation}{self.store.open(incarnation)}"
+
+    def on_upcrash(self, none=None):
+        if none:
+            return "the server is up already"
+        self.run.mark(STORE, "bolt", "CRASH", "bad")
+        return self.run.bad("CRASH while the store was being opened")
+
+    def on_tick(self):
+        self.run.tick += 1
+        return f"tick {self.run.tick}"
+
+    def on_outside(self, first, runs=()):
+        if first == "down":
+            return "an outside session finds the server down"
+        calls, session = self.schedule[self.run.number - 1][1], words.session(first)
+        self.run.mark(OUTSIDE, "square", f"session {session}", "call", session)
+        said = []
+        for call, (answers, draws) in zip(calls, runs):
+            self.store.ran(OUTSIDE, first[:2], call, answers, draws)
+            said.append(f"{words.call(call)}: {words.answers(answers)}")
+        blocked = "" if len(runs) == len(calls) else "; then a commit finds its identifier blocked"
+        return f"outside session {session} runs {'; '.join(said)}{blocked}"
+
+    def on_ask(self, asked, *result):
+        question = f"asked from outside for {words.identifier(asked)}:"
+        if result[0] == "down":
+            return f"{question} the server is down"
+        self.run.mark(OUTSIDE, "hexagon", f"asks {words.identifier(asked)}", "ask", words.identifier(asked))
+        blocks = result[0] == "uncommitted" and self.store.block(OUTSIDE, asked)
+        return f"{question} {words.outcome(result)}{'; it is blocked from now on' if blocks else ''}"
+
+    def on_drain(self, count):
+        return self.sessions.drain(count)
