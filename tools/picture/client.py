@@ -12,9 +12,10 @@ from .files import need
 
 COMMIT_ENDS = ("committed", "conflict")
 BY_OUTCOME = ("disabled", "incomplete", "replays", "replaytimeout")
-STEPS = {"none": ("dot", "", "finds nothing to take yet"),
-         "early": ("dot", "too early", "may not try to connect again yet (delay)"),
-         "wait": ("ring", "waits", "waits for a place in the pool")}
+SHORT = {"committed": "commit", "conflict": "confl."}
+STEPS = {"none": ("dot", (), "finds nothing to take yet"),
+         "early": ("dot", ("too early", "early"), "may not try to connect again yet (delay)"),
+         "wait": ("ring", ("waits",), "waits for a place in the pool")}
 
 
 @dataclass
@@ -60,6 +61,11 @@ class Request:
         return max((place for place, call in enumerate(shown, 1) if call[0][-1] in COMMIT_ENDS), default=0)
 
 
+def shown_labels(place, answers):
+    brief = words.brief_answers(answers)
+    return f"{place}: {brief}", f"{place}: {SHORT.get(brief, brief)}", str(place)
+
+
 class Client:
     def __init__(self, run, number, requests, submissions, reports, keeps_settings):
         self.run, self.number, self.lane = run, number, ("client", number)
@@ -69,12 +75,12 @@ class Client:
     def go(self, word, *rest):
         if word == "idle":
             need(not self.request and not self.coming, f"client {self.number} is idle before its requests have ended")
-            self.run.mark(self.lane, "dot", "idle", "faint")
+            self.run.mark(self.lane, "dot", ("idle",), "faint")
             return f"client {self.number} has nothing left to do"
         prefix = "" if self.request else self.begin()
         if word in STEPS and not (word == "wait" and self.waits_no_longer()):
-            shape, label, text = STEPS[word]
-            self.run.mark(self.lane, shape, label, "faint")
+            shape, labels, text = STEPS[word]
+            self.run.mark(self.lane, shape, labels, "faint")
         else:
             self.request.held = self.request.held or self.run.number
             text = getattr(self, "go_" + word)(*rest)
@@ -111,14 +117,14 @@ class Client:
             request.tell(self.run.number, f"found the server down at event {self.run.number}")
         if request.fails("retries") and request.report["failed"][1] == request.tries:
             return self.fail(text)
-        self.run.mark(self.lane, "cross", "server down", "bad", "down")
+        self.run.mark(self.lane, "cross", ("server down", "down"), "bad")
         return text
 
     def go_open(self, number, _):
         connection = self.run.open(self.number)
         need(number == connection.number, f"event {self.run.number} opens connection {number} out of turn")
         self.request.connection, self.request.tries = connection, 0
-        self.run.mark(self.lane, "ring", f"opens conn {number}", "", f"conn {number}")
+        self.run.mark(self.lane, "ring", (f"opens conn {number}", f"conn {number}"))
         self.run.send_up(connection, self.number, "connect")
         return f"opens connection {number}"
 
@@ -127,7 +133,7 @@ class Client:
         need(connection.open and not connection.held, f"event {self.run.number} lends connection {number}, which is "
              "not idle")
         self.request.connection, connection.held, connection.client = connection, True, self.number
-        self.run.mark(self.lane, "ring", f"lent conn {number}", "", f"conn {number}")
+        self.run.mark(self.lane, "ring", (f"lent conn {number}", f"conn {number}"))
         return f"is lent connection {number} by the pool; {self.send(['begin', 'call'])}"
 
     # Steps with one.
@@ -136,7 +142,7 @@ class Client:
         connection = self.request.connection
         need(connection.number == number and not connection.open and not connection.down,
              f"event {self.run.number} loses connection {number}, which was not lost")
-        self.run.mark(self.lane, "cross", f"conn {number} lost", "bad", "lost")
+        self.run.mark(self.lane, "cross", (f"conn {number} lost", "lost"), "bad")
         return f"finds connection {number} lost{self.lose()}"
 
     def lose(self):
@@ -179,9 +185,9 @@ class Client:
         connection.told = (*item[2], 0)
         if request.asked and connection.open:
             asked = words.identifier(request.asked)
-            self.run.mark(self.lane, "hexagon", f"asks {asked}", "ask", "asks")
+            self.run.mark(self.lane, "hexagon", (f"asks {asked}", "asks"), "ask")
         else:
-            self.run.mark(self.lane, "ring", f"session {session}", "", session)
+            self.run.mark(self.lane, "ring", (f"session {session}", session))
         return f"has session {session}"
 
     def took_outcomeis(self, request, item):
@@ -204,11 +210,11 @@ class Client:
 
     def go_on(self, request, committed, place):
         if committed:
-            self.run.mark(self.lane, "check", f"{place}: committed", "ok", f"{place}: done")
+            self.run.mark(self.lane, "check", shown_labels(place, ["committed"]), "ok")
             return ""
         request.replaying, request.replayed = deque(range(request.kept_from(), place)), 0
         self.phase("replaying")
-        self.run.mark(self.lane, "hexagon", "not committed", "ask", "no")
+        self.run.mark(self.lane, "hexagon", ("not committed", "no"), "ask")
         return ", so a replay is safe"
 
     def took_outcomerefused(self, request, item):
@@ -221,8 +227,7 @@ class Client:
             return self.compare(request, answers)
         place, last = request.shown, answers[-1]
         refused = isinstance(last, dict) and "refused" in last
-        self.run.mark(self.lane, "check", f"{place}: {words.brief_answers(answers)}", "warn" if refused else "ok",
-                      str(place))
+        self.run.mark(self.lane, "check", shown_labels(place, answers), "warn" if refused else "ok")
         self.show(answers, draws)
         request.connection.told = tuple(request.report["calls"][place][2])
         return f"is shown call {place}: {words.answers(answers)}"
@@ -233,11 +238,11 @@ class Client:
         if answers != request.report["calls"][place][0]:
             request.failed = True
             return f"gets another answer to call {place} ({words.answers(answers)})"
-        self.run.mark(self.lane, "diamond", f"{place}: same", "replay", f"{place} same")
+        self.run.mark(self.lane, "diamond", (f"{place}: same", str(place)), "replay")
         return f"finds the same answer to the replayed call {place}"
 
     def took_blocked(self, request, item):
-        self.run.mark(self.lane, "stop", item[0], "bad")
+        self.run.mark(self.lane, "stop", (item[0],), "bad")
         return f"is told that its call was {item[0]}"
 
     took_refused = took_blocked
@@ -263,7 +268,7 @@ class Client:
             settings.update(call[0][1:] for call in before if call[0][0] == "set")
         request.begun = True
         self.run.send_up(connection, self.number, "begin", settings=settings.items())
-        return "sends begin"
+        return ""
 
     def send_call(self, connection):
         request = self.request
@@ -317,7 +322,7 @@ class Client:
         request, failed, connection = self.request, self.request.report["failed"], self.request.connection
         need(failed, f"client {self.number} fails at event {self.run.number}, and not in its report")
         request.failed = True
-        self.run.mark(self.lane, "fail", "ERROR " + failed[0], "bad", "ERROR", words.failure(failed))
+        self.run.mark(self.lane, "fail", ("ERROR " + failed[0], "ERROR"), "bad", words.failure(failed))
         if connection and connection.open:
             self.send_close(connection)
         self.finish()

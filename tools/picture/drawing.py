@@ -38,7 +38,7 @@ class Drawing:
         if x is None:
             return
         self.seen.add(mark.shape)
-        if mark.shape == "bolt" and mark.lane == STORE:
+        if mark.lane == STORE and mark.shape == "bolt" and self.run.events[mark.event - 1].note[0] == "crash":
             self.fall(y)
         title = self.title(mark)
         self.add(5, y - 10, y + 10, f'<g class="mark" tabindex="0" role="img" data-e="{self.rows.row_of[mark.event]}">'
@@ -55,8 +55,8 @@ class Drawing:
         return "\n".join(filter(None, said))
 
     def label(self, mark):
-        """A mark's label and how it is written. In a lane that clients share the first one names the client."""
-        if self.columns.shared and mark.lane[0] == "client":
+        """A mark's label and how it is written. In a column that clients share the first one names the client."""
+        if self.columns.plan.shared and mark.lane[0] == "client":
             stay = mark.lane, self.columns.stay(mark.lane, mark.event).first
             if stay not in self.named:
                 self.named.add(stay)
@@ -65,10 +65,10 @@ class Drawing:
 
     def fall(self, y):
         """All sessions end with the service."""
-        lanes = [lane for lane in self.columns.lanes if lane[0] == "connections"]
-        if not lanes:
+        sessions = [column for column in self.columns.order if column[0] == "connections"]
+        if not sessions:
             return
-        x, end, points = self.columns.left[lanes[0]], self.columns.axis[STORE], []
+        x, end, points = self.columns.left[sessions[0]], self.columns.axis[STORE], []
         while x < end:
             points.append(f"{x:g} {y + (-4 if len(points) % 2 else 4):g}")
             x += 8
@@ -103,7 +103,9 @@ class Drawing:
         self.add(3, top, top, f'<path class="link" d="M{begin:g} {top:g}H{store if x < store else x - 8:g}"/>')
 
     def draw_call(self, span, first, x, top, bottom):
-        bar = self.columns.bar[self.columns.lane_of(span.lane, first)]
+        bar = self.columns.bar.get(self.columns.column_of(span.lane, first))
+        if bar is None:
+            return
         self.add(2, top, bottom, f'<path class="callbar" d="M{bar:g} {top - 5:g}V{bottom - 9:g}"/>')
         if first >= self.rows.first:
             self.add(6, top, top, text(bar - 4, top + 4, span.text, "call end"))

@@ -1,7 +1,8 @@
 """Where things stand: time goes down, one row for an event; the lanes stand beside each other.
 
-A picture that would be too wide for a screen gets shorter labels. Then lanes of sessions that have ended are used
-again, and in the end clients share lanes, too: each has one only while it holds a slot of the pool.
+A picture that would be too wide for a screen gets shorter labels. Then the columns of sessions that have ended are used
+again; then clients share columns, too: each has one only while it holds a slot of the pool. Where that is not enough
+either, labels are numbers or fall away; the words beside the lanes say all.
 """
 
 from bisect import bisect_right
@@ -11,12 +12,11 @@ from textwrap import wrap
 from .run import OUTSIDE, STORE
 
 SMALL, BIG = 6.7, 7.3           # widths of a character of 11 and of 12 pixels, never less than the font's
-TEXT, LINE = 52, 16             # of the words: characters in a line, and its height
-GAP, BAND = 12, 28             # between lanes, and of the finish's title
+LINE = 16                       # the height of a line
+BAND = 28                       # of the finish's title
 WIDE = 1400                     # what a screen shows
-PLANS = ((False, False, 20), (False, False, 14), (False, True, 14), (False, True, 11),
-         (True, True, 14), (True, True, 11), (True, True, 9))
-STORE_LABEL = 14                # of the store and of what asks from outside, at least
+STORE_LABEL = 14                # characters of the store's labels and of those outside, at least
+
 FOLDED = {("go", "wait"): "clients {} wait for a place in the pool",
           ("go", "none"): "clients {} find nothing to take yet",
           ("go", "early"): "clients {} may not try to connect again yet (delay)",
@@ -29,17 +29,34 @@ def folded(note):
     return FOLDED.get((note[0], note[2])) if len(note) == 3 and isinstance(note[2], str) else None
 
 
-def short(label, brief, limit):
-    if len(label) <= limit:
-        return label
-    return brief if len(brief) <= limit else brief[:limit - 1] + "\u2026"
+@dataclass(frozen=True)
+class Plan:
+    """How wide all is laid out."""
+    shared: bool        # columns by clients
+    again: bool         # columns of ended sessions are used again
+    label: int          # characters of a label
+    line: int = 52      # of a line of words
+    gap: int = 24       # for arrows, between clients and sessions
+    bars: bool = True   # of calls
+
+    def fitting(self, labels):
+        """The first label that fits, or none."""
+        return next((label for label in labels if len(label) <= self.label), "")
+
+
+PLANS = (Plan(False, False, 20, 58, 36), Plan(False, False, 14, 58, 30), Plan(False, True, 14), Plan(False, True, 11),
+         Plan(True, True, 14), Plan(True, True, 11), Plan(True, True, 9), Plan(True, True, 6, 52, 16, False),
+         Plan(True, True, 3, 46, 16, False))
+STORE_PLAN = Plan(True, True, STORE_LABEL)
 
 
 class Rows:
     """A row's top and height for each event of the window; the finish has a band before it."""
 
-    def __init__(self, run, schedule, first, last):
-        self.first, self.last, self.finish = first, last, schedule + 1
+    def __init__(self, run, window, line):
+        """For the window (events of the schedule, first event, last event), in lines of so many characters."""
+        schedule, first, last = window
+        self.first, self.last, self.finish, self.line = first, last, schedule + 1, line
         self.groups, self.lines, self.tops, self.row_of, self.band = [], {}, {}, {}, None
         self.deep, self.falls = {}, {}      # of an event: lines of its marks; the line at which sessions end
         for mark in run.marks:
@@ -54,7 +71,7 @@ class Rows:
         self.number_end = 8 + BIG * max(2 * digits + 1, 5)
         self.tick_end = self.number_end + 8 + BIG * max(digits, 4)
         self.words_left = self.tick_end + 10
-        self.width = round(self.words_left + TEXT * BIG + 12)
+        self.width = round(self.words_left + line * BIG + 12)
 
     def place(self, event):
         """Below the rows before it; steps in a row that find nothing to do share one."""
@@ -69,7 +86,7 @@ class Rows:
             if event.number == self.finish:
                 self.band, self.height = self.height, self.height + BAND
         head = group[0].number
-        self.lines[head] = wrap(said, TEXT) or [""]
+        self.lines[head] = wrap(said, self.line) or [""]
         self.tops[event.number], self.row_of[event.number] = self.height, head
         lines = max(len(self.lines[head]), self.deep.get(event.number, 1))
         self.height += LINE * lines + (4 if event.note == ["tick"] else 10)
@@ -92,24 +109,25 @@ class Rows:
 
 @dataclass
 class Stay:
-    """A client or a connection in its lane."""
+    """From when to when a client or a connection stands in a column."""
     first: int
     last: int
-    column: tuple = ()
+    column: tuple
 
 
 class Columns:
-    """The lanes; `shared` by clients or not, those of connections used `again` or not, labels of `limit` characters."""
+    """A lane is a client's, a connection's, the store's or that of the outside; lanes stand in columns, in order from
+    the left."""
 
-    def __init__(self, run, rows, shared, again, limit):
-        self.rows, self.shared, self.limit = rows, shared, limit
+    def __init__(self, run, rows, plan):
+        self.rows, self.plan = rows, plan
         self.marks = [mark for mark in run.marks if rows.first <= mark.event <= rows.last]
-        self.stays = {}         # of each lane, in order
-        clients = self.share("client", self.requests(run)) if shared else self.clients(run)
+        self.stays = {}         # of each client and connection, in order
+        clients = self.share("client", self.requests(run)) if plan.shared else self.clients(run)
         sessions = [(one.number, one.opened, one.span.last or len(run.events)) for one in run.connections]
-        connections = self.share("connection", sessions, again)
+        connections = self.share("connection", sessions, plan.again)
         outside = [OUTSIDE] if any(mark.lane == OUTSIDE for mark in self.marks) else []
-        self.lanes = clients + connections + [STORE] + outside
+        self.order = clients + connections + [STORE] + outside
         self.measure(max([len(span.text) for span in run.spans if span.kind == "call"], default=1))
 
     def is_seen(self, first, last):
@@ -121,7 +139,7 @@ class Columns:
         return sorted(held, key=lambda one: one[1])
 
     def clients(self, run):
-        """A lane for each client that does something in the window."""
+        """A column for each client that does something in the window."""
         seen = {mark.lane for mark in self.marks if mark.lane[0] == "client"}
         seen |= {("client", one.client) for one in run.requests if self.is_seen(one.first, one.last or len(run.events))}
         for lane in seen:
@@ -129,9 +147,8 @@ class Columns:
         return sorted(seen)
 
     def share(self, kind, stays, again=True):
-        """Lanes for (whose, first event, last event), in order; one that is free is used again, if it may be."""
-        free = []       # of each lane, the last event of its last stay
-        last_of = {}
+        """Columns for (whose, first event, last event), in order; a free one is used again, if it may be."""
+        free, last_of = [], {}      # the last event of each column's last stay; the last column of each
         for whose, first, last in stays:
             if not self.is_seen(first, last):
                 continue
@@ -142,33 +159,48 @@ class Columns:
         return [(kind + "s", at) for at in range(len(free))]
 
     def measure(self, digits):
-        """The width of each lane by its longest label."""
-        need = {lane: 9 for lane in self.lanes}
+        """The width of each column by its longest label."""
+        need = {column: 0 for column in self.order}
         for mark in self.marks:
-            lane = self.lane_of(mark.lane, mark.event)
-            if lane:
-                need[lane] = max(need[lane], len(self.label(mark)))
+            column = self.column_of(mark.lane, mark.event)
+            if column:
+                need[column] = max(need[column], len(self.label(mark)))
         for lane, stays in self.stays.items():
-            need[stays[0].column] = max(need[stays[0].column], len(self.name(lane)))
+            for stay in stays:
+                need[stay.column] = max(need[stay.column], len(self.name(lane)))
         self.left, self.axis, self.bar, x = {}, {}, {}, 6
-        for lane in self.lanes:
-            self.left[lane], wide = x, need[lane] * SMALL
-            if lane[0] in ("client", "clients"):    # the call's number and bar, the labels, the marks
-                self.bar[lane] = x + 6.2 * digits + 6
-                self.axis[lane] = self.bar[lane] + 8 + wide + 13
-                x = self.axis[lane] + 24
-            else:                                   # the marks, the labels
-                self.axis[lane] = x + 14
-                x = self.axis[lane] + 15 + wide + GAP
+        for column in self.order:
+            self.left[column], width = x, SMALL * need[column]
+            whose = column[0] in ("client", "clients")
+            x = self.place_client(column, x, width, digits) if whose else self.place(column, x, width)
         self.width = round(x)
 
+    def place_client(self, column, x, width, digits):
+        """The call's number and bar, the labels, the marks, and room for arrows."""
+        if self.plan.bars:
+            self.bar[column] = x + 6.2 * digits + 6
+            x = self.bar[column] + 8
+        self.axis[column] = x + width + 13
+        return self.axis[column] + self.plan.gap
+
+    def place(self, column, x, width):
+        """The marks and the labels; a session's column has room for crosses before it."""
+        self.axis[column] = x + (14 if self.plan.bars else 10)
+        return self.axis[column] + width + (27 if self.plan.bars else 20)
+
     def label(self, mark):
-        limit = max(self.limit, STORE_LABEL) if mark.lane in (STORE, OUTSIDE) else self.limit
-        return short(mark.label, mark.brief, limit)
+        plan = self.plan
+        if mark.lane in (STORE, OUTSIDE) and plan.label < STORE_LABEL:
+            plan = STORE_PLAN
+        if plan.bars and mark.labels and not plan.fitting(mark.labels):
+            return mark.labels[-1][:plan.label - 1] + "\u2026"
+        return plan.fitting(mark.labels)
 
     def name(self, lane):
         kind, number = lane
-        return short(f"{kind} {number}", f"conn {number}", self.limit)
+        names = {"client": (f"client {number}", f"c{number}"),
+                 "connection": (f"connection {number}", f"conn {number}", str(number))}[kind]
+        return self.plan.fitting(names)
 
     def stay(self, lane, event):
         """The stay that a client or a connection has at an event, or None."""
@@ -176,21 +208,24 @@ class Columns:
         at = bisect_right([stay.first for stay in stays], event) - 1
         return stays[at] if at >= 0 and event <= stays[at].last else None
 
-    def lane_of(self, lane, event):
+    def column_of(self, lane, event):
         if lane in (STORE, OUTSIDE):
-            return lane if lane in self.lanes else None
+            return lane if lane in self.order else None
         stay = self.stay(lane, event)
         return stay and stay.column
 
     def x(self, lane, event):
-        """The axis of a lane, or None where it has none at an event."""
-        return self.axis.get(self.lane_of(lane, event))
+        """A lane's axis, or None where it has none at an event."""
+        return self.axis.get(self.column_of(lane, event))
 
 
-def arrange(run, rows):
-    """The first plan that a screen has room for, else the narrowest."""
+def arrange(run, window):
+    """(rows, columns) by the first plan that a screen has room for, else by the narrowest."""
+    rows = None
     for plan in PLANS:
-        columns = Columns(run, rows, *plan)
+        if rows is None or rows.line != plan.line:
+            rows = Rows(run, window, plan.line)
+        columns = Columns(run, rows, plan)
         if rows.width + columns.width <= WIDE:
             break
-    return columns
+    return rows, columns

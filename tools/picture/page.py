@@ -10,7 +10,8 @@ import re
 from . import words
 from .drawing import Drawing
 from .files import need
-from .layout import BAND, LINE, Rows, arrange, folded
+from .layout import BAND, LINE, arrange, folded
+from .run import STORE
 from .shapes import clean, definitions, legend, text
 from .walk import follow
 
@@ -19,6 +20,7 @@ SHEET = 40      # rows in a sheet
 HEAD = 30       # the height of a sheet's head
 STORIES = 6     # sentences before the others are folded
 LANDSCAPE = 1400
+HEADING = 175   # the width of the longest heading
 
 
 def page(document, report, first=1, last=None):
@@ -28,8 +30,7 @@ def page(document, report, first=1, last=None):
     last = min(last or first + MOST - 1, there)
     need(first <= max(last, 1), f"there is no event {first}; the run has {there}")
     schedule = len(document.get("schedule", []))
-    rows = Rows(run, schedule, first, last)
-    columns = arrange(run, rows)
+    rows, columns = arrange(run, (schedule, first, last))
     sheets = Sheets(rows, columns, Drawing(run, rows, columns))
     title, stories = headline(run)
     note = summary(run, document, report, first, last)
@@ -67,7 +68,8 @@ def headline(run):
         [f"{crashes} crash{'es' if crashes > 1 else ''}"] * bool(crashes)
     title = " and ".join(what) or "No outage"
     if failed:
-        title += f": {words.plural(len(failed), 'request')} of {len(run.requests)} ended in an error"
+        noun = "submission" if any(request.again for request in run.requests) else "request"
+        title += f": {words.plural(len(failed), noun)} of {len(run.requests)} ended in an error"
     else:
         title += ": all hidden, no client saw an error" if what else ": no client saw an error"
     several = any(request.place or request.again for request in run.requests)
@@ -95,7 +97,8 @@ def summary(run, document, report, first, last):
     count = len(run.events)
     window = f" (drawn here: {first} to {last}; --from and --to choose)" if (first, last) != (1, count) else ""
     return (f"{words.plural(count, 'event')}, {len(document.get('schedule', []))} of them in the schedule{window}; "
-            f"{words.plural(len(run.requests), 'request')} of {words.plural(len(document['clients']), 'client')}; "
+            f"{words.plural(sum(not request.again for request in run.requests), 'request')} of "
+            f"{words.plural(len(document['clients']), 'client')}; "
             f"{words.plural(len(report['entries']), 'commit')} in the store.")
 
 
@@ -119,8 +122,8 @@ class Sheets:
     def sheet(self, groups, top, bottom):
         drawn = {"numbers": [], "left": [], "right": []}
         self.finish(drawn, top, bottom)
-        drawn["right"] += [f'<path class="axis" d="M{self.columns.axis[lane]:g} {top:g}V{bottom:g}"/>'
-                           for lane in self.columns.lanes if not lane[0].endswith("s")]
+        drawn["right"] += [f'<path class="axis" d="M{self.columns.axis[column]:g} {top:g}V{bottom:g}"/>'
+                           for column in self.columns.order if not is_one_of_many(column)]
         tick = None
         for group in groups:
             self.row(drawn, group, tick)
@@ -170,8 +173,8 @@ class Sheets:
 
     def head(self, kind):
         rows, columns = self.rows, self.columns
-        names = [text(columns.left[lane], 19, self.lane_name(lane), "strong") for lane in columns.lanes
-                 if not lane[0].endswith("s") or lane[1] == 0]
+        names = [text(columns.left[column], 19, self.heading(column), "strong") for column in columns.order
+                 if not is_one_of_many(column) or column[1] == 0]
         said = (text(rows.number_end, 19, "event", "strong end") + text(rows.tick_end, 19, "tick", "strong end") +
                 text(rows.words_left, 19, "what happened", "strong"))
         parts = [f'<svg class="{side}" viewBox="0 0 {width} {HEAD}" width="{width}" height="{HEAD}">{inside}</svg>'
@@ -179,7 +182,13 @@ class Sheets:
         return (f'<div class="pair head {kind}"><svg class="numbers" width="{round(rows.number_end + 6)}" '
                 f'height="{HEAD}"></svg>{"".join(parts)}</div>')
 
-    def lane_name(self, lane):
-        if lane[0] == "connections":
-            return "connections and sessions" if ("connections", 1) in self.columns.lanes else "connection"
-        return "clients" if lane[0] == "clients" else " ".join(map(str, lane))
+    def heading(self, column):
+        if column[0] == "connections":
+            room = self.columns.left[STORE] - self.columns.left[column]
+            return "connections and sessions" if room > HEADING else "sessions"
+        return "clients" if column[0] == "clients" else " ".join(map(str, column))
+
+
+def is_one_of_many(column):
+    """Columns of clients that share them, and of connections, have one heading, and no axis."""
+    return column[0] in ("clients", "connections")

@@ -24,9 +24,8 @@ class Mark:
     event: int
     lane: tuple         # ("client", number), ("connection", number), STORE or OUTSIDE
     shape: str
-    label: str
+    labels: tuple       # from the one that tells most to the shortest
     tone: str
-    brief: str          # where there is no room for the label
     detail: str
     line: int           # of the event's row
 
@@ -81,8 +80,8 @@ class Run:
         self.connections, self.requests = [], []
         self.number = self.tick = 0     # of the event that is followed
 
-    def mark(self, lane, shape, label, tone="", brief=None, detail="", line=0):
-        self.marks.append(Mark(self.number, lane, shape, label, tone, label if brief is None else brief, detail, line))
+    def mark(self, lane, shape, labels, tone="", detail="", line=0):
+        self.marks.append(Mark(self.number, lane, shape, labels, tone, detail, line))
 
     def span(self, kind, lane, text=""):
         self.spans.append(Span(kind, lane, self.number, 0, text))

@@ -16,14 +16,14 @@ class Sessions:
         need(not self.items, f"no note is of the served item {next(iter(self.items.values()), None)}")
         self.store.close()
 
-    def nothing(self, number, label):
+    def nothing(self, number, *labels):
         """An event finds nothing to do on a connection; it is marked where a session lives there."""
         if 0 < number <= len(self.run.connections) and self.run.connections[number - 1].living:
-            self.run.mark(("connection", number), "dot", label, "faint")
+            self.run.mark(("connection", number), "dot", labels, "faint")
 
     def serve(self, number, word):
         if word == "none":
-            self.nothing(number, "")
+            self.nothing(number)
             return f"connection {number} has nothing to serve"
         connection = self.run.connections[number - 1]
         need(connection.living and connection.up and connection.up[0].name == word,
@@ -55,19 +55,19 @@ class Sessions:
 
     def on_connect(self, connection, lane, frame, who, item):
         session = words.session(item[2])
-        self.run.mark(lane, "ring", f"session {session}", "", session)
+        self.run.mark(lane, "ring", (f"session {session}", session))
         return f"{who} is made on connection {connection.number}{self.reply(connection, item, 'hello')}"
 
     def on_begin(self, connection, lane, frame, who, item):
-        self.run.mark(lane, "small", "begin", "faint")
+        self.run.mark(lane, "small", ("begin",), "faint")
         return f"{who} begins a request"
 
     def on_end(self, connection, lane, frame, who, item):
-        self.run.mark(lane, "small", "end", "faint")
+        self.run.mark(lane, "small", ("end",), "faint")
         return f"{who} ends its request"
 
     def on_close(self, connection, lane, frame, who, item):
-        self.run.mark(lane, "small", "close", "faint")
+        self.run.mark(lane, "small", ("close",), "faint")
         self.run.end_session(connection)
         return f"{who} is closed"
 
@@ -75,7 +75,7 @@ class Sessions:
         _, _, session, mark, call, answers, draws = item
         need(mark == frame.mark, f"event {self.run.number} serves {frame.words} with another mark than was sent")
         shape, tone = ("diamond", "replay") if mark else ("square", "call")
-        self.run.mark(lane, shape, words.brief_call(call), tone, call[0][0])
+        self.run.mark(lane, shape, (words.brief_call(call), call[0][0]), tone)
         if not mark:
             self.store.ran(lane, session, call, answers, draws)
         if not mark and answers[-1] == "committed" and connection.cut:
@@ -84,7 +84,7 @@ class Sessions:
         return text + self.reply(connection, item, f"reply ({words.brief_answers(answers)})", mark=mark)
 
     def on_blocked(self, connection, lane, frame, who, item):
-        self.run.mark(lane, "stop", "blocked", "bad")
+        self.run.mark(lane, "stop", ("blocked",), "bad")
         self.tell(connection, frame, "was refused its commit")
         lost = self.reply(connection, item, "blocked")
         self.run.end(connection, "answered Blocked")
@@ -92,7 +92,7 @@ class Sessions:
         return f"{who} may not commit: its identifier is blocked. The session ends{lost}"
 
     def on_refused(self, connection, lane, frame, who, item):
-        self.run.mark(lane, "stop", "refused", "bad")
+        self.run.mark(lane, "stop", ("refused",), "bad")
         lost = self.reply(connection, item, "refused")
         self.run.end(connection, "answered Refused")
         self.run.end_session(connection)
@@ -101,8 +101,8 @@ class Sessions:
     def on_outcome(self, connection, lane, frame, who, item):
         _, _, _, asked, *result = item
         uncommitted = result[0] == "uncommitted"
-        self.run.mark(lane, "hexagon", "not committed" if uncommitted else result[0], "ask",
-                      {"uncommitted": "no", "committed": "yes"}.get(result[0]))
+        labels = {"uncommitted": ("not committed", "no"), "committed": ("committed", "yes")}
+        self.run.mark(lane, "hexagon", labels.get(result[0], (result[0],)), "ask")
         blocks = uncommitted and self.store.block(lane, asked)
         name = "outcomeis" if result[0] in ("committed", "uncommitted") else "outcomerefused"
         return (f"{who} is asked for {words.identifier(asked)}: {words.outcome(result)}"
@@ -110,7 +110,7 @@ class Sessions:
                 f"{self.reply(connection, item, words.outcome(result), name)}")
 
     def on_crashed(self, connection, lane, frame, who, item):
-        self.run.mark(lane, "bolt", "stopped", "bad")
+        self.run.mark(lane, "bolt", ("stopped",), "bad")
         if frame.name == "outcome":
             what, kept = words.identifier(item[3]), self.store.stop_outcome(lane, item[3])
         else:
@@ -133,7 +133,7 @@ class Sessions:
         self.run.end(connection, "cut")
         connection.cut, connection.span.last = True, self.run.number
         connection.span = self.run.span("orphan", lane)
-        self.run.mark(lane, "cut", f"CUT, {sum(counts)} lost" if sum(counts) else "CUT", "bad", "CUT")
+        self.run.mark(lane, "cut", (f"CUT, {sum(counts)} lost", "CUT") if sum(counts) else ("CUT",), "bad")
         return self.run.bad(f"CUT of connection {number}: {'; '.join(filter(None, said)) or 'nothing was on its way'}. "
                             "Its session lives on, an orphan")
 
@@ -150,7 +150,7 @@ class Sessions:
 
     def reap(self, number):
         lost = self.run.end_session(self.run.connections[number - 1])
-        self.run.mark(("connection", number), "bar", "rolled back", "faint", "ended")
+        self.run.mark(("connection", number), "bar", ("rolled back", "ended"), "faint")
         unread = f"; unread: {', '.join(frame.words for frame in lost)}" if lost else ""
         return f"the orphan of connection {number} is ended and rolled back{unread}"
 
@@ -163,7 +163,7 @@ class Sessions:
             if connection.living:
                 ended += 1
                 self.run.end_session(connection, "crash")
-                self.run.mark(("connection", connection.number), "end", "", "bad", line=line)
+                self.run.mark(("connection", connection.number), "end", (), "bad", line=line)
             if not connection.cut:
                 self.run.lose(connection.down, "crash")
             self.run.end(connection, "crash")

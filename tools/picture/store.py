@@ -33,12 +33,12 @@ class Store:
         self.ended = {}                     # the tick at which each incarnation ended
         self.down = None                    # the span of the service's being down
 
-    def mark(self, lane, shape, label, tone, brief, detail=""):
+    def mark(self, lane, shape, labels, tone, detail=""):
         """A mark below those that the event has in the store's lane, joined to the lane that it comes from."""
         line = self.lines_of_event()
         if lane and not line:
             self.run.span("link", lane).last = self.run.number
-        self.run.mark(STORE, shape, label, tone, brief, detail, line)
+        self.run.mark(STORE, shape, labels, tone, detail, line)
 
     def lines_of_event(self):
         count = 0
@@ -66,7 +66,7 @@ class Store:
                 continue
             last = self.reserved[draw[1]] = draw[2] + RESERVED - 1
             values = f"{draw[2]}-{last}"
-            self.mark(lane, "comb", f"{draw[1]} {values}", "faint", values,
+            self.mark(lane, "comb", (f"{draw[1]} {values}", values), "faint",
                       f"sequence {draw[1]}: the values {values} are reserved")
 
     def commit(self, lane, session):
@@ -75,13 +75,13 @@ class Store:
         if entry not in self.entries:
             return False
         self.commits[tuple(session)] += 1
-        self.mark(lane, "disk", f"commit {words.identifier(entry)}", "ok", words.identifier(entry))
+        self.mark(lane, "disk", (f"commit {words.identifier(entry)}", words.identifier(entry)), "ok")
         return True
 
     def alert(self, lane, line):
         need(self.lines[line] > 0, f"event {self.run.number} stores one more alert line than the report tells")
         self.lines[line] -= 1
-        self.mark(lane, "flag", f"alert {words.value(line)}", "warn", words.value(line))
+        self.mark(lane, "flag", (f"alert {words.value(line)}", words.value(line)), "warn")
 
     def block(self, lane, asked, stands=True):
         """Whether a question stored the block of an identifier; a stopped one may have stored nothing."""
@@ -90,7 +90,7 @@ class Store:
         if asked not in self.blocks or asked in self.blocked or not stands:
             return False
         self.blocked.add(asked)
-        self.mark(lane, "lock", f"block {words.identifier(asked)}", "ask", words.identifier(asked))
+        self.mark(lane, "lock", (f"block {words.identifier(asked)}", words.identifier(asked)), "ask")
         return True
 
     # What a crash leaves.
@@ -116,7 +116,7 @@ class Store:
     def crash(self):
         """The service falls. Gives the line of its mark."""
         line = max(1, self.lines_of_event())
-        self.run.mark(STORE, "bolt", "CRASH", "bad", line=line)
+        self.run.mark(STORE, "bolt", ("CRASH",), "bad", line=line)
         if self.schedule[self.run.number - 1][0] == "failover":
             self.second = False
         self.ended[self.incarnation] = self.run.tick
@@ -125,13 +125,13 @@ class Store:
 
     def open(self, incarnation):
         self.down.last, self.incarnation = self.run.number, incarnation
-        self.mark(None, "open", f"opened, {incarnation}", "ok", f"open {incarnation}")
+        self.mark(None, "open", (f"opened, {incarnation}",), "ok")
         past = [one for one, tick in self.ended.items() if one and self.run.tick - tick > self.retention]
         wanted = 1 + max(past, default=-1)
         if not self.horizon < wanted <= self.forgotten:
             return ""
         self.horizon = wanted
-        self.mark(None, "horizon", f"forgets below {wanted}", "ask", f"below {wanted}",
+        self.mark(None, "horizon", (f"forgets below {wanted}", f"below {wanted}"), "ask",
                   f"outcomes of incarnations below {wanted} are forgotten")
         return f"; outcomes of incarnations below {wanted} are forgotten"
 

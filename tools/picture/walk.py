@@ -73,7 +73,7 @@ class Walk:
     def on_upcrash(self, none=None):
         if none:
             return "the server is up already"
-        self.run.mark(STORE, "bolt", "CRASH", "bad")
+        self.run.mark(STORE, "bolt", ("CRASH",), "bad")
         return self.run.bad("CRASH while the store was being opened")
 
     def on_tick(self):
@@ -84,7 +84,7 @@ class Walk:
         if first == "down":
             return "an outside session finds the server down"
         calls, session = self.schedule[self.run.number - 1][1], words.session(first)
-        self.run.mark(OUTSIDE, "square", f"session {session}", "call", session)
+        self.run.mark(OUTSIDE, "square", (f"session {session}", session), "call")
         said = []
         for call, (answers, draws) in zip(calls, runs):
             self.store.ran(OUTSIDE, first[:2], call, answers, draws)
@@ -93,10 +93,11 @@ class Walk:
         return f"outside session {session} runs {'; '.join(said)}{blocked}"
 
     def on_ask(self, asked, *result):
-        question = f"asked from outside for {words.identifier(asked)}:"
+        identifier = words.identifier(asked)
+        question = f"asked from outside for {identifier}:"
         if result[0] == "down":
             return f"{question} the server is down"
-        self.run.mark(OUTSIDE, "hexagon", f"asks {words.identifier(asked)}", "ask", words.identifier(asked))
+        self.run.mark(OUTSIDE, "hexagon", (f"asks {identifier}", identifier), "ask")
         blocks = result[0] == "uncommitted" and self.store.block(OUTSIDE, asked)
         return f"{question} {words.outcome(result)}{'; it is blocked from now on' if blocks else ''}"
 

@@ -2,8 +2,10 @@
 
 import copy
 import functools
+import itertools
 import json
 import os
+import re
 import sys
 import xml.etree.ElementTree as ElementTree
 
@@ -34,9 +36,9 @@ def followed(run):
 
 
 def drawn(run, **window):
-    """A page's text, and its elements."""
+    """A page's text, and its elements but the script."""
     text = page(run["document"], run["report"], **window)
-    return text, ElementTree.fromstring(text.replace("<!DOCTYPE html>", ""))
+    return text, ElementTree.fromstring(re.sub("<!DOCTYPE html>|(?s:<script>.*</script>)", "", text))
 
 
 def words_of(root):
@@ -51,3 +53,26 @@ def stretched(run, ticks):
     for item in run["report"]["served"]:
         item[1] *= ticks + 1
     return run
+
+
+def beside(run, clients):
+    """The same run by so many clients at once, each on a connection of its own. It has to be one without an outage."""
+    run, notes, at = copy.deepcopy(run), [], {}
+    for word, group in itertools.groupby(enumerate(run["report"]["notes"], 1), lambda one: one[1][0]):
+        group = list(group)
+        for client in range(1, 1 + (1 if word == "tick" else clients)):
+            for number, note in group:
+                notes.append([client if place in (1, 3) else part for place, part in enumerate(note)])
+                at[number, client] = len(notes)
+    report, clients = run["report"], range(1, clients + 1)
+    served = [[item[0], at[item[1], client], [1, client], *item[3:]] for item in report["served"] for client in clients]
+    run["document"]["clients"] *= len(clients)
+    report |= {"notes": notes, "served": sorted(served, key=lambda item: item[1]),
+               "entries": [entry | {"ltxid": [1, client, 0]} for entry in report["entries"] for client in clients],
+               "clients": [[one_client(request, client) for request in report["clients"][0]] for client in clients]}
+    return run
+
+
+def one_client(request, client):
+    calls = [[answers, draws, [1, client, number]] for answers, draws, (_, _, number) in request["calls"]]
+    return request | {"calls": calls}

@@ -73,7 +73,7 @@ class Follow(unittest.TestCase):
             ("a crash after the commit", "horizon", []),
         ):
             with self.subTest(run=name):
-                self.assertEqual([(mark.event, mark.label) for mark in followed(RUNS[name]).marks
+                self.assertEqual([(mark.event, mark.labels[0]) for mark in followed(RUNS[name]).marks
                                   if mark.shape == shape], marks)
 
     def test_what_a_crash_kept(self):
@@ -94,8 +94,8 @@ class Follow(unittest.TestCase):
                             ("a second transaction, static", ["[1,1,1]"]),
                             ("an outcome that is forgotten", ["[1,1,0]"])):
             with self.subTest(run=name):
-                self.assertEqual([mark.label for mark in followed(RUNS[name]).marks if mark.brief == "asks"],
-                                 [f"asks {one}" for one in asked])
+                marks = [mark.labels[0] for mark in followed(RUNS[name]).marks if mark.labels[-1:] == ("asks",)]
+                self.assertEqual(marks, [f"asks {one}" for one in asked])
 
     def test_slots_are_held_by_as_many_as_the_pool_has(self):
         run = followed(SHOP)

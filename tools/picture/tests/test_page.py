@@ -6,9 +6,9 @@ import os
 import re
 import unittest
 
-from runs import PICTURE, RUNS, SHOP, drawn, followed, of_each_run, stretched, words_of
+from runs import PICTURE, RUNS, SHOP, beside, drawn, followed, of_each_run, stretched, words_of
 
-from picture.layout import WIDE, Columns, Rows, arrange
+from picture.layout import PLANS, WIDE, Columns, arrange
 
 CHARACTER = 0.605       # a monospaced character's width, of its size
 
@@ -45,8 +45,8 @@ def collisions(root):
 
 def arranged(run):
     followed_run = followed(run)
-    rows = Rows(followed_run, len(run["document"].get("schedule", [])), 1, len(followed_run.events))
-    return followed_run, rows, arrange(followed_run, rows)
+    window = len(run["document"].get("schedule", [])), 1, len(followed_run.events)
+    return followed_run, *arrange(followed_run, window)
 
 
 class Page(unittest.TestCase):
@@ -69,8 +69,8 @@ class Page(unittest.TestCase):
         followed_run, _, columns = arranged(run)
         groups = [one.get("class") for one in drawn(run)[1].iter("g")]
         self.assertGreaterEqual(groups.count("frame"), len(followed_run.frames))
-        folded = sum(mark.label in ("waits", "idle") for mark in followed_run.marks) if columns.shared else 0
-        self.assertEqual(groups.count("mark"), len(followed_run.marks) - folded)
+        folded = [mark for mark in followed_run.marks if columns.plan.shared and mark.labels in (("waits",), ("idle",))]
+        self.assertEqual(groups.count("mark"), len(followed_run.marks) - len(folded))
 
     def test_what_the_runs_say(self):
         for name, said in {
@@ -105,16 +105,24 @@ class Page(unittest.TestCase):
         _, rows, columns = arranged(run)
         self.assertLessEqual(rows.width + columns.width, WIDE)
 
+    def test_many_clients_at_once(self):
+        for clients, width in ((8, 1450), (64, 8000)):
+            with self.subTest(clients=clients):
+                run = beside(RUNS["three calls without an outage"], clients)
+                _, rows, columns = arranged(run)
+                self.assertLessEqual(rows.width + columns.width, width)
+                self.assertEqual([], collisions(drawn(run)[1]))
+
     @of_each_run
-    def test_nothing_shares_a_lane_at_one_time(self, run):
+    def test_nothing_shares_a_column_at_one_time(self, run):
         followed_run, rows, _ = arranged(run)
-        columns, until = Columns(followed_run, rows, True, True, 9), {}
+        columns, until = Columns(followed_run, rows, PLANS[-1]), {}
         stays = [stay for lane in columns.stays.values() for stay in lane]
         for stay in sorted(stays, key=lambda one: one.first):
             self.assertLess(until.get(stay.column, 0), stay.first)
             until[stay.column] = stay.last
 
-    def test_a_shared_lane_names_its_client(self):
+    def test_a_shared_column_names_its_client(self):
         root = drawn(SHOP)[1]
         for client in range(1, 9):
             names = [text for text in root.iter("text") if text.text == f"client {client}"]
@@ -150,7 +158,7 @@ class Page(unittest.TestCase):
         root = drawn(run)[1]
         self.assertEqual([], collisions(root))
         self.assertIn("clients 3, 4, 5, 6, 7, 8, 9, 10, 11, 12, 13, ", words_of(root))
-        self.assertEqual(sum(lane[0] == "clients" for lane in arranged(run)[2].lanes), 1)
+        self.assertEqual(sum(column[0] == "clients" for column in arranged(run)[2].order), 1)
 
     def test_colours_can_be_read(self):
         """Text stands out by 4.5 or more from both grounds, light and dark."""
