@@ -2,9 +2,9 @@
 use Rattle.std.proofs.Common.{◌≡◌, ℕ, ◌+◌, ◌^◌, ◌<◌, ◌≤◌, zero, suc, List, [], ◌∷◌, ◌++◌, length, take, Some, None, inl, inr, refl, sym, ◌∙◌, ap, subst, arith, length-append, fold}
 use Rattle.std.specs.Prelude.{Bool, true, false, not, ◌&&◌, ◌||◌, nat_le, nat_lt, IsTrue, Result, Ok, Err, if◌then◌else◌}
 use Rattle.std.proofs.lemmas.Bool.{le-leb, lt-ltb}
-use Rattle.disk_model.specs.Moment.{Moment, MayLeave}
+use Rattle.disk_model.specs.Moment.{DiskMoment, MayLeave}
 use Rattle.disk_model.specs.Disk.{DiskState, Meanwhile, SameBytes, LeftSince, moment, IsSettled}
-use Rattle.disk_model.proofs.Moments.{stays, then as after_that, weaker, since, crash_now}
+use Rattle.disk_model.proofs.Offered.{stays, then as after_that, weaker, since, crash_now}
 use Rattle.redo_store.specs.Records.{records_of}
 use Rattle.commit_log.specs.declared.journal.Journal.{Journal}
 use Rattle.commit_log.specs.declared.base.Base.{Base}
@@ -131,7 +131,7 @@ opening_meanwhile s t u journal is_opened same begun room run =
     let one : Record = kept.Opened (journal.incarnation + 1) in
     let P : List ℕ → Type 0 = IsGrown s.now.seen (opening_of (journal_of s.now.seen)) in
     after_that s t u P (stays s t P same)
-    (weaker t u (IsOldOrWith t.now.seen one) P run (λ image stands. grown_by_opening s.now.seen journal is_opened begun room image (subst (λ (m : Moment). IsOldOrWith m.seen one image) same.now stands)))
+    (weaker t u (IsOldOrWith t.now.seen one) P run (λ image stands. grown_by_opening s.now.seen journal is_opened begun room image (subst (λ (m : DiskMoment). IsOldOrWith m.seen one image) same.now stands)))
 
 -- ---- from call to call
 

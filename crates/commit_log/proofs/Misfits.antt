@@ -3,6 +3,11 @@ use Rattle.std.proofs.Common.{◌≡◌, ℕ, Option, Some, None, refl, subst}
 use Rattle.std.specs.Prelude.{Result, Ok, Err, OnOk, IfSome, IfNone}
 use Rattle.redo_store.specs.declared.fault.RedoFault.{RedoFault}
 use Rattle.redo_store.specs.declared.fault.RedoFault.TheVariants as redo_fault
+use Rattle.redo_store.specs.declared.redo.Redo.{Redo}
+use Rattle.redo_store.specs.Redo.{CanAppend, GoesOn as StoreGoesOn}
+use Rattle.disk_model.specs.Disk.{DiskState}
+use Rattle.commit_log.specs.declared.log.Log.{Log}
+use Rattle.commit_log.specs.Logs.{CanLog, GoesOn}
 use Rattle.commit_log.specs.declared.judge.Misfit.{Misfit}
 use Rattle.commit_log.specs.declared.judge.Misfit.TheVariants as misfit
 
@@ -21,5 +26,19 @@ pub on_ok : {T E : Type 0} (r : Result T E) (P Q : Type 0) → (P → Q) → OnO
 on_ok (Ok v) P Q then met = then met
 on_ok (Err e) P Q then met = tt
 
-pub not_stopped : {T : Type 0} (r : Result T RedoFault) → r ≡ Err redo_fault.NoMemory → r ≡ Err redo_fault.Stopped → ⊥
-not_stopped r no_memory stopped = cc
+-- what a log says of going on, by what its store says
+pub log_goes_on : (r : Result (Unit {0}) RedoFault) (old : Redo) (log : Log) (disk : DiskState) → (CanAppend log.redo disk → CanLog log disk) → StoreGoesOn r old log.redo disk → GoesOn r log disk
+log_goes_on (Ok done) old log disk then met = then met
+log_goes_on (Err redo_fault.NoMemory) old log disk then met = then met
+log_goes_on (Err redo_fault.Stopped) old log disk then met = met.0
+log_goes_on (Err (redo_fault.Damaged place)) old log disk then met = met
+
+pub after_no_memory : (r : Result (Unit {0}) RedoFault) (old new : Redo) (disk : DiskState) → r ≡ Err redo_fault.NoMemory → StoreGoesOn r old new disk → CanAppend new disk
+after_no_memory r old new disk is met = subst (λ (a : Result (Unit {0}) RedoFault). StoreGoesOn a old new disk) is met
+
+pub not_damaged : (r : Result (Unit {0}) RedoFault) (old new : Redo) (disk : DiskState) (place : ℕ) → r ≡ Err (redo_fault.Damaged place) → StoreGoesOn r old new disk → ⊥
+not_damaged r old new disk place is met = subst (λ (a : Result (Unit {0}) RedoFault). StoreGoesOn a old new disk) is met
+
+-- what succeeded was no fault
+pub no_fault : {T : Type 0} (r : Result T RedoFault) (x : T) (fault : RedoFault) → r ≡ Ok x → r ≡ Err fault → ⊥
+no_fault r x fault is failed = cc

@@ -4,8 +4,7 @@ use Rattle.std.specs.Prelude.{Result, Ok, Err, option_and_then}
 use Rattle.redo_store.specs.declared.walk.Walk.{Walk}
 use Rattle.redo_store.specs.Records.{length_bytes, spelling_of, records_of, whole_records, whole_from, with_last}
 use Rattle.redo_store.specs.Walk.{HasRead}
-use Rattle.redo_store.proofs.Grammar.{length-length_bytes}
-use Rattle.redo_store.proofs.Whole.{whole_of_read}
+use Rattle.redo_store.proofs.Offered.{length-length_bytes, whole_of_read}
 use Rattle.commit_log.specs.declared.records.Record.{Record}
 use Rattle.commit_log.specs.RecordBytes.{spell_record, FitsRecord, record_at, record_again}
 use Rattle.commit_log.specs.Rules.{Progress, Empty, after}
@@ -89,7 +88,7 @@ damaged_record image done payload walk so_far place judges read misplaced at =
     let behind : List (List ℕ) = whole_from 0 (drop walk.place image) in
     let here : ℕ = 8 + length (spelling_of done) in
     let on : Progress → Result Progress ℕ = λ next. judged next (here + 9 + length payload) behind in
-    ap (λ (l : List (List ℕ)). with_gates (judged Empty 8 l) (records_of image)) (read.whole ∙ append_assoc done (payload ∷ []) behind)
+    ap (λ (l : List (List ℕ)). with_gates (judged Empty 8 l) (records_of image)) (read.stands.whole ∙ append_assoc done (payload ∷ []) behind)
     ∙ ap (λ (r : Result Progress ℕ). with_gates r (records_of image)) (judged-append Empty so_far 8 done (payload ∷ behind) judges ∙ ap (λ (o : Option Progress). if_next o here on) misplaced)
     ∙ ap (λ (n : ℕ). Err n) (sym at)
 

@@ -1,8 +1,8 @@
 //! The log: a store that is opened for commits.
-ghost use Rattle.std.specs.Prelude.{◌≡◌, ◌+◌, ◌<◌, ◌^◌, ◌⊎◌, [], ◌∷◌, ℕ, List, IsFalse, OnOk, IfOk, IsErrOf, Ok, Err};
-ghost use Rattle.disk_model.specs.Disk.{Meanwhile, LeftSince, moment, IsSettled, SameBytes, Lowered, Caused, OnlyReads};
+ghost use Rattle.std.specs.Prelude.{◌≡◌, ◌+◌, ◌<◌, ◌^◌, ◌⊎◌, [], ◌∷◌, ℕ, List, OnOk, IfOk, IsErrOf, Ok, Err};
+ghost use Rattle.disk_model.specs.Disk.{Meanwhile, IsSettled, SameBytes, Lowers, Caused, OnlyReads};
 ghost use Rattle.redo_store.specs.Records.{records_of};
-ghost use Rattle.redo_store.specs.Redo.{CanAppend, is_live as is_live_store};
+ghost use Rattle.redo_store.specs.Redo.{CanAppend, GoesOn as StoreGoesOn};
 ghost use Rattle.svc_values.specs.Identifiers.{IsLtxid};
 ghost use Rattle.canon_bytes.specs.Entries.{IsMadeEntry};
 ghost use Rattle.commit_log.specs.declared.journal.Journal.{Journal as Held};
@@ -56,9 +56,9 @@ impl Log {
         // For want of memory the disk is as it was, or holds a store without a record.
         ensures refused { IsErrOf result LogFault.NoMemory → (D.state disk.new ≡ D.state disk.old) ⊎ (records_of (D.state disk.new).now.seen ≡ Ok []) }
 
-        // It succeeds only with no stop or one of at least six, which it lowers by six.
-        ensures stop { OnOk result (Lowered 6 (D.state disk.old).stop (D.state disk.new).stop) }
-        ensures cause { Caused 6 (IsErrOf result LogFault.Stopped) (D.state disk.old) (D.state disk.new) }
+        // It succeeds only with no stop or one of at least six; with either a quiet disk has no fault.
+        ensures stop { Lowers 6 result (D.state disk.old).stop (D.state disk.new).stop }
+        ensures cause { Caused (IsErrOf result LogFault.Stopped) (D.state disk.old) (D.state disk.new) }
         ensures whole { (place : ℕ) → IsErrOf result (LogFault.Damaged place) → ⊥ }
     {
         let Ok(payload) = payload_of(alloc, Adding::Base(base)) else {
@@ -101,18 +101,13 @@ impl Log {
         // For want of memory the journal is as it was, and nothing is pending.
         ensures refused { IsErrOf result LogFault.NoMemory → (journal_of (D.state disk.new).now.seen ≡ journal_of (D.state disk.old).now.seen) × IsSettled (D.state disk.new) }
 
-        // Whatever it answers, a read then gives the old journal, or this journal with the opening.
-        ensures stands { let old = (D.state disk.old).now.seen in IsGrown old (opening_of (journal_of old)) (D.state disk.new).now.seen }
-
-        // A crash at any moment of the call leaves the old journal, or this journal with the opening.
+        // A crash at any moment of the call leaves the old journal, or this journal with the opening. That the same is so
+        // of the time since it began, and of what a read gives when it has ended, is `disk_model::laws::leaves`.
         ensures any_moment { let old = (D.state disk.old).now.seen in Meanwhile (D.state disk.old) (D.state disk.new) (IsGrown old (opening_of (journal_of old))) }
 
-        // The same, said of the time since the call began.
-        ensures since { let old = (D.state disk.old).now.seen in (image : List ℕ) → LeftSince (D.state disk.new) (moment (D.state disk.old)) image → IsGrown old (opening_of (journal_of old)) image }
-
-        // It succeeds only with no stop or one of at least four, which it lowers by four.
-        ensures stop { OnOk result (Lowered 4 (D.state disk.old).stop (D.state disk.new).stop) }
-        ensures cause { Caused 4 (IsErrOf result LogFault.Stopped) (D.state disk.old) (D.state disk.new) }
+        // It succeeds only with no stop or one of at least four; with either a quiet disk has no fault.
+        ensures stop { Lowers 4 result (D.state disk.old).stop (D.state disk.new).stop }
+        ensures cause { Caused (IsErrOf result LogFault.Stopped) (D.state disk.old) (D.state disk.new) }
     {
         let (redo, judge) = judge_all(alloc, disk)?;
         let mut journal = judge.into_journal();
@@ -131,7 +126,7 @@ impl Log {
         requires ready { CanLog self.old (D.state disk.old) }
         requires made { IsMadeEntry entry.now }
         requires may { MayAdd (D.state disk.old) (kept.Commit entry.now) }
-        ensures { Adds result self.old self.new (D.state disk.old) (D.state disk.new) (kept.Commit entry.now) }
+        ensures { Adds result self.new (D.state disk.old) (D.state disk.new) (kept.Commit entry.now) }
     {
         self.add(disk, Adding::Commit(entry))
     }
@@ -144,7 +139,7 @@ impl Log {
         requires ready { CanLog self.old (D.state disk.old) }
         requires made { IsLtxid x.now }
         requires may { MayAdd (D.state disk.old) (kept.Blocked x.now) }
-        ensures { Adds result self.old self.new (D.state disk.old) (D.state disk.new) (kept.Blocked x.now) }
+        ensures { Adds result self.new (D.state disk.old) (D.state disk.new) (kept.Blocked x.now) }
     {
         self.add(disk, Adding::Blocked(x))
     }
@@ -156,7 +151,7 @@ impl Log {
     pub fn reserve<D: Disk>(&mut self, disk: &mut D, name: &Name, upto: i64) -> Result<(), LogFault>
         requires ready { CanLog self.old (D.state disk.old) }
         requires may { MayAdd (D.state disk.old) (kept.Reserved (record { name = name.now; upto = upto })) }
-        ensures { Adds result self.old self.new (D.state disk.old) (D.state disk.new) (kept.Reserved (record { name = name.now; upto = upto })) }
+        ensures { Adds result self.new (D.state disk.old) (D.state disk.new) (kept.Reserved (record { name = name.now; upto = upto })) }
     {
         self.add(disk, Adding::Reserved(name, upto))
     }
@@ -167,7 +162,7 @@ impl Log {
     pub fn alert<D: Disk>(&mut self, disk: &mut D, line: &Text) -> Result<(), LogFault>
         requires ready { CanLog self.old (D.state disk.old) }
         requires may { MayAdd (D.state disk.old) (kept.Alert line.now) }
-        ensures { Adds result self.old self.new (D.state disk.old) (D.state disk.new) (kept.Alert line.now) }
+        ensures { Adds result self.new (D.state disk.old) (D.state disk.new) (kept.Alert line.now) }
     {
         self.add(disk, Adding::Alert(line))
     }
@@ -177,7 +172,7 @@ impl Log {
         requires ready { CanLog self.old (D.state disk.old) }
         requires made { IsMadeRecord (record_in adding) }
         requires may { MayAdd (D.state disk.old) (record_in adding) }
-        ensures { Adds result self.old self.new (D.state disk.old) (D.state disk.new) (record_in adding.entry) }
+        ensures { Adds result self.new (D.state disk.old) (D.state disk.new) (record_in adding.entry) }
     {
         self.put(disk, adding)
     }
@@ -188,13 +183,10 @@ impl Log {
         requires made { IsMadeRecord (record_in adding) }
         ensures added { OnOk result (HasAlso (D.state disk.old).now.seen (record_in adding.entry) (D.state disk.new).now.seen) }
         ensures refused { IsErrOf result LogFault.NoMemory → records_of (D.state disk.new).now.seen ≡ records_of (D.state disk.old).now.seen }
-        ensures stands { IsOldOrWith (D.state disk.old).now.seen (record_in adding.entry) (D.state disk.new).now.seen }
-        ensures ready { (IsErrOf result LogFault.Stopped → ⊥) → CanAppend self.new.redo (D.state disk.new) }
-        ensures stopped { IsErrOf result LogFault.Stopped → IsFalse (is_live_store self.new.redo) }
         ensures any_moment { Meanwhile (D.state disk.old) (D.state disk.new) (IsOldOrWith (D.state disk.old).now.seen (record_in adding.entry)) }
-        ensures stop { OnOk result (Lowered 4 (D.state disk.old).stop (D.state disk.new).stop) }
-        ensures cause { Caused 4 (IsErrOf result LogFault.Stopped) (D.state disk.old) (D.state disk.new) }
-        ensures whole { (place : ℕ) → IsErrOf result (LogFault.Damaged place) → ⊥ }
+        ensures goes_on { StoreGoesOn result self.old.redo self.new.redo (D.state disk.new) }
+        ensures stop { Lowers 4 result (D.state disk.old).stop (D.state disk.new).stop }
+        ensures cause { Caused (IsErrOf result LogFault.Stopped) (D.state disk.old) (D.state disk.new) }
     {
         let Ok(payload) = payload_of(self.alloc, adding) else {
             return Err(LogFault::NoMemory);

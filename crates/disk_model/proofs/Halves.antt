@@ -3,8 +3,9 @@ use Rattle.std.proofs.Common.{◌≡◌, ◌⊎◌, ℕ, ◌+◌, ◌-◌, ◌<�
 use Rattle.std.proofs.lemmas.List.{get_or_append_left, get_or-append_right, get_or_past, length-take-le}
 use Rattle.std.proofs.lemmas.Bool.{cases_lt}
 use Rattle.disk_model.specs.declared.written.Written.{Written}
-use Rattle.disk_model.specs.Log.{bytes_before, Covers}
-use Rattle.disk_model.specs.Kept.{length-bytes_before, bytes_before_front, bytes_before_back}
+use Rattle.disk_model.specs.Log.{bytes_before}
+use Rattle.disk_model.specs.InnerLog.{Covers}
+use Rattle.disk_model.specs.InnerKept.{length-bytes_before, bytes_before_front, bytes_before_back}
 
 from_covered : (at n : ℕ) (covered after : List ℕ) (k : ℕ) → at + n ≤ length after → at ≤ k → k - at < length covered → get_or (take at after ++ covered ++ drop (at + n) after) k 0 ≡ get_or covered (k - at) 0
 from_covered at n covered after k le ge lt =

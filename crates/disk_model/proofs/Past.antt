@@ -4,11 +4,12 @@ use Rattle.std.specs.Prelude.{if◌then◌else◌}
 use Rattle.std.proofs.lemmas.Grind.{same_number_lists}
 use Rattle.std.proofs.lemmas.Bool.{cases_Bool}
 use Rattle.disk_model.specs.declared.written.Written.{Written}
-use Rattle.disk_model.specs.Moment.{Moment, MayLeave, next_moment}
-use Rattle.disk_model.specs.Kept.{torn_step}
-use Rattle.disk_model.specs.Log.{bytes_before, first_bytes, synced_of, ranges_of, past_of, now_of, synced_write, with_sync, Covers, IsLog, Logged}
+use Rattle.disk_model.specs.Moment.{DiskMoment, MayLeave, next_moment}
+use Rattle.disk_model.specs.InnerKept.{torn_step}
+use Rattle.disk_model.specs.Log.{bytes_before, first_bytes, synced_of, ranges_of, past_of, now_of}
+use Rattle.disk_model.specs.InnerLog.{synced_write, with_sync, Covers, IsLog, Logged}
 
-abbrev pub at_moment : List ℕ → List (ℕ × ℕ) → List ℕ → Moment
+abbrev pub at_moment : List ℕ → List (ℕ × ℕ) → List ℕ → DiskMoment
 at_moment synced ranges seen = record { seen = seen; synced = synced; written = ranges }
 
 same_image : (bytes image : List ℕ) → MayLeave (at_moment bytes [] bytes) image → image ≡ bytes
@@ -35,13 +36,13 @@ module _ (w : Written) (old new : List ℕ) (undoes : bytes_before w new ≡ old
     past_push [] synced ranges = rw (pending, undoes) refl
     past_push (x ∷ log) synced ranges =
         let later : List (ℕ × ℕ) = if x.synced then [] else (x.at, x.len) ∷ ranges in
-        let before : List ℕ → Moment = λ b. at_moment synced ranges (bytes_before x b) in
-        let between : List ℕ → List Moment = λ b. if x.synced then at_moment synced ((x.at, x.len) ∷ ranges) b ∷ [] else [] in
+        let before : List ℕ → DiskMoment = λ b. at_moment synced ranges (bytes_before x b) in
+        let between : List ℕ → List DiskMoment = λ b. if x.synced then at_moment synced ((x.at, x.len) ∷ ranges) b ∷ [] else [] in
         let here = first_bytes log old in
         let next = if x.synced then here else synced in
         ap (λ (b : List ℕ). before b ∷ (between b ++ past_of (if x.synced then b else synced) later (log ++ w ∷ []) new)) (first_bytes-push log)
-        ∙ ap (λ (l : List Moment). before here ∷ (between here ++ l)) (past_push log next later)
-        ∙ ap (λ (l : List Moment). before here ∷ l) (sym (append_assoc (between here) (past_of next later log old) (at_moment (synced_of next log old) (ranges_of later log) old ∷ [])))
+        ∙ ap (λ (l : List DiskMoment). before here ∷ (between here ++ l)) (past_push log next later)
+        ∙ ap (λ (l : List DiskMoment). before here ∷ l) (sym (append_assoc (between here) (past_of next later log old) (at_moment (synced_of next log old) (ranges_of later log) old ∷ [])))
 
   pub log_push : Covers w new → (log : List Written) → IsLog log old → IsLog (log ++ w ∷ []) new
   log_push covers [] fits = (covers, tt)
@@ -98,14 +99,14 @@ past-with_sync : (synced : List ℕ) (ranges : List (ℕ × ℕ)) (w : Written) 
 past-with_sync synced ranges w [] bytes = ⊎_elim (λ e. inr (ap (λ (x : Written). x ∷ []) (same_synced_write w e))) (λ e. inl (past-synced_write synced ranges w bytes e)) (cases_Bool w.synced)
 past-with_sync synced ranges w (x ∷ log) bytes =
     let later : List (ℕ × ℕ) = if w.synced then [] else (w.at, w.len) ∷ ranges in
-    let before : List ℕ → Moment = λ b. at_moment synced ranges (bytes_before w b) in
-    let between : List ℕ → List Moment = λ b. if w.synced then at_moment synced ((w.at, w.len) ∷ ranges) b ∷ [] else [] in
+    let before : List ℕ → DiskMoment = λ b. at_moment synced ranges (bytes_before w b) in
+    let between : List ℕ → List DiskMoment = λ b. if w.synced then at_moment synced ((w.at, w.len) ∷ ranges) b ∷ [] else [] in
     let here = first_bytes (x ∷ log) bytes in
     let next = if w.synced then here else synced in
     ⊎_elim
     (λ e. inl (ap (λ (b : List ℕ). before b ∷ (between b ++ past_of (if w.synced then b else synced) later (with_sync (x ∷ log)) bytes)) (first_bytes-with_sync (x ∷ log) bytes)
-    ∙ ap (λ (l : List Moment). before here ∷ (between here ++ l)) e
-    ∙ ap (λ (l : List Moment). before here ∷ l) (sym (append_assoc (between here) (past_of next later (x ∷ log) bytes) (at_moment (synced_of next (x ∷ log) bytes) (ranges_of later (x ∷ log)) bytes ∷ [])))))
+    ∙ ap (λ (l : List DiskMoment). before here ∷ (between here ++ l)) e
+    ∙ ap (λ (l : List DiskMoment). before here ∷ l) (sym (append_assoc (between here) (past_of next later (x ∷ log) bytes) (at_moment (synced_of next (x ∷ log) bytes) (ranges_of later (x ∷ log)) bytes ∷ [])))))
     (λ e. inr (ap (λ (l : List Written). w ∷ l) e))
     (past-with_sync next later x log bytes)
 

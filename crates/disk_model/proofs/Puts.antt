@@ -4,7 +4,7 @@ use Rattle.std.proofs.lemmas.List.{take_at, drop_at, take_all, drop_all, append-
 use Rattle.std.proofs.lemmas.Bool.{cases_lt}
 use Rattle.disk_model.specs.Moment.{with_bytes}
 use Rattle.disk_model.specs.declared.written.Written.{Written}
-use Rattle.disk_model.specs.Log.{Logged}
+use Rattle.disk_model.specs.InnerLog.{Logged}
 use Rattle.disk_model.proofs.Writes.{length-with_bytes}
 
 module _ (at overlap : ℕ) (new old : List ℕ) (within : at ≤ length old) (is : overlap ≡ min (length new) (length old - at)) where

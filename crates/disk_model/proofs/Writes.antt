@@ -4,9 +4,9 @@ use Rattle.std.specs.Prelude.{Result, Ok, Err, OnOk, OnErr}
 use Rattle.std.proofs.lemmas.List.{get_or-take, get_or-drop}
 use Rattle.std.proofs.lemmas.Grind.{common_steps, same_number_lists}
 use Rattle.std.proofs.lemmas.Bool.{cases_eq}
-use Rattle.disk_model.specs.Moment.{Moment, MayLeave, Torn, InRanges, next_moment, with_bytes}
+use Rattle.disk_model.specs.Moment.{DiskMoment, MayLeave, Torn, InRanges, next_moment, with_bytes}
 use Rattle.disk_model.specs.Disk.{DiskState, IsSettled}
-use Rattle.disk_model.specs.Kept.{cases_outside}
+use Rattle.disk_model.specs.InnerKept.{cases_outside}
 
 pub length-with_bytes : (at : ℕ) (bytes old : List ℕ) → at ≤ length old → length (with_bytes at bytes old) ≡ max (length old) (at + length bytes)
 length-with_bytes at bytes old le = grind (arith, common_steps)
@@ -25,11 +25,11 @@ torn_with_bytes at bytes old le = record {
 }
 
 -- with nothing pending, what was synced is what a read gives
-same_synced : (m : Moment) → ((image : List ℕ) → MayLeave m image → image ≡ m.seen) → MayLeave m m.seen → m.synced ≡ m.seen
+same_synced : (m : DiskMoment) → ((image : List ℕ) → MayLeave m image → image ≡ m.seen) → MayLeave m m.seen → m.synced ≡ m.seen
 same_synced m settled reads = settled m.synced record { no_shorter = omega arith; no_longer = reads.no_shorter; same = λ k lt out. refl }
 
 -- the disk with one byte of another image
-one_byte : (m : Moment) (at n : ℕ) (seen image : List ℕ) (k : ℕ) → m.synced ≡ m.seen → MayLeave (next_moment at n seen m) image → k < length m.seen → ((at ≤ k) × (k < at + n) → ⊥) → MayLeave m (set m.seen k (get_or image k 0))
+one_byte : (m : DiskMoment) (at n : ℕ) (seen image : List ℕ) (k : ℕ) → m.synced ≡ m.seen → MayLeave (next_moment at n seen m) image → k < length m.seen → ((at ≤ k) × (k < at + n) → ⊥) → MayLeave m (set m.seen k (get_or image k 0))
 one_byte m at n seen image k e left lt out = record {
   no_shorter = omega (arith, ap length e, length-set m.seen k (get_or image k 0));
   no_longer = omega (arith, length-set m.seen k (get_or image k 0));

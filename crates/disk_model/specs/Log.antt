@@ -1,8 +1,7 @@
--- What a disk in memory keeps of its writes, and the moments that it stands for. A log has its first write first.
-use Rattle.std.specs.Prelude.{◌≡◌, ℕ, ◌+◌, ◌<◌, ◌≤◌, Bool, true, false, if◌then◌else◌, List, [], ◌∷◌, ◌++◌, length, take, drop}
-use Rattle.std.proofs.Props.{props}
+-- The moments that a disk in memory stands for, by what it keeps of its writes. A log has its first write first.
+use Rattle.std.specs.Prelude.{ℕ, ◌+◌, Bool, true, false, if◌then◌else◌, List, [], ◌∷◌, ◌++◌, take, drop}
 use Rattle.disk_model.specs.declared.written.Written.{Written}
-use Rattle.disk_model.specs.Moment.{Moment}
+use Rattle.disk_model.specs.Moment.{DiskMoment}
 
 -- the bytes before a write, from those after it
 abbrev pub bytes_before : Written → List ℕ → List ℕ
@@ -22,7 +21,7 @@ abbrev pub ranges_after : Written → List (ℕ × ℕ) → List (ℕ × ℕ)
 ranges_after w ranges = if w.synced then [] else (w.at, w.len) ∷ ranges
 
 -- the moment between a write and the sync that followed it, if one did
-abbrev pub before_sync : Written → List ℕ → List (ℕ × ℕ) → List ℕ → List Moment
+abbrev pub before_sync : Written → List ℕ → List (ℕ × ℕ) → List ℕ → List DiskMoment
 before_sync w synced ranges after = if w.synced then record { seen = after; synced = synced; written = (w.at, w.len) ∷ ranges } ∷ [] else []
 
 -- what was synced last, where `synced` was before these writes
@@ -36,7 +35,7 @@ ranges_of ranges [] = ranges
 ranges_of ranges (w ∷ log) = ranges_of (ranges_after w ranges) log
 
 -- each moment but the last: one before each write, and one before each sync
-abbrev pub past_of : List ℕ → List (ℕ × ℕ) → List Written → List ℕ → List Moment
+abbrev pub past_of : List ℕ → List (ℕ × ℕ) → List Written → List ℕ → List DiskMoment
 past_of synced ranges [] bytes = []
 past_of synced ranges (w ∷ log) bytes =
     record { seen = first_bytes (w ∷ log) bytes; synced = synced; written = ranges }
@@ -44,43 +43,8 @@ past_of synced ranges (w ∷ log) bytes =
     ++ past_of (synced_after w synced (first_bytes log bytes)) (ranges_after w ranges) log bytes)
 
 -- the last moment; the bytes before the first write count as synced
-abbrev pub now_of : List Written → List ℕ → Moment
+abbrev pub now_of : List Written → List ℕ → DiskMoment
 now_of log bytes = record { seen = bytes; synced = synced_of (first_bytes log bytes) log bytes; written = ranges_of [] log }
-
--- a write within the bytes after it, which kept what it covered: less than its length only where it ended past the end
-pub record Covers (w : Written) (after : List ℕ) : Type 0 where
-  pub within : w.at + w.len ≤ length after
-  pub covered : length w.covered.items ≤ w.len
-  pub at_end : length w.covered.items < w.len → w.at + w.len ≡ length after
-
--- each write of the log kept what it covered
-abbrev pub IsLog : List Written → List ℕ → Type 0
-IsLog [] bytes = Unit {0}
-IsLog (w ∷ log) bytes = Covers w (first_bytes log bytes) × IsLog log bytes
-
-pub is_prop_log : (log : List Written) (bytes : List ℕ) → IsProp (IsLog log bytes)
-is_prop_log [] bytes = hlevel props
-is_prop_log (w ∷ log) bytes = hlevel (props, is_prop_log log bytes)
-
--- the log has one write more, of n bytes at this offset, by which the old bytes became the new ones
-pub record Logged (at n : ℕ) (old new : List ℕ) (log later : List Written) : Type 0 where
-  pub entry : Written
-  pub one_more : later ≡ log ++ entry ∷ []
-  pub offset : entry.at ≡ at
-  pub size : entry.len ≡ n
-  pub pending : entry.synced ≡ false
-  pub undoes : bytes_before entry new ≡ old
-  pub covers : Covers entry new
-
--- a write that a sync followed
-abbrev pub synced_write : Written → Written
-synced_write w = record w { synced = true }
-
--- the log with a sync behind its last write
-abbrev pub with_sync : List Written → List Written
-with_sync [] = []
-with_sync (w ∷ []) = synced_write w ∷ []
-with_sync (w ∷ x ∷ log) = w ∷ with_sync (x ∷ log)
 
 -- there are none
 abbrev pub is_nil : List ℕ → Bool

@@ -1,7 +1,8 @@
 //! The images that a disk in memory leaves where it crashes, one for each pick.
 ghost use Rattle.std.specs.Prelude.{◌≡◌, ◌<◌, []};
 ghost use Rattle.disk_model.specs.Moment.{MayLeave};
-ghost use Rattle.disk_model.specs.Log.{IsLog, now_of};
+ghost use Rattle.disk_model.specs.Log.{now_of};
+ghost use Rattle.disk_model.specs.InnerLog.{IsLog};
 ghost use Rattle.disk_model.specs.Picks.{IsHalfNew, IsOnes, IsPicked};
 
 use crate::written::{Written, fill_ones, undo, undo_odd};

@@ -1,7 +1,7 @@
 //! What a user of a disk may rely on.
 ghost use Rattle.std.specs.Prelude.{◌≡◌, ◌+◌, ◌^◌, ◌≤◌, ◌<◌, List, ℕ, Some, None, length, take, drop, OnOk, OnErr, IsErrOf};
 ghost use Rattle.disk_model.specs.Moment.{MayLeave, with_bytes, Torn, next_moment};
-ghost use Rattle.disk_model.specs.Disk.{DiskState, Meanwhile, IsSettled, Lowered, Caused, OnlyReads};
+ghost use Rattle.disk_model.specs.Disk.{DiskState, Meanwhile, IsSettled, Lowers, Caused, OnlyReads};
 
 use thiserror::Error;
 
@@ -52,11 +52,10 @@ pub trait Disk {
             → MayLeave (next_moment at (length bytes.now) (state self.new).now.seen (state self.old).now) image }
         ensures time { Meanwhile (state self.old) (state self.new) (MayLeave (state self.new).now) }
 
-        // Where it succeeds it lowers a set stop by one, and at the stop 0 it fails.
-        ensures stop { OnOk result (Lowered 1 (state self.old).stop (state self.new).stop) }
-        ensures stop_err { OnErr result ((state self.new).stop ≡ (state self.old).stop) }
+        // Where it succeeds it lowers a set stop by one, and else it leaves it. At the stop 0 it fails.
+        ensures stop { Lowers 1 result (state self.old).stop (state self.new).stop }
         ensures stopped { (state self.old).stop ≡ Some 0 → IsErrOf result DiskFault.Failed }
-        ensures cause { Caused 1 (IsErrOf result DiskFault.Failed) (state self.old) (state self.new) };
+        ensures cause { Caused (IsErrOf result DiskFault.Failed) (state self.old) (state self.new) };
 
     /// Makes what a read gives durable: after it a crash leaves exactly that.
     ///
@@ -68,11 +67,10 @@ pub trait Disk {
         ensures crash { OnErr result ((image : List ℕ) → MayLeave (state self.new).now image → MayLeave (state self.old).now image) }
         ensures time { Meanwhile (state self.old) (state self.new) (MayLeave (state self.new).now) }
 
-        // Where it succeeds it lowers a set stop by one, and at the stop 0 it fails.
-        ensures stop { OnOk result (Lowered 1 (state self.old).stop (state self.new).stop) }
-        ensures stop_err { OnErr result ((state self.new).stop ≡ (state self.old).stop) }
+        // Where it succeeds it lowers a set stop by one, and else it leaves it. At the stop 0 it fails.
+        ensures stop { Lowers 1 result (state self.old).stop (state self.new).stop }
         ensures stopped { (state self.old).stop ≡ Some 0 → IsErrOf result DiskFault.Failed }
-        ensures cause { Caused 1 (IsErrOf result DiskFault.Failed) (state self.old) (state self.new) };
+        ensures cause { Caused (IsErrOf result DiskFault.Failed) (state self.old) (state self.new) };
 
     /// No disk has more than 2^62 bytes: a write that would need more finds no memory.
     ghost bounded: { (disk : Self) → length (state disk).now.seen ≤ 2 ^ 62 };

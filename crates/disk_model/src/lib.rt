@@ -7,9 +7,8 @@
 
 mod crash;
 mod disk;
+pub mod laws;
 mod mem;
-#[cfg(test)]
-mod tests;
 mod written;
 
 pub use disk::{Disk, DiskFault, StopDisk};

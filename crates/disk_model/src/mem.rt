@@ -1,8 +1,9 @@
 //! A disk in memory. It keeps what each write covered, so that each moment since it was made can be read off it.
 ghost use Rattle.std.specs.Prelude.{◌≡◌, ◌+◌, ◌-◌, ◌^◌, ◌<◌, ◌≤◌, ◌⊎◌, ◌↔◌, List, [], ℕ, Some, None, length, take, drop, min, OnOk, OnErr, IfOk, IsErrOf, IsTrue, IsFalse, Contains};
 ghost use Rattle.disk_model.specs.Moment.{MayLeave, Torn, with_bytes, next_moment};
-ghost use Rattle.disk_model.specs.Disk.{HasRisen, Allows, Lowered, IsSettled, SameBytes, Meanwhile, Caused, OnlyReads, new_disk};
-ghost use Rattle.disk_model.specs.Log.{IsLog, is_prop_log, is_nil};
+ghost use Rattle.disk_model.specs.Disk.{Lowered, Lowers, IsSettled, SameBytes, Meanwhile, Caused, OnlyReads, new_disk, with_fault};
+ghost use Rattle.disk_model.specs.Log.{is_nil};
+ghost use Rattle.disk_model.specs.InnerLog.{IsLog, is_prop_log};
 ghost use Rattle.disk_model.specs.Picks.{IsPicked};
 
 use crate::crash::tear;
@@ -97,11 +98,10 @@ impl MemDisk {
 fn has_fault(calls: &mut u64, faults: &mut u64, failing: &[u64], stop: Option<u64>) -> bool
     ensures counted { calls.new ≡ min (calls.old + 1) (2 ^ 64 - 1) }
     ensures fails { IsTrue result ↔ ((stop ≡ Some 0) ⊎ Contains failing.now calls.new) }
-    ensures risen { IsTrue result → HasRisen faults.old faults.new }
-    ensures later { faults.old ≤ faults.new }
-    ensures none { IsFalse result → faults.new ≡ faults.old }
+    ensures risen { IsTrue result → faults.new ≡ with_fault faults.old }
+    ensures same { IsFalse result → faults.new ≡ faults.old }
     ensures stopped { stop ≡ Some 0 → IsTrue result }
-    ensures quiet { IsTrue (is_nil failing.now) → Allows 1 stop → IsFalse result }
+    ensures quiet { IsTrue (is_nil failing.now) → IsTrue result → stop ≡ Some 0 }
 {
     if *calls < u64::MAX {
         *calls += 1;
@@ -127,7 +127,7 @@ fn lower(stop: &mut Option<u64>)
 
 impl Disk for MemDisk {
     ghost use Rattle.disk_model.specs.Mem.{mem_state, IsCounted, FailsNext};
-    ghost use Rattle.disk_model.specs.Kept.{reads_now_of};
+    ghost use Rattle.disk_model.specs.InnerKept.{reads_now_of};
 
     ghost state = { mem_state };
 
@@ -168,10 +168,9 @@ impl Disk for MemDisk {
         ensures crash { (image : List ℕ) → MayLeave (mem_state self.new).now image
             → MayLeave (next_moment at (length bytes.now) (mem_state self.new).now.seen (mem_state self.old).now) image }
         ensures time { Meanwhile (mem_state self.old) (mem_state self.new) (MayLeave (mem_state self.new).now) }
-        ensures stop { OnOk result (Lowered 1 (mem_state self.old).stop (mem_state self.new).stop) }
-        ensures stop_err { OnErr result ((mem_state self.new).stop ≡ (mem_state self.old).stop) }
+        ensures stop { Lowers 1 result (mem_state self.old).stop (mem_state self.new).stop }
         ensures stopped { (mem_state self.old).stop ≡ Some 0 → IsErrOf result DiskFault.Failed }
-        ensures cause { Caused 1 (IsErrOf result DiskFault.Failed) (mem_state self.old) (mem_state self.new) }
+        ensures cause { Caused (IsErrOf result DiskFault.Failed) (mem_state self.old) (mem_state self.new) }
         ensures counted { IsCounted self.old self.new }
         ensures fails { IsErrOf result DiskFault.Failed ↔ FailsNext self.old }
     {
@@ -198,10 +197,9 @@ impl Disk for MemDisk {
         ensures failed { OnErr result (IsErrOf result DiskFault.Failed) }
         ensures crash { OnErr result ((image : List ℕ) → MayLeave (mem_state self.new).now image → MayLeave (mem_state self.old).now image) }
         ensures time { Meanwhile (mem_state self.old) (mem_state self.new) (MayLeave (mem_state self.new).now) }
-        ensures stop { OnOk result (Lowered 1 (mem_state self.old).stop (mem_state self.new).stop) }
-        ensures stop_err { OnErr result ((mem_state self.new).stop ≡ (mem_state self.old).stop) }
+        ensures stop { Lowers 1 result (mem_state self.old).stop (mem_state self.new).stop }
         ensures stopped { (mem_state self.old).stop ≡ Some 0 → IsErrOf result DiskFault.Failed }
-        ensures cause { Caused 1 (IsErrOf result DiskFault.Failed) (mem_state self.old) (mem_state self.new) }
+        ensures cause { Caused (IsErrOf result DiskFault.Failed) (mem_state self.old) (mem_state self.new) }
         ensures counted { IsCounted self.old self.new }
         ensures fails { IsErrOf result DiskFault.Failed ↔ FailsNext self.old }
     {

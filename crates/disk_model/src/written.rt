@@ -1,7 +1,8 @@
 //! The writes that a disk in memory keeps, each with the bytes that it covered, so that it can be undone.
 ghost use Rattle.std.specs.Prelude.{◌≡◌, ◌+◌, ◌-◌, ◌%◌, ◌^◌, ◌≤◌, ◌<◌, ℕ, length, OnOk, OnErr, slice_index};
 ghost use Rattle.disk_model.specs.Moment.{with_bytes};
-ghost use Rattle.disk_model.specs.Log.{bytes_before, with_sync, Covers, Logged};
+ghost use Rattle.disk_model.specs.Log.{bytes_before};
+ghost use Rattle.disk_model.specs.InnerLog.{with_sync, Covers, Logged};
 
 use std::alloc::{AllocError, Global};
 use std::cmp::min;

@@ -1,11 +1,10 @@
 -- The two writes of an append, as what a crash meanwhile leaves of the records.
-use Rattle.std.proofs.Common.{◌≡◌, ◌⊎◌, ℕ, ◌+◌, ◌^◌, ◌<◌, List, [], ◌∷◌, ◌++◌, length, inl, inr, refl, sym, ap, subst}
-use Rattle.disk_model.specs.Moment.{MayLeave, Torn, with_bytes}
-use Rattle.disk_model.specs.Disk.{DiskState, Meanwhile, LeftSince, moment, IsSettled}
+use Rattle.std.proofs.Common.{◌≡◌, ◌⊎◌, ℕ, ◌+◌, ◌^◌, ◌<◌, List, [], ◌∷◌, ◌++◌, length, inl, inr, refl, sym, subst}
+use Rattle.disk_model.specs.Moment.{Torn, with_bytes}
+use Rattle.disk_model.specs.Disk.{DiskState, Meanwhile}
 use Rattle.disk_model.specs.declared.disk.DiskFault.{DiskFault}
 use Rattle.disk_model.specs.declared.disk.DiskFault.TheVariants.{Failed, NoMemory}
-use Rattle.disk_model.proofs.Moments.{then, weaker, since, crash_now}
-use Rattle.disk_model.proofs.Writes.{torn_with_bytes}
+use Rattle.disk_model.proofs.Offered.{then, weaker, torn_with_bytes}
 use Rattle.redo_store.specs.Records.{length_bytes, records_of}
 use Rattle.redo_store.specs.Store.{IsStore, IsOldOrNew}
 use Rattle.redo_store.proofs.Gates.{tail_within, same_records, behind_gate, old_or_new}
@@ -13,14 +12,6 @@ use Rattle.redo_store.proofs.Gates.{tail_within, same_records, behind_gate, old_
 pub fault_cases : (fault : DiskFault) → (fault ≡ Failed) ⊎ (fault ≡ NoMemory)
 fault_cases Failed = inl refl
 fault_cases NoMemory = inr refl
-
--- a crash since the start of a call on a disk with nothing pending
-pub old_or_new_since : (s u : DiskState) (payload : List ℕ) → IsSettled s → Meanwhile s u (IsOldOrNew s.now.seen payload) → (image : List ℕ) → LeftSince u (moment s) image → IsOldOrNew s.now.seen payload image
-old_or_new_since s u payload settled run image left = since s u (IsOldOrNew s.now.seen payload) run (λ i now. inl (ap records_of (settled i now))) image left
-
--- what a read gives after it
-pub old_or_new_now : (s u : DiskState) (payload : List ℕ) → IsSettled s → Meanwhile s u (IsOldOrNew s.now.seen payload) → MayLeave u.now u.now.seen → IsOldOrNew s.now.seen payload u.now.seen
-old_or_new_now s u payload settled run reads = crash_now s u (IsOldOrNew s.now.seen payload) run (λ i now. inl (ap records_of (settled i now))) u.now.seen reads
 
 module _ (s t : DiskState) (tail : ℕ) (store : IsStore tail s.now.seen) (payload body : List ℕ) where
   -- the first leaves the records as they were

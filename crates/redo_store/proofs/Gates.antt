@@ -1,12 +1,12 @@
 -- What the two writes of an append leave.
 use Rattle.std.proofs.Common.{◌≡◌, ◌≢◌, ℕ, ◌+◌, ◌^◌, ◌<◌, ◌≤◌, List, [], ◌∷◌, ◌++◌, length, get_or, take, drop, inl, inr, ⊎_elim, sym, ◌∙◌, ap, subst, arith, append_assoc, length-append, take-append-drop}
-use Rattle.std.specs.Prelude.{Ok, All}
+use Rattle.std.specs.Prelude.{Result, Ok, All}
 use Rattle.std.proofs.lemmas.List.{take_at, drop_at, drop_more, append-nil, get_or_at, length-take-le}
 use Rattle.std.proofs.lemmas.List.Elements.{All-push}
 use Rattle.std.proofs.lemmas.Bool.{cases_eq}
 use Rattle.disk_model.specs.Moment.{Torn, with_bytes}
-use Rattle.disk_model.proofs.Writes.{torn_before, torn_behind, torn_with_bytes, length-with_bytes}
-use Rattle.redo_store.specs.Records.{magic, length_bytes, records_of, spelling_of, with_last}
+use Rattle.disk_model.proofs.Offered.{torn_before, torn_behind, torn_with_bytes, length-with_bytes}
+use Rattle.redo_store.specs.Records.{magic, length_bytes, records_of, spelling_of, with_last, number_of}
 use Rattle.redo_store.specs.Store.{IsStore, IsOldOrNew}
 use Rattle.redo_store.proofs.Grammar.{length-length_bytes, read_image}
 
@@ -21,6 +21,21 @@ spelling_of-push [] payload = append-nil (1 ∷ length_bytes (length payload) ++
 spelling_of-push (first ∷ records) payload =
     ap (λ (l : List ℕ). 1 ∷ length_bytes (length first) ++ first ++ l) (spelling_of-push records payload)
     ∙ sym (append_assoc (1 ∷ length_bytes (length first) ++ first) (spelling_of records) (1 ∷ length_bytes (length payload) ++ payload))
+
+few_spelled : (records : List (List ℕ)) → length records ≤ length (spelling_of records)
+few_spelled [] = omega arith
+few_spelled (payload ∷ records) = omega (arith, few_spelled records, length-append (1 ∷ length_bytes (length payload) ++ payload) (spelling_of records))
+
+-- a store has fewer records than bytes
+pub few_records : (tail : ℕ) (image : List ℕ) → IsStore tail image → number_of (records_of image) < tail
+few_records tail image w = omega (arith, ap number_of (reads tail image w), few_spelled w.records, w.at_tail)
+
+-- one record more
+pub one_more : (tail : ℕ) (image : List ℕ) (w : IsStore tail image) (payload : List ℕ) → number_of (with_last payload (records_of image)) ≡ number_of (records_of image) + 1
+one_more tail image w payload =
+    ap (λ (r : Result (List (List ℕ)) ℕ). number_of (with_last payload r)) (reads tail image w)
+    ∙ length-append w.records (payload ∷ [])
+    ∙ sym (ap (λ (r : Result (List (List ℕ)) ℕ). number_of r + 1) (reads tail image w))
 
 module _ (tail : ℕ) (old : List ℕ) (w : IsStore tail old) where
   -- the bytes in front of the gate

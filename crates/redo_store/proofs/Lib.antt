@@ -1,3 +1,4 @@
+pub mod Offered
 pub mod Grammar
 pub mod Gates
 pub mod Appending

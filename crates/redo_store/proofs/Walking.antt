@@ -9,7 +9,8 @@ use Rattle.std.proofs.lemmas.Bool.{false_from_ne_true, lt-leb}
 use Rattle.std.proofs.lemmas.Bool.Decides.{nat_tests}
 use Rattle.std.proofs.lemmas.List.Elements.{All-push}
 use Rattle.redo_store.specs.Records.{magic, length_bytes, length_of, is_whole, payload_of, with_first, records_from, records_of, whole_from, whole_records, spelling_of}
-use Rattle.redo_store.specs.Store.{HasRecord, HasClosedGate, IsStore}
+use Rattle.redo_store.specs.Store.{IsStore}
+use Rattle.redo_store.specs.InnerStore.{HasRecord, HasClosedGate}
 use Rattle.redo_store.specs.Walk.{with_firsts, StandsBehind}
 use Rattle.redo_store.proofs.Grammar.{read_front, closed_gate, length-length_bytes}
 use Rattle.redo_store.proofs.Gates.{spelling_of-push}

@@ -60,3 +60,8 @@ spelling_of (payload ∷ payloads) = 1 ∷ length_bytes (length payload) ++ payl
 abbrev pub with_last : List ℕ → Result (List (List ℕ)) ℕ → Result (List (List ℕ)) ℕ
 with_last payload (Ok records) = Ok (records ++ payload ∷ [])
 with_last payload (Err place) = Err place
+
+-- how many records there are, and none where the image is damaged
+abbrev pub number_of : Result (List (List ℕ)) ℕ → ℕ
+number_of (Ok records) = length records
+number_of (Err place) = 0

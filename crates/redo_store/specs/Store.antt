@@ -1,20 +1,6 @@
 -- What stands in the bytes of a store, and what a crash leaves of it.
-use Rattle.std.specs.Prelude.{◌≡◌, ◌≢◌, ◌⊎◌, ℕ, ◌+◌, ◌^◌, ◌<◌, List, ◌∷◌, ◌++◌, length, drop, All}
-use Rattle.redo_store.specs.Records.{magic, length_bytes, spelling_of, records_of, with_last}
-
--- an open record with this payload stands at the place, and more bytes behind it
-pub record HasRecord (place : ℕ) (payload image : List ℕ) : Type 0 where
-  pub rest : List ℕ
-  pub bytes : drop place image ≡ 1 ∷ length_bytes (length payload) ++ payload ++ rest
-  pub more : 0 < length rest
-  pub short : length payload < 2 ^ 64
-
--- a closed gate stands at the place
-pub record HasClosedGate (place : ℕ) (image : List ℕ) : Type 0 where
-  pub gate : ℕ
-  pub rest : List ℕ
-  pub bytes : drop place image ≡ gate ∷ rest
-  pub closed : gate ≢ 1
+use Rattle.std.specs.Prelude.{◌≡◌, ◌≢◌, ◌⊎◌, ℕ, ◌+◌, ◌^◌, ◌<◌, List, ◌∷◌, ◌++◌, length, All}
+use Rattle.redo_store.specs.Records.{magic, spelling_of, records_of, with_last}
 
 -- the image is a store, the records of which end at the closed gate at the tail
 pub record IsStore (tail : ℕ) (image : List ℕ) : Type 0 where

@@ -22,6 +22,7 @@ pub record StandsBehind (place : ℕ) (done : List (List ℕ)) (image : List ℕ
   pub records : records_of image ≡ with_firsts done (records_from place 0 (drop place image))
   pub whole : whole_records image ≡ done ++ whole_from 0 (drop place image)
 
--- the walk stands at the gate behind these records of the image, which it has gone over
-abbrev pub HasRead : Walk → List (List ℕ) → List ℕ → Type 0
-HasRead walk done image = StandsBehind walk.place done image
+-- the walk stands at the gate behind these records of the image, which it has gone over and counted
+pub record HasRead (walk : Walk) (done : List (List ℕ)) (image : List ℕ) : Type 0 where
+  pub stands : StandsBehind walk.place done image
+  pub counted : walk.count ≡ length done

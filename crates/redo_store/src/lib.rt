@@ -16,8 +16,6 @@
 mod fault;
 mod record;
 mod redo;
-#[cfg(test)]
-mod tests;
 mod walk;
 
 pub use fault::RedoFault;

@@ -2,7 +2,7 @@
 ghost use Rattle.std.specs.Prelude.{◌≡◌, ◌+◌, ◌≤◌, ◌<◌, ◌^◌, ◌++◌, ◌∷◌, [], ℕ, length, take, drop, OnOk, OnErr, IfOk, IsErrOf, Err, MatchOption};
 ghost use Rattle.disk_model.specs.Disk.{OnlyReads};
 ghost use Rattle.redo_store.specs.Records.{magic, length_bytes, length_of, records_from, whole_from};
-ghost use Rattle.redo_store.specs.Store.{HasRecord, HasClosedGate};
+ghost use Rattle.redo_store.specs.InnerStore.{HasRecord, HasClosedGate};
 
 use crate::fault::RedoFault;
 use disk_model::Disk;

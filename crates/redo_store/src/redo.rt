@@ -1,7 +1,7 @@
 //! The store.
 ghost use Rattle.std.specs.Prelude.{◌≡◌, ◌+◌, ◌≤◌, ◌<◌, ◌^◌, ◌++◌, ◌∷◌, [], ◌⊎◌, ℕ, List, length, OnOk, OnErr, IfOk, IsErrOf, Ok, Err, map, false, true, IsFalse};
 ghost use Rattle.disk_model.specs.Moment.{Torn, with_bytes};
-ghost use Rattle.disk_model.specs.Disk.{Meanwhile, LeftSince, moment, IsSettled, Lowered, Caused, OnlyReads};
+ghost use Rattle.disk_model.specs.Disk.{Meanwhile, IsSettled, Lowers, Caused, OnlyReads};
 ghost use Rattle.redo_store.specs.Records.{magic, records_of, with_last};
 ghost use Rattle.redo_store.specs.Store.{IsOldOrNew};
 
@@ -11,22 +11,30 @@ use crate::walk::Walk;
 use disk_model::{Disk, DiskFault};
 use std::alloc::Global;
 
-/// An open store. It holds the place of the closed gate behind the last record, and no record.
+/// An open store. It holds the place of the closed gate behind the last record and the number of records, and no record.
 #[derive(Drop)]
 pub struct Redo {
     alloc: Global,
     tail: u64,
+    count: u64,
     live: bool,
 }
 
 impl Redo {
-    ghost use Rattle.redo_store.specs.Redo.{is_live, CanAppend};
+    ghost use Rattle.redo_store.specs.Redo.{is_live, count_of, CanAppend, GoesOn};
 
     /// Whether a record may be added. After `Stopped` it may not, and the store is to be opened again.
     pub fn is_live(&self) -> bool
         ensures { result ≡ is_live self.now }
     {
         self.live
+    }
+
+    /// How many records the store has. After `Stopped` that is the number before the call that was stopped.
+    pub fn count(&self) -> u64
+        ensures { result ≡ count_of self.now }
+    {
+        self.count
     }
 
     /// Makes a store without a record on an empty disk, in two device calls.
@@ -38,8 +46,8 @@ impl Redo {
         ensures empty { OnOk result (records_of (D.state disk.new).now.seen ≡ Ok []) }
         ensures settled { OnOk result (IsSettled (D.state disk.new)) }
         ensures refused { IsErrOf result RedoFault.NoMemory → D.state disk.new ≡ D.state disk.old }
-        ensures stop { OnOk result (Lowered 2 (D.state disk.old).stop (D.state disk.new).stop) }
-        ensures cause { Caused 2 (IsErrOf result RedoFault.Stopped) (D.state disk.old) (D.state disk.new) }
+        ensures stop { Lowers 2 result (D.state disk.old).stop (D.state disk.new).stop }
+        ensures cause { Caused (IsErrOf result RedoFault.Stopped) (D.state disk.old) (D.state disk.new) }
         ensures whole { (place : ℕ) → IsErrOf result (RedoFault.Damaged place) → ⊥ }
     {
         write_durably(disk, 0, b"TGSTORE1\0")?;
@@ -67,14 +75,16 @@ impl Redo {
         Ok((redo, records))
     }
 
-    // A store of which the records end at this gate.
-    pub(crate) fn behind(alloc: Global, tail: u64) -> Redo
+    // A store of which so many records end at this gate.
+    pub(crate) fn behind(alloc: Global, tail: u64, count: u64) -> Redo
         ensures tail { result.tail ≡ tail }
+        ensures count { count_of result ≡ count }
         ensures live { result.live ≡ true }
     {
         Redo {
             alloc,
             tail,
+            count,
             live: true,
         }
     }
@@ -85,31 +95,20 @@ impl Redo {
     pub fn append<D: Disk>(&mut self, disk: &mut D, payload: &[u8]) -> Result<(), RedoFault>
         requires { CanAppend self.old (D.state disk.old) }
 
-        // At Ok the record is there, and durable.
+        // At Ok the record is there, last. For want of memory the records are as before.
         ensures added { OnOk result (records_of (D.state disk.new).now.seen ≡ with_last payload.now (records_of (D.state disk.old).now.seen)) }
-
-        // For want of memory it changes no record.
         ensures refused { IsErrOf result RedoFault.NoMemory → records_of (D.state disk.new).now.seen ≡ records_of (D.state disk.old).now.seen }
 
-        // Whatever it answers, a read then gives the old list of records, or this list with the payload last.
-        ensures stands { IsOldOrNew (D.state disk.old).now.seen payload.now (D.state disk.new).now.seen }
-
-        // After Ok and NoMemory it goes on with its disk; after Stopped it is to be opened again.
-        ensures ready { (IsErrOf result RedoFault.Stopped → ⊥) → CanAppend self.new (D.state disk.new) }
-        ensures stopped { IsErrOf result RedoFault.Stopped → IsFalse (is_live self.new) }
-
-        // A crash at any moment of the call leaves the old list of records, or this list with the payload last.
+        // A crash at any moment of the call leaves the old list of records, or this list with the payload last. That the
+        // same is so of the time since it began, and of what a read gives when it has ended, is `disk_model::laws::leaves`.
         ensures any_moment { Meanwhile (D.state disk.old) (D.state disk.new) (IsOldOrNew (D.state disk.old).now.seen payload.now) }
 
-        // The same, said of the time since the call began.
-        ensures since { (image : List ℕ) → LeftSince (D.state disk.new) (moment (D.state disk.old)) image → IsOldOrNew (D.state disk.old).now.seen payload.now image }
+        // After Ok and NoMemory it goes on with its disk, where nothing is pending; after Stopped it is to be opened again.
+        ensures goes_on { GoesOn result self.old self.new (D.state disk.new) }
 
-        // It succeeds only with no stop or one of at least four, which it lowers by four.
-        ensures stop { OnOk result (Lowered 4 (D.state disk.old).stop (D.state disk.new).stop) }
-
-        // Stopped has its cause in the disk; with no stop or one of at least four a quiet disk has no fault.
-        ensures cause { Caused 4 (IsErrOf result RedoFault.Stopped) (D.state disk.old) (D.state disk.new) }
-        ensures whole { (place : ℕ) → IsErrOf result (RedoFault.Damaged place) → ⊥ }
+        // It succeeds only with no stop or one of at least four; with either a quiet disk has no fault.
+        ensures stop { Lowers 4 result (D.state disk.old).stop (D.state disk.new).stop }
+        ensures cause { Caused (IsErrOf result RedoFault.Stopped) (D.state disk.old) (D.state disk.new) }
     {
         let body = body_of(self.alloc, payload)?;
         if let Err(fault) = write_durably(disk, self.tail + 1, &body) {
@@ -119,6 +118,7 @@ impl Redo {
             return Err(self.refusal(fault));
         }
         self.tail += body.len() as u64;
+        self.count += 1;
         Ok(())
     }
 
@@ -127,6 +127,7 @@ impl Redo {
         ensures stopped { fault ≡ DiskFault.Failed → (result ≡ RedoFault.Stopped) × (self.new.live ≡ false) }
         ensures no_memory { fault ≡ DiskFault.NoMemory → (result ≡ RedoFault.NoMemory) × (self.new.live ≡ self.old.live) }
         ensures tail { self.new.tail ≡ self.old.tail }
+        ensures count { self.new.count ≡ self.old.count }
     {
         if fault == DiskFault::Failed {
             self.live = false;
@@ -143,8 +144,8 @@ fn write_durably<D: Disk>(disk: &mut D, at: u64, bytes: &[u8]) -> Result<(), Dis
     ensures durable { OnOk result (IsSettled (D.state disk.new)) }
     ensures refused { IsErrOf result DiskFault.NoMemory → D.state disk.new ≡ D.state disk.old }
     ensures meanwhile { Meanwhile (D.state disk.old) (D.state disk.new) (Torn at (length bytes.now) (D.state disk.old).now.seen) }
-    ensures stop { OnOk result (Lowered 2 (D.state disk.old).stop (D.state disk.new).stop) }
-    ensures cause { Caused 2 (IsErrOf result DiskFault.Failed) (D.state disk.old) (D.state disk.new) }
+    ensures stop { Lowers 2 result (D.state disk.old).stop (D.state disk.new).stop }
+    ensures cause { Caused (IsErrOf result DiskFault.Failed) (D.state disk.old) (D.state disk.new) }
 {
     disk.write_at(at, bytes)?;
     disk.sync()

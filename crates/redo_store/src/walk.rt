@@ -1,5 +1,5 @@
 //! A walk over the records of a store, one by one.
-ghost use Rattle.std.specs.Prelude.{◌≡◌, ◌+◌, [], ◌∷◌, ◌++◌, ℕ, List, length, take, OnErr, IfOk, IfSome, IfNone, IsErrOf, Ok, Err};
+ghost use Rattle.std.specs.Prelude.{◌≡◌, ◌+◌, ◌≤◌, [], ◌∷◌, ◌++◌, ℕ, List, length, take, OnErr, IfOk, IfSome, IfNone, IsErrOf, Ok, Err};
 ghost use Rattle.disk_model.specs.Disk.{DiskState, IsSettled, OnlyReads};
 ghost use Rattle.redo_store.specs.Records.{magic, records_of, whole_records};
 
@@ -9,11 +9,13 @@ use crate::redo::Redo;
 use disk_model::Disk;
 use std::alloc::Global;
 
-/// A walk over the records of a store. It holds the place of a gate, and no record.
+/// A walk over the records of a store. It holds the place of a gate and the number of records before it, and no record.
 #[derive(Drop)]
 pub struct Walk {
     alloc: Global,
     place: u64,
+    count: u64,
+    ghost few: { count ≤ place },
 }
 
 impl Walk {
@@ -36,6 +38,7 @@ impl Walk {
         Ok(Walk {
             alloc,
             place: MAGIC.len() as u64,
+            count: 0,
         })
     }
 
@@ -70,6 +73,7 @@ impl Walk {
             return Ok(None);
         };
         self.place += HEAD + payload.len() as u64;
+        self.count += 1;
         Ok(Some(payload))
     }
 
@@ -77,6 +81,6 @@ impl Walk {
     pub fn finish(self) -> Redo
         ensures { (disk : DiskState) (done : List (List ℕ)) → HasRead self done disk.now.seen → records_of disk.now.seen ≡ Ok done → IsSettled disk → CanAppend result disk }
     {
-        Redo::behind(self.alloc, self.place)
+        Redo::behind(self.alloc, self.place, self.count)
     }
 }

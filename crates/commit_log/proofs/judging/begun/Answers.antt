@@ -19,7 +19,7 @@ returns-in_default-clause-damaged g c place is =
     let seen = (g.D.Disk.state c.args.disk.now).now.seen in
     let end = when_none c.in_ok-payload.field-0 ((records_of seen ≡ Ok []) × (whole_records seen ≡ [])) c.in_default.is (c.in_ok-payload.ensures.end [] c.requires) in
     let told : c.place-place.result ≡ place = cc in
-    let eight : 8 ≡ place = sym c.requires.at_place ∙ sym c.place-place.ensures ∙ told in
+    let eight : 8 ≡ place = sym c.requires.stands.at_place ∙ sym c.place-place.ensures ∙ told in
     ap journal_in (progress_by_records seen [] end.0) ∙ ap (λ (n : ℕ). Err n) eight
 
 pub returns-clause-damaged : goal.returns-clause-damaged
@@ -31,4 +31,4 @@ returns-clause-damaged g c place is =
     let at = placed c.in-Err.misfit c.at.result c.place-place.result place c.at.ensures.no_memory c.at.ensures.misplaced told in
     let read : HasRead walk ([] ++ payload.items ∷ []) seen = when_some c.in_ok-payload.field-0 payload (λ p. HasRead walk ([] ++ p.items ∷ []) seen) c.in-Some.is (c.in_ok-payload.ensures.«record» [] c.requires) in
     let misplaced : after_payload Empty payload.items ≡ None = ap (after_payload Empty) (sym c.deref.ensures.value) ∙ c.begin.ensures.misplaced (c.in-Err.is ∙ ap (λ m. Err m) at.0) in
-    ap journal_in (damaged_record seen [] payload.items walk Empty place refl read misplaced (sym at.1 ∙ c.place-place.ensures ∙ c.requires.at_place))
+    ap journal_in (damaged_record seen [] payload.items walk Empty place refl read misplaced (sym at.1 ∙ c.place-place.ensures ∙ c.requires.stands.at_place))

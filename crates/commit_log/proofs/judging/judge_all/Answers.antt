@@ -1,6 +1,6 @@
 use Rattle.std.proofs.Common.{◌≡◌, ℕ, [], List, refl, sym, ap, subst, ◌∙◌, rules}
 use Rattle.std.specs.Prelude.{Err}
-use Rattle.disk_model.specs.Moment.{Moment, MayLeave}
+use Rattle.disk_model.specs.Moment.{DiskMoment, MayLeave}
 use Rattle.redo_store.specs.Records.{records_of}
 use Rattle.redo_store.specs.Walk.{HasRead}
 use Rattle.commit_log.specs.Rules.{Empty}
@@ -18,7 +18,7 @@ pub returns-clause-judged : goal.returns-clause-judged
 returns-clause-judged g c =
     let h = c.in_ok-judge_rest.ensures.judged in
     let same = c.begun.ensures.only_reads.same.now ∙ c.begin.ensures.only_reads.same.now in
-    ap (λ (m : Moment). progress_of m.seen) (sym same) ∙ progress_by_records (g.D.Disk.state c.begun.new.disk).now.seen h.judged_all.done h.all ∙ h.judged_all.judges
+    ap (λ (m : DiskMoment). progress_of m.seen) (sym same) ∙ progress_by_records (g.D.Disk.state c.begun.new.disk).now.seen h.judged_all.done h.all ∙ h.judged_all.judges
 
 pub returns-clause-ready : goal.returns-clause-ready
 returns-clause-ready g c settled =
@@ -28,6 +28,6 @@ returns-clause-ready g c settled =
     let same = last ∙ c.begun.ensures.only_reads.same.now ∙ c.begin.ensures.only_reads.same.now in
     let done = h.judged_all.done in
     c.finish.ensures u done
-    (subst (λ (m : Moment). HasRead c.judge_rest.new.walk done m.seen) (sym last) h.judged_all.read)
-    (ap (λ (m : Moment). records_of m.seen) last ∙ h.all)
-    (subst (λ (m : Moment). (image : List ℕ) → MayLeave m image → image ≡ m.seen) (sym same) settled)
+    (subst (λ (m : DiskMoment). HasRead c.judge_rest.new.walk done m.seen) (sym last) h.judged_all.read)
+    (ap (λ (m : DiskMoment). records_of m.seen) last ∙ h.all)
+    (subst (λ (m : DiskMoment). (image : List ℕ) → MayLeave m image → image ≡ m.seen) (sym same) settled)

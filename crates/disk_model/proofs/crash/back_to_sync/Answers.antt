@@ -1,6 +1,7 @@
 use Rattle.std.proofs.Common.{List, refl, sym, ◌∙◌, ap, subst}
 use Rattle.disk_model.specs.declared.written.Written.{Written}
-use Rattle.disk_model.specs.Log.{bytes_before, first_bytes, synced_of, IsLog}
+use Rattle.disk_model.specs.Log.{bytes_before, first_bytes, synced_of}
+use Rattle.disk_model.specs.InnerLog.{IsLog}
 use Rattle.disk_model.proofs.Past.{first_bytes-push, synced_push, log_snoc, synced_snoc}
 use Rattle.disk_model.proofs.crash.back_to_sync.Goals as goal
 

@@ -1,5 +1,6 @@
 use Rattle.std.proofs.Common.{◌≡◌, vec_len}
-use Rattle.disk_model.specs.Log.{first_bytes, synced_of, IsLog}
+use Rattle.disk_model.specs.Log.{first_bytes, synced_of}
+use Rattle.disk_model.specs.InnerLog.{IsLog}
 use Rattle.disk_model.proofs.crash.back_to_sync.Given as goal
 
 abbrev pub decreases-loop-write : goal.decreases-loop-write

@@ -1,16 +1,16 @@
 use Rattle.std.proofs.Common.{◌≡◌, ◌⊎◌, ℕ, ◌%◌, List, inl, inr, ⊎_elim, refl, sym, ◌∙◌, subst, arith, Vec, Global}
 use Rattle.std.proofs.lemmas.Bool.{cases_eq}
-use Rattle.disk_model.specs.Moment.{Moment, MayLeave}
+use Rattle.disk_model.specs.Moment.{DiskMoment, MayLeave}
 use Rattle.disk_model.specs.Log.{now_of}
-use Rattle.disk_model.specs.Kept.{reads_now_of}
+use Rattle.disk_model.specs.InnerKept.{reads_now_of}
 use Rattle.disk_model.specs.Picks.{IsHalfNew, IsOnes}
 use Rattle.disk_model.proofs.crash.tear.Goals as goal
 use Rattle.disk_model.proofs.crash.tear.Goals.{in-0, in-1, in-2, in_default}
 
-synced_left : (m : Moment) → MayLeave m m.seen → MayLeave m m.synced
+synced_left : (m : DiskMoment) → MayLeave m m.seen → MayLeave m m.synced
 synced_left m reads = record { no_shorter = omega arith; no_longer = reads.no_shorter; same = λ k lt out. refl }
 
-ones_left : (m : Moment) (image : List ℕ) → MayLeave m m.seen → IsOnes m image → MayLeave m image
+ones_left : (m : DiskMoment) (image : List ℕ) → MayLeave m m.seen → IsOnes m image → MayLeave m image
 ones_left m image reads p = record {
   no_shorter = omega (arith, p.long, reads.no_shorter);
   no_longer = omega (arith, p.long);
@@ -20,7 +20,7 @@ ones_left m image reads p = record {
 odd_or_even : (k : ℕ) → (k % 2 ≡ 1) ⊎ (k % 2 ≡ 0)
 odd_or_even k = ⊎_elim (λ e. inl e) (λ ne. inr (omega (arith, ne))) (cases_eq (k % 2) 1)
 
-half_left : (m : Moment) (image : List ℕ) → MayLeave m m.seen → IsHalfNew m image → MayLeave m image
+half_left : (m : DiskMoment) (image : List ℕ) → MayLeave m m.seen → IsHalfNew m image → MayLeave m image
 half_left m image reads p = record {
   no_shorter = omega (arith, p.long, reads.no_shorter);
   no_longer = omega (arith, p.long);

@@ -1,6 +1,6 @@
 use Rattle.std.proofs.Common.{◌≡◌, ℕ, zero, suc, ◌-◌, List, [], ◌∷◌, length, get_or, set, ap, arith}
 use Rattle.disk_model.specs.declared.written.Written.{Written}
-use Rattle.disk_model.specs.Log.{synced_write, with_sync}
+use Rattle.disk_model.specs.InnerLog.{synced_write, with_sync}
 use Rattle.disk_model.proofs.written.mark.Goals as goal
 
 at_last : (log : List Written) (k : ℕ) (x : Written) → length log ≡ suc k → x ≡ get_or log k x → set log k (synced_write x) ≡ with_sync log

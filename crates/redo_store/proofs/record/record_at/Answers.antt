@@ -1,8 +1,8 @@
 use Rattle.std.proofs.Common.{◌≡◌, ◌<◌, ◌+◌, ℕ, List, length, take, drop, sym, ◌∙◌, ap, subst, arith, length-drop}
 use Rattle.std.proofs.lemmas.List.{take_at, length-take-le}
-use Rattle.disk_model.specs.Moment.{Moment}
+use Rattle.disk_model.specs.Moment.{DiskMoment}
 use Rattle.redo_store.specs.Records.{length_bytes, length_of}
-use Rattle.redo_store.specs.Store.{HasRecord}
+use Rattle.redo_store.specs.InnerStore.{HasRecord}
 use Rattle.redo_store.proofs.Walking.{torn_record, torn_record_whole, record_is}
 use Rattle.redo_store.proofs.record.record_at.Goals as goal
 
@@ -23,7 +23,7 @@ returns-then-count-rest-clause-damaged g c at is =
     let same : at ≡ c.args.place = cc in
     let seen = (g.D.Disk.state c.args.disk.now).now.seen in
     let place = c.args.place in
-    let spelled : c.read-2.new.into ≡ take 8 (drop (place + 1) seen) = c.in_ok-read-2.ensures.bytes ∙ ap (λ (m : Moment). take 8 (drop (place + 1) m.seen)) c.read.ensures.only_reads.same.now in
+    let spelled : c.read-2.new.into ≡ take 8 (drop (place + 1) seen) = c.in_ok-read-2.ensures.bytes ∙ ap (λ (m : DiskMoment). take 8 (drop (place + 1) m.seen)) c.read.ensures.only_reads.same.now in
     let says : c.length_in-count.result ≡ length_of (take 8 (drop (place + 1) seen)) = c.length_in-count.ensures.length ∙ ap length_of spelled in
     let within : place < length seen = omega (arith, c.size.ensures, c.if-rest-eq0.false) in
     let short : length (drop (place + 1) seen) < 9 + length_of (take 8 (drop (place + 1) seen)) = omega (arith, says, c.size.ensures, c.if-rest-le-HEAD.false, c.if-count-rest.true, length-drop (place + 1) seen) in (
@@ -40,10 +40,10 @@ returns-clause-found g c =
     let into = c.read-3.new.into in
     let once = c.read.ensures.only_reads.same.now in
     let twice = c.read-2.ensures.only_reads.same.now ∙ once in
-    let spelled : c.read-2.new.into ≡ take 8 (drop (place + 1) seen) = c.in_ok-read-2.ensures.bytes ∙ ap (λ (m : Moment). take 8 (drop (place + 1) m.seen)) once in
+    let spelled : c.read-2.new.into ≡ take 8 (drop (place + 1) seen) = c.in_ok-read-2.ensures.bytes ∙ ap (λ (m : DiskMoment). take 8 (drop (place + 1) m.seen)) once in
     let size : length c.deref_mut.result.now ≡ count = c.deref_mut.ensures.len ∙ c.in_ok-payload.ensures.len in
     let read : into ≡ take count (drop (place + 9) seen) =
-    c.in_ok-read-3.ensures.bytes ∙ ap (λ n. take n (drop (place + 9) (g.D.Disk.state c.read-2.new.self).now.seen)) size ∙ ap (λ (m : Moment). take count (drop (place + 9) m.seen)) twice in
+    c.in_ok-read-3.ensures.bytes ∙ ap (λ n. take n (drop (place + 9) (g.D.Disk.state c.read-2.new.self).now.seen)) size ∙ ap (λ (m : DiskMoment). take count (drop (place + 9) m.seen)) twice in
     let room : place + 9 + count < length seen = omega (arith, c.size.ensures, c.if-rest-le-HEAD.false, c.if-count-rest.false) in
     let long : length into ≡ count = ap length read ∙ length-take-le count (drop (place + 9) seen) (omega (arith, room, length-drop (place + 9) seen)) in
     let taken : into ≡ take (length into) (drop (place + 9) seen) = read ∙ ap (λ n. take n (drop (place + 9) seen)) (sym long) in

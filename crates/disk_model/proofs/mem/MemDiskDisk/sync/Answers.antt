@@ -1,7 +1,8 @@
 use Rattle.std.proofs.Common.{◌≡◌, [], ◌∷◌, ◌++◌, ◌∙◌, refl, ℕ, List, ⊎_elim, sym, ap, subst}
-use Rattle.disk_model.specs.Moment.{Moment, MayLeave}
+use Rattle.disk_model.specs.Moment.{DiskMoment, MayLeave}
 use Rattle.disk_model.specs.Disk.{DiskState, Meanwhile}
-use Rattle.disk_model.specs.Log.{IsLog, first_bytes, past_of, now_of, with_sync}
+use Rattle.disk_model.specs.Log.{first_bytes, past_of, now_of}
+use Rattle.disk_model.specs.InnerLog.{IsLog, with_sync}
 use Rattle.disk_model.specs.declared.written.Written.{Written}
 use Rattle.disk_model.specs.Mem.{mem_state}
 use Rattle.disk_model.proofs.Moments.{stays, one_more}
@@ -11,7 +12,7 @@ use Rattle.disk_model.proofs.mem.MemDiskDisk.sync.Goals as goal
 synced_time : (s t : DiskState) (log later : List Written) (bytes : List ℕ) → later ≡ with_sync log → s.past ≡ past_of (first_bytes log bytes) [] log bytes → s.now ≡ now_of log bytes → t.past ≡ past_of (first_bytes later bytes) [] later bytes → t.now ≡ now_of later bytes → Meanwhile s t (MayLeave t.now)
 synced_time s t log later bytes e sp sn tp tn =
     ⊎_elim
-    (λ moved. one_more s t (tp ∙ ap (λ (l : List Written). past_of (first_bytes l bytes) [] l bytes) e ∙ moved ∙ ap (λ (l : List Moment). l ++ now_of log bytes ∷ []) (sym sp) ∙ ap (λ (m : Moment). s.past ++ m ∷ []) (sym sn)))
+    (λ moved. one_more s t (tp ∙ ap (λ (l : List Written). past_of (first_bytes l bytes) [] l bytes) e ∙ moved ∙ ap (λ (l : List DiskMoment). l ++ now_of log bytes ∷ []) (sym sp) ∙ ap (λ (m : DiskMoment). s.past ++ m ∷ []) (sym sn)))
     (λ still. let same : later ≡ log = e ∙ still in
     stays s t (MayLeave t.now) record {
       past = tp ∙ ap (λ (l : List Written). past_of (first_bytes l bytes) [] l bytes) same ∙ sym sp;

@@ -1,5 +1,5 @@
 use Rattle.std.proofs.Common.{◌≤◌, ◌^◌, ◌∙◌, ℕ, List, length, arith, ap, subst}
-use Rattle.disk_model.specs.Moment.{Moment, MayLeave, next_moment}
+use Rattle.disk_model.specs.Moment.{DiskMoment, MayLeave, next_moment}
 use Rattle.disk_model.specs.Log.{now_of}
 use Rattle.disk_model.specs.Mem.{mem_state}
 use Rattle.disk_model.proofs.Moments.{one_more}
@@ -25,7 +25,7 @@ returns-clause-written c =
 pub returns-clause-crash : goal.returns-clause-crash
 returns-clause-crash c image left =
     let d = c.args.self.now in
-    subst (λ (m : Moment). MayLeave m image) (now_is c.args.at (length c.args.bytes.now) d.bytes.items c.put.new.bytes.items d.log.items c.put.new.log.items c.in-Ok.ensures.logged) left
+    subst (λ (m : DiskMoment). MayLeave m image) (now_is c.args.at (length c.args.bytes.now) d.bytes.items c.put.new.bytes.items d.log.items c.put.new.log.items c.in-Ok.ensures.logged) left
 
 pub returns-clause-time : goal.returns-clause-time
 returns-clause-time c =

@@ -1,4 +1,4 @@
-use Rattle.std.proofs.Common.{◌≡◌, rules}
+use Rattle.std.proofs.Common.{◌≡◌, refl, rules}
 use Rattle.redo_store.proofs.Walking.{not_magic, not_magic_whole, walk_start}
 use Rattle.redo_store.proofs.walk.Walk.begin.Goals as goal
 
@@ -10,4 +10,4 @@ returns-in_err-check_magic-clause-damaged g c at is =
     (zero_is, not_magic seen here.1, not_magic_whole seen here.1)
 
 pub returns-clause-begun : goal.returns-clause-begun
-returns-clause-begun g c = walk_start (g.D.Disk.state c.args.disk.now).now.seen c.in_ok-check_magic.ensures.magic
+returns-clause-begun g c = record { stands = walk_start (g.D.Disk.state c.args.disk.now).now.seen c.in_ok-check_magic.ensures.magic; counted = refl }

@@ -1,6 +1,6 @@
-use Rattle.std.proofs.Common.{◌≡◌, ◌+◌, ◌++◌, ◌∷◌, [], ℕ, List, length, subst, arith, Vec, Global, Some, Option}
+use Rattle.std.proofs.Common.{◌≡◌, ◌+◌, ◌++◌, ◌∷◌, [], ℕ, List, length, length-append, subst, arith, Vec, Global, Some, Option}
 use Rattle.std.specs.Prelude.{MatchOption}
-use Rattle.redo_store.specs.Store.{HasRecord, HasClosedGate}
+use Rattle.redo_store.specs.InnerStore.{HasRecord, HasClosedGate}
 use Rattle.redo_store.specs.Walk.{StandsBehind}
 use Rattle.redo_store.proofs.Walking.{walk_on}
 use Rattle.redo_store.proofs.walk.Walk.next.Goals as goal
@@ -16,4 +16,7 @@ returns-clause-record g c done read =
     let place = c.args.self.now.place in
     let there : HasRecord place payload.items seen = found_some place seen c.in_ok-payload.field-0 payload c.in-Some.is c.in_ok-payload.ensures.found in
     let long : n ≡ c.len.result = omega (arith, c.len.ensures, payload.ok.0) in
-    subst (λ k. StandsBehind (place + (9 + k)) (done ++ payload.items ∷ []) seen) long (walk_on seen place done payload.items read there)
+    record {
+      stands = subst (λ k. StandsBehind (place + (9 + k)) (done ++ payload.items ∷ []) seen) long (walk_on seen place done payload.items read.stands there);
+      counted = omega (arith, read.counted, length-append done (payload.items ∷ []));
+    }

@@ -1,8 +1,8 @@
-//! What no clause says: that calls succeed, and the values of worked cases.
+//! Records on a disk: that calls succeed, what a stop in each of them leaves, and the bytes of a store.
 ghost use Rattle.std.specs.Prelude.{◌<◌};
 
-use crate::{Redo, RedoFault};
 use disk_model::{MemDisk, StopDisk};
+use redo_store::{Redo, RedoFault};
 use std::alloc::{AllocError, Global};
 use std::test::Fail;
 
@@ -130,15 +130,19 @@ fn bytes_and_what_an_opening_says_of_them(rt: HostRuntime) -> Result<(), Fail> {
 }
 
 #[test]
-fn the_bytes_of_records_that_were_added(rt: HostRuntime) -> Result<(), Fail> {
+fn the_bytes_and_the_number_of_records_that_were_added(rt: HostRuntime) -> Result<(), Fail> {
     let alloc = rt.alloc();
     let mut disk = MemDisk::new(alloc);
     Redo::create(&mut disk)?;
     assert_eq!(rt; disk.bytes(), b"TGSTORE1\0".as_slice());
     let (mut redo, _) = Redo::open(alloc, &mut disk)?;
+    assert_eq!(rt; redo.count(), 0);
     redo.append(&mut disk, &[0xaa])?;
     redo.append(&mut disk, &[0xbb, 0xcc])?;
     assert!(rt; redo.is_live());
+    assert_eq!(rt; redo.count(), 2);
     assert_eq!(rt; disk.bytes(), TWO.as_slice());
+    let (again, _) = Redo::open(alloc, &mut disk)?;
+    assert_eq!(rt; again.count(), 2);
     Ok(())
 }

@@ -5,7 +5,8 @@ use Rattle.std.proofs.lemmas.Grind.{common_steps}
 use Rattle.std.proofs.lemmas.Bool.{cases_lt}
 use Rattle.disk_model.specs.declared.written.Written.{Written}
 use Rattle.disk_model.specs.Moment.{MayLeave, Torn}
-use Rattle.disk_model.specs.Log.{bytes_before, first_bytes, synced_of, ranges_of, now_of, Covers, IsLog}
+use Rattle.disk_model.specs.Log.{bytes_before, first_bytes, synced_of, ranges_of, now_of}
+use Rattle.disk_model.specs.InnerLog.{Covers, IsLog}
 
 pub length-bytes_before : (at n : ℕ) (covered after : List ℕ) → at + n ≤ length after → length (take at after ++ covered ++ drop (at + n) after) + n ≡ length after + length covered
 length-bytes_before at n covered after le = grind (arith, common_steps)

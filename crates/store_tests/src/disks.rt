@@ -1,7 +1,7 @@
-//! What no clause says: that calls succeed, and the images that the picks leave, byte for byte.
+//! A disk in memory: that calls succeed, the images that the picks leave, byte for byte, and stops.
 ghost use Rattle.std.specs.Prelude.{◌<◌};
 
-use crate::{Disk, DiskFault, MemDisk, StopDisk};
+use disk_model::{Disk, DiskFault, MemDisk, StopDisk};
 use std::alloc::Global;
 use std::test::Fail;
 

@@ -1,0 +1,6 @@
+-- Lemmas on this crate's words that the crates above cite.
+
+-- a length is spelled in eight bytes
+pub use Rattle.redo_store.proofs.Grammar.{length-length_bytes}
+-- the whole records of an image that is not damaged are its records
+pub use Rattle.redo_store.proofs.Whole.{whole_of_read}

@@ -1,0 +1,7 @@
+//! Tests of the store: what no clause says, by values from outside.
+#![tactic(auto)]
+
+#[cfg(test)]
+mod disks;
+#[cfg(test)]
+mod records;
