@@ -13,9 +13,8 @@ from .files import need
 COMMIT_ENDS = ("committed", "conflict")
 BY_OUTCOME = ("disabled", "incomplete", "replays", "replaytimeout")
 SHORT = {"committed": "commit", "conflict": "confl."}
-STEPS = {"none": ("dot", (), "finds nothing to take yet"),
-         "early": ("dot", ("too early", "early"), "may not try to connect again yet (delay)"),
-         "wait": ("ring", ("waits",), "waits for a place in the pool")}
+QUIET = {"none": "finds nothing to take yet", "early": "may not try to connect again yet (delay)",
+         "wait": "waits for a place in the pool"}
 
 
 @dataclass
@@ -75,12 +74,10 @@ class Client:
     def go(self, word, *rest):
         if word == "idle":
             need(not self.request and not self.coming, f"client {self.number} is idle before its requests have ended")
-            self.run.mark(self.lane, "dot", ("idle",), "faint")
             return f"client {self.number} has nothing left to do"
         prefix = "" if self.request else self.begin()
-        if word in STEPS and not (word == "wait" and self.waits_no_longer()):
-            shape, labels, text = STEPS[word]
-            self.run.mark(self.lane, shape, labels, "faint")
+        if word in QUIET and not (word == "wait" and self.waits_no_longer()):
+            text = QUIET[word]
         else:
             self.request.held = self.request.held or self.run.number
             text = getattr(self, "go_" + word)(*rest)

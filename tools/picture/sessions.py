@@ -2,12 +2,14 @@
 
 from . import words
 from .files import need
-from .run import REPLIES, Run
+from .run import REPLIES
 from .store import Store
+
+CARRIES = {"call": 4, "blocked": 3, "outcome": 3, "crashed": -1}    # where an item has the call or the identifier
 
 
 class Sessions:
-    def __init__(self, run: Run, document, report):
+    def __init__(self, run, document, report):
         self.run, self.store = run, Store(run, document, report)
         self.items = {item[1]: item for item in report["served"]}
         need(len(self.items) == len(report["served"]), "two served items are of one event")
@@ -16,14 +18,8 @@ class Sessions:
         need(not self.items, f"no note is of the served item {next(iter(self.items.values()), None)}")
         self.store.close()
 
-    def nothing(self, number, *labels):
-        """An event finds nothing to do on a connection; it is marked where a session lives there."""
-        if 0 < number <= len(self.run.connections) and self.run.connections[number - 1].living:
-            self.run.mark(("connection", number), "dot", labels, "faint")
-
     def serve(self, number, word):
         if word == "none":
-            self.nothing(number)
             return f"connection {number} has nothing to serve"
         connection = self.run.connections[number - 1]
         need(connection.living and connection.up and connection.up[0].name == word,
@@ -37,10 +33,9 @@ class Sessions:
         fits = item[0] in (frame.name, "refused", "crashed") or (item[0], frame.name) == ("blocked", "call")
         need(fits and tuple(item[2]) == connection.session, f"event {self.run.number} serves {frame.name} on "
              f"connection {connection.number}, the served item is {item}")
-        if frame.content is not None and item[0] != "refused":
-            carried = {"outcome": 3, "blocked": 3}.get(item[0], -1 if item[0] == "crashed" else 4)
-            need(item[carried] == frame.content, f"event {self.run.number} serves another {frame.name} than client "
-                 f"{frame.client} sent")
+        place = CARRIES.get(item[0])
+        need(place is None or item[place] == frame.content, f"event {self.run.number} serves another {frame.name} than "
+             f"client {frame.client} sent")
         who = ("orphan " if connection.cut else "") + f"session {words.session(item[2])}"
         return getattr(self, "on_" + item[0])(connection, ("connection", connection.number), frame, who, item)
 
@@ -54,6 +49,7 @@ class Sessions:
         last.tell(self.run.number, f"{whose} {text} at event {self.run.number}")
 
     def on_connect(self, connection, lane, frame, who, item):
+        self.store.made(item[2])
         session = words.session(item[2])
         self.run.mark(lane, "ring", (f"session {session}", session))
         return f"{who} is made on connection {connection.number}{self.reply(connection, item, 'hello')}"
@@ -76,8 +72,9 @@ class Sessions:
         need(mark == frame.mark, f"event {self.run.number} serves {frame.words} with another mark than was sent")
         shape, tone = ("diamond", "replay") if mark else ("square", "call")
         self.run.mark(lane, shape, (words.brief_call(call), call[0][0]), tone)
+        self.store.reserve(lane, draws)
         if not mark:
-            self.store.ran(lane, session, call, answers, draws)
+            self.store.ran(lane, session, call, answers)
         if not mark and answers[-1] == "committed" and connection.cut:
             self.tell(connection, frame, "committed")
         text = f"{who} runs {'again ' if mark else ''}call {frame.call}, {words.call(call)}: {words.answers(answers)}"
@@ -124,7 +121,6 @@ class Sessions:
     def cut(self, number, up, down):
         lane = ("connection", number)
         if up == "none":
-            self.nothing(number, "no cut")
             return f"cut of connection {number}: it is not open"
         connection = self.run.connections[number - 1]
         need(connection.open, f"event {self.run.number} cuts connection {number}, which is not open")

@@ -4,7 +4,6 @@ import re
 from html import escape
 
 SHAPES = {
-    "dot": '<circle r="2.5"/>',
     "small": '<circle r="3.5"/>',
     "ring": '<circle r="5" class="hollow"/>',
     "square": '<rect x="-6" y="-6" width="12" height="12" rx="1.5"/>',
@@ -44,7 +43,6 @@ LEGEND = (
     ("bolt", "bad", "the server crashes; hatched: it is down"),
     ("open", "ok", "the store is opened again"),
     ("horizon", "ask", "older outcomes are forgotten"),
-    ("dot", "faint", "nothing to do"),
 )
 PHASES = (("live", "a request runs"), ("recovering", "it has lost its connection"),
           ("replaying", "its calls are replayed"), ("waiting", "it waits for the pool or its session"))

@@ -2,7 +2,7 @@
 
 The report lists what was stored, and not when. A commit is told by its session and the number of that session's
 commits before it; a block by the first event that could have stored it; an alert line of a call that a crash stopped by
-counting those that answered calls stored. A value past the last reserved one was the first of a reservation.
+counting those that answered calls stored; a reservation of a sequence by the first value that is seen of it.
 """
 
 from collections import Counter, defaultdict
@@ -28,8 +28,9 @@ class Store:
         self.forgotten = report.get("forgotten", 0)
         self.commits = defaultdict(int)     # of each session
         self.asked, self.blocked = set(), set()     # identifiers: that a question carried, and that it blocked
+        self.starts = {sequence["name"]: sequence["start"] for sequence in document.get("sequences", [])}
         self.reserved = {}                  # of each sequence the last value that is
-        self.incarnation, self.horizon = 0 if "image" in document else 1, 0
+        self.incarnation, self.horizon = 0 if "image" in document else 1, 0     # 0: not known yet; none
         self.ended = {}                     # the tick at which each incarnation ended
         self.down = None                    # the span of the service's being down
 
@@ -48,26 +49,31 @@ class Store:
             count += mark.lane == STORE
         return count
 
+    def made(self, session):
+        """A session was made; the first one tells how often the store of an image had been opened."""
+        if not self.incarnation:
+            self.incarnation = session[0]
+            self.ended[session[0] - 1] = 0
+
     # What calls and outcomes store.
 
-    def ran(self, lane, session, call, answers, draws):
+    def ran(self, lane, session, call, answers):
         """A session ran a call without the mark of a replay."""
-        if session[0] > self.incarnation:
-            self.incarnation = session[0]
-        self.reserve(lane, draws)
         if answers[-1] == "committed":
             need(self.commit(lane, session), f"event {self.run.number} stores one more entry than the report tells")
         if call[0][0] == "alter":
             self.alert(lane, call[0][1])
 
     def reserve(self, lane, draws):
-        for draw in draws:
-            if draw[0] != "seq" or draw[2] <= self.reserved.get(draw[1], draw[2] - 1):
+        for name, value in [draw[1:] for draw in draws if draw[0] == "seq"]:
+            if value <= self.reserved.get(name, value - 1):
                 continue
-            last = self.reserved[draw[1]] = draw[2] + RESERVED - 1
-            values = f"{draw[2]}-{last}"
-            self.mark(lane, "comb", (f"{draw[1]} {values}", values), "faint",
-                      f"sequence {draw[1]}: the values {values} are reserved")
+            start = self.starts.setdefault(name, value)     # an image's sequences are not told
+            first = value - (value - start) % RESERVED
+            self.reserved[name] = first + RESERVED - 1
+            values = f"{first}-{self.reserved[name]}"
+            self.mark(lane, "comb", (f"{name} {values}", values), "faint",
+                      f"sequence {name}: the values {values} are reserved")
 
     def commit(self, lane, session):
         """Whether the report has the next entry of a session."""

@@ -84,10 +84,12 @@ class Walk:
         if first == "down":
             return "an outside session finds the server down"
         calls, session = self.schedule[self.run.number - 1][1], words.session(first)
+        self.store.made(first)
         self.run.mark(OUTSIDE, "square", (f"session {session}", session), "call")
         said = []
         for call, (answers, draws) in zip(calls, runs):
-            self.store.ran(OUTSIDE, first[:2], call, answers, draws)
+            self.store.reserve(OUTSIDE, draws)
+            self.store.ran(OUTSIDE, first[:2], call, answers)
             said.append(f"{words.call(call)}: {words.answers(answers)}")
         blocked = "" if len(runs) == len(calls) else "; then a commit finds its identifier blocked"
         return f"outside session {session} runs {'; '.join(said)}{blocked}"

@@ -66,11 +66,9 @@ class Page(unittest.TestCase):
 
     @of_each_run
     def test_all_marks_and_frames_are_drawn(self, run):
-        followed_run, _, columns = arranged(run)
         groups = [one.get("class") for one in drawn(run)[1].iter("g")]
-        self.assertGreaterEqual(groups.count("frame"), len(followed_run.frames))
-        folded = [mark for mark in followed_run.marks if columns.plan.shared and mark.labels in (("waits",), ("idle",))]
-        self.assertEqual(groups.count("mark"), len(followed_run.marks) - len(folded))
+        self.assertGreaterEqual(groups.count("frame"), len(followed(run).frames))
+        self.assertEqual(groups.count("mark"), len(followed(run).marks))
 
     def test_what_the_runs_say(self):
         for name, said in {
@@ -158,7 +156,7 @@ class Page(unittest.TestCase):
         root = drawn(run)[1]
         self.assertEqual([], collisions(root))
         self.assertIn("clients 3, 4, 5, 6, 7, 8, 9, 10, 11, 12, 13, ", words_of(root))
-        self.assertEqual(sum(column[0] == "clients" for column in arranged(run)[2].order), 1)
+        self.assertEqual(sum(column[0] == "client" for column in arranged(run)[2].order), 2)
 
     def test_colours_can_be_read(self):
         """Text stands out by 4.5 or more from both grounds, light and dark."""
