@@ -6,31 +6,28 @@ use Rattle.svc_values.specs.declared.schema.Shape.{Shape}
 use Rattle.svc_values.specs.declared.entry.Entry.{Entry}
 use Rattle.svc_values.specs.declared.entry.Ltxid.{Ltxid}
 use Rattle.svc_values.specs.Fitting.{writes_fit}
-use Rattle.ltxid_book.specs.declared.State.{State}
-use Rattle.ltxid_book.specs.Sessions.{state_in, may_commit as can_commit, after_commit, after_block, Says}
-use Rattle.ltxid_book.specs.Journal.{Committed, IsBookOf, BlocksStand}
-use Rattle.ltxid_book.proofs.Journal.{follows_commits, follows_blocks}
+use Rattle.ltxid_book.specs.Sessions.{Contents, Sessions, sessions_in, may_commit as may_note, after_commit, after_block}
+use Rattle.ltxid_book.specs.Journal.{Committed, committed_of, book_of, BlocksStand}
+use Rattle.ltxid_book.proofs.Offered.{follows_commits, follows_blocks}
 use Rattle.commit_log.specs.declared.journal.Journal.{Journal}
 use Rattle.commit_log.specs.declared.judge.Judge.{Judge}
 use Rattle.commit_log.specs.declared.records.Record.TheVariants as kept
 use Rattle.commit_log.specs.Bases.{schemas_of}
-use Rattle.commit_log.specs.Rules.{committed, may_commit, may_block, with_record}
+use Rattle.commit_log.specs.Rules.{sessions_of, may_commit, may_block, with_record}
 use Rattle.commit_log.specs.Judging.{IsBookFor, Keeps}
 
 -- whether a commit may come next, by a book that is kept beside the journal
-pub may_beside : (book : List ((ℕ × ℕ) × State)) (journal : Journal) (entry : Entry) → IsBookFor book journal
-    → may_commit journal entry ≡ (nat_le entry.ltxid.incarnation journal.incarnation && (can_commit (state_in book) entry.ltxid && writes_fit (schemas_of journal.base) entry.writes))
+pub may_beside : (book : Contents) (journal : Journal) (entry : Entry) → IsBookFor book journal
+    → may_commit journal entry ≡ (nat_le entry.ltxid.incarnation journal.incarnation && (may_note (sessions_in book) entry.ltxid && writes_fit (schemas_of journal.base) entry.writes))
 unfolding may_commit
 may_beside book journal entry book_for =
-    let x = entry.ltxid in
-    let is_opened = nat_le x.incarnation journal.incarnation in
-    ap (λ (state : State). is_opened && (((x.number == state.next) && not state.blocked) && writes_fit (schemas_of journal.base) entry.writes)) (sym (book_for.sessions x.incarnation x.session))
+    ap (λ (s : Sessions). nat_le entry.ltxid.incarnation journal.incarnation && (may_note s entry.ltxid && writes_fit (schemas_of journal.base) entry.writes)) (sym book_for.sessions)
 
 pub may_by_book : (judge : Judge) (entry : Entry) → Keeps judge
-    → may_commit judge.journal entry ≡ (nat_le entry.ltxid.incarnation judge.journal.incarnation && (can_commit (state_in judge.book) entry.ltxid && writes_fit judge.shape.schemas entry.writes))
+    → may_commit judge.journal entry ≡ (nat_le entry.ltxid.incarnation judge.journal.incarnation && (may_note (sessions_in judge.book) entry.ltxid && writes_fit judge.shape.schemas entry.writes))
 may_by_book judge entry keeps =
     may_beside judge.book judge.journal entry keeps.book_for
-    ∙ ap (λ (shape : Shape). nat_le entry.ltxid.incarnation judge.journal.incarnation && (can_commit (state_in judge.book) entry.ltxid && writes_fit shape.schemas entry.writes)) (sym keeps.shape)
+    ∙ ap (λ (shape : Shape). nat_le entry.ltxid.incarnation judge.journal.incarnation && (may_note (sessions_in judge.book) entry.ltxid && writes_fit shape.schemas entry.writes)) (sym keeps.shape)
 
 pub three_hold : (a b c r : Bool) → a ≡ true → b ≡ true → r ≡ c → r ≡ (a && (b && c))
 three_hold true true c r first second e = e
@@ -52,30 +49,31 @@ middle true false c e = cc
 middle false b c e = absurd cc
 
 -- the book lets a commit through that may come next
-pub book_lets : (judge : Judge) (entry : Entry) → Keeps judge → may_commit judge.journal entry ≡ true → IsTrue (can_commit (state_in judge.book) entry.ltxid)
+pub book_lets : (judge : Judge) (entry : Entry) → Keeps judge → may_commit judge.journal entry ≡ true → IsTrue (may_note (sessions_in judge.book) entry.ltxid)
 book_lets judge entry keeps may =
-    middle (nat_le entry.ltxid.incarnation judge.journal.incarnation) (can_commit (state_in judge.book) entry.ltxid) (writes_fit judge.shape.schemas entry.writes) (sym (may_by_book judge entry keeps) ∙ may)
+    middle (nat_le entry.ltxid.incarnation judge.journal.incarnation) (may_note (sessions_in judge.book) entry.ltxid) (writes_fit judge.shape.schemas entry.writes) (sym (may_by_book judge entry keeps) ∙ may)
 
 -- a book that has noted the commit is one for the journal with the entry
-pub notes_commit : (old new : List ((ℕ × ℕ) × State)) (journal : Journal) (entry : Entry) → IsBookFor old journal → IsTrue (can_commit (state_in old) entry.ltxid) → Says new (after_commit (state_in old) entry.ltxid entry.completed)
+pub notes_commit : (old new : Contents) (journal : Journal) (entry : Entry) → IsBookFor old journal → IsTrue (may_note (sessions_in old) entry.ltxid) → sessions_in new ≡ after_commit (sessions_in old) entry.ltxid entry.completed
     → IsBookFor new (with_record journal (kept.Commit entry))
 notes_commit old new journal entry book_for may says =
-    let commits = map committed journal.entries in
-    let follows = follows_commits (state_in old) commits journal.blocked (committed entry) book_for.sessions book_for.blocks may in
-    let more : map committed (journal.entries ++ entry ∷ []) ≡ commits ++ committed entry ∷ [] = map_push committed journal.entries entry in
-    let sessions : IsBookOf (state_in new) (commits ++ committed entry ∷ []) journal.blocked = λ incarnation session. says incarnation session ∙ follows.0 incarnation session in
+    let commits = map committed_of journal.entries in
+    let lets : IsTrue (may_note (sessions_of journal) entry.ltxid) = ap (λ (s : Sessions). may_note s entry.ltxid) (sym book_for.sessions) ∙ may in
+    let follows = follows_commits 0 commits journal.blocked (committed_of entry) book_for.blocks lets in
+    let more : map committed_of (journal.entries ++ entry ∷ []) ≡ commits ++ committed_of entry ∷ [] = map_push committed_of journal.entries entry in
     record {
-      sessions = subst (λ (l : List Committed). IsBookOf (state_in new) l journal.blocked) (sym more) sessions;
+      sessions = says ∙ ap (λ (s : Sessions). after_commit s entry.ltxid entry.completed) book_for.sessions ∙ follows.0 ∙ ap (λ (l : List Committed). book_of 0 l journal.blocked) (sym more);
       blocks = subst (λ (l : List Committed). BlocksStand l journal.blocked) (sym more) follows.1;
     }
 
 -- whether an identifier may be blocked, by a book that is kept beside the journal
-pub block_beside : (book : List ((ℕ × ℕ) × State)) (journal : Journal) (x : Ltxid) → IsBookFor book journal → can_commit (state_in book) x ≡ may_block journal x
-block_beside book journal x book_for = ap (λ (state : State). (x.number == state.next) && not state.blocked) (book_for.sessions x.incarnation x.session)
+pub block_beside : (book : Contents) (journal : Journal) (x : Ltxid) → IsBookFor book journal → may_note (sessions_in book) x ≡ may_block journal x
+block_beside book journal x book_for = ap (λ (s : Sessions). may_note s x) book_for.sessions
 
 -- a book that has noted the block is one for the journal with it
-pub notes_block : (old new : List ((ℕ × ℕ) × State)) (journal : Journal) (x : Ltxid) → IsBookFor old journal → IsTrue (can_commit (state_in old) x) → Says new (after_block (state_in old) x)
+pub notes_block : (old new : Contents) (journal : Journal) (x : Ltxid) → IsBookFor old journal → IsTrue (may_note (sessions_in old) x) → sessions_in new ≡ after_block (sessions_in old) x
     → IsBookFor new (with_record journal (kept.Blocked x))
 notes_block old new journal x book_for may says =
-    let follows = follows_blocks (state_in old) (map committed journal.entries) journal.blocked x book_for.sessions book_for.blocks may in
-    record { sessions = λ incarnation session. says incarnation session ∙ follows.0 incarnation session; blocks = follows.1 }
+    let lets : IsTrue (may_block journal x) = sym (block_beside old journal x book_for) ∙ may in
+    let follows = follows_blocks 0 (map committed_of journal.entries) journal.blocked x book_for.blocks lets in
+    record { sessions = says ∙ ap (λ (s : Sessions). after_block s x) book_for.sessions ∙ follows.0; blocks = follows.1 }

@@ -1,15 +1,14 @@
 -- What a judge of records keeps beside the journal.
 use Rattle.std.specs.Prelude.{◌≡◌, ℕ, List, map, Ok}
-use Rattle.ltxid_book.specs.declared.State.{State}
-use Rattle.ltxid_book.specs.Sessions.{state_in}
-use Rattle.ltxid_book.specs.Journal.{IsBookOf, BlocksStand}
+use Rattle.ltxid_book.specs.Sessions.{Contents, sessions_in}
+use Rattle.ltxid_book.specs.Journal.{committed_of, BlocksStand}
 use Rattle.redo_store.specs.declared.walk.Walk.{Walk}
 use Rattle.redo_store.specs.Records.{records_of}
 use Rattle.redo_store.specs.Walk.{HasRead}
 use Rattle.commit_log.specs.declared.journal.Journal.{Journal}
 use Rattle.commit_log.specs.declared.judge.Judge.{Judge}
 use Rattle.commit_log.specs.Bases.{shape_of}
-use Rattle.commit_log.specs.Rules.{Progress, Empty, Begun, committed, end_of}
+use Rattle.commit_log.specs.Rules.{Progress, Empty, Begun, sessions_of, end_of}
 use Rattle.commit_log.specs.Journals.{judged}
 
 -- how far it has come
@@ -17,9 +16,9 @@ abbrev pub progress_in : Judge → Progress
 progress_in judge = Begun judge.journal judge.is_opened
 
 -- the book says of each session what the journal does, and each block of the journal stands
-pub record IsBookFor (book : List ((ℕ × ℕ) × State)) (journal : Journal) : Type 0 where
-  pub sessions : IsBookOf (state_in book) (map committed journal.entries) journal.blocked
-  pub blocks : BlocksStand (map committed journal.entries) journal.blocked
+pub record IsBookFor (book : Contents) (journal : Journal) : Type 0 where
+  pub sessions : sessions_in book ≡ sessions_of journal
+  pub blocks : BlocksStand (map committed_of journal.entries) journal.blocked
 
 -- its book is one for its journal, its shape is that of the base, and it knows where each sequence's values end
 pub record Keeps (judge : Judge) : Type 0 where

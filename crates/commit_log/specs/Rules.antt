@@ -5,9 +5,8 @@ use Rattle.std.specs.Ordering.{int_eq}
 use Rattle.std.specs.Str.{bytes_eq}
 use Rattle.svc_values.specs.declared.entry.Entry.{Entry}
 use Rattle.svc_values.specs.declared.entry.Ltxid.{Ltxid}
-use Rattle.ltxid_book.specs.declared.State.{State}
-use Rattle.ltxid_book.specs.Journal.{Committed, book_of}
-use Rattle.ltxid_book.specs.Sessions.{may_commit as can_commit}
+use Rattle.ltxid_book.specs.Journal.{committed_of, book_of}
+use Rattle.ltxid_book.specs.Sessions.{Sessions, may_commit as may_note}
 use Rattle.svc_values.specs.Fitting.{writes_fit}
 use Rattle.commit_log.specs.declared.base.Base.{Base}
 use Rattle.commit_log.specs.declared.base.BaseSequence.{BaseSequence}
@@ -17,22 +16,18 @@ use Rattle.commit_log.specs.declared.records.Record.{Record}
 use Rattle.commit_log.specs.declared.records.Record.TheVariants as kept
 use Rattle.commit_log.specs.Bases.{is_base, schemas_of}
 
--- a commit as the book of sessions sees it
-abbrev pub committed : Entry → Committed
-committed entry = record { ltxid = entry.ltxid; completed = entry.completed }
-
 -- what the journal says of each session
-abbrev pub sessions_of : Journal → ℕ → ℕ → State
-sessions_of journal = book_of (map committed journal.entries) journal.blocked
+abbrev pub sessions_of : Journal → Sessions
+sessions_of journal = book_of 0 (map committed_of journal.entries) journal.blocked
 
 -- A commit may come next in a store that was opened with its incarnation or a later one, where its identifier is its session's
 -- next one and is not blocked, and its writes fit the tables.
 unfoldable pub may_commit : Journal → Entry → Bool
-may_commit journal entry = nat_le entry.ltxid.incarnation journal.incarnation && (can_commit (sessions_of journal) entry.ltxid && writes_fit (schemas_of journal.base) entry.writes)
+may_commit journal entry = nat_le entry.ltxid.incarnation journal.incarnation && (may_note (sessions_of journal) entry.ltxid && writes_fit (schemas_of journal.base) entry.writes)
 
 -- An identifier may be blocked where it is its session's next one and is not blocked, in whichever incarnation.
 abbrev pub may_block : Journal → Ltxid → Bool
-may_block journal x = can_commit (sessions_of journal) x
+may_block journal x = may_note (sessions_of journal) x
 
 -- how many values of a sequence are set aside at once
 abbrev pub block_size : ℤ

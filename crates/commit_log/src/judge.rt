@@ -1,6 +1,5 @@
 //! A journal under way: records are judged one by one and added to it.
 ghost use Rattle.std.specs.Prelude.{◌≡◌, Some, None, OnOk, IfOk, IsErrOf, IsTrue, [], map, false};
-ghost use Rattle.svc_values.specs.Identifiers.{IsLtxid};
 ghost use Rattle.svc_values.specs.Fitting.{writes_fit as writes_fit_def};
 ghost use Rattle.canon_bytes.specs.Entries.{FitsEntry};
 ghost use Rattle.commit_log.specs.Bases.{shape_of as shape_of_def};
@@ -154,12 +153,11 @@ impl Judge {
 
     // Whether the commit may come next in a journal that was opened.
     pub fn can_commit(&self, entry: &Entry) -> bool
-        requires kept { Keeps self.now }
-        requires ltxid { IsLtxid entry.now.ltxid }
+        requires { Keeps self.now }
         ensures { result ≡ may_commit self.now.journal entry.now }
     {
         entry.ltxid.incarnation <= self.journal.incarnation
-            && (self.book.can_commit(&entry.ltxid)
+            && (self.book.may_commit(&entry.ltxid)
                 && writes_fit(&self.shape, entry.writes.as_slice()))
     }
 
@@ -184,17 +182,15 @@ impl Judge {
 
     // Whether the identifier may be blocked next.
     pub fn can_block(&self, x: &Ltxid) -> bool
-        requires kept { Keeps self.now }
-        requires ltxid { IsLtxid x.now }
+        requires { Keeps self.now }
         ensures { result ≡ may_block self.now.journal x.now }
     {
-        self.book.can_commit(x)
+        self.book.may_commit(x)
     }
 
     // Adds the block of an identifier.
     fn block(&mut self, x: Ltxid) -> Result<(), Misfit>
-        requires kept { Keeps self.old }
-        requires fits { IsLtxid x }
+        requires { Keeps self.old }
         ensures taken { OnOk result (after (progress_in self.old) (Record.Blocked x) ≡ Some (progress_in self.new)) }
         ensures kept { OnOk result (Keeps self.new) }
         ensures misplaced { IsErrOf result Misfit.Misplaced → after (progress_in self.old) (Record.Blocked x) ≡ None }

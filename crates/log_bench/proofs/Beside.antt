@@ -4,8 +4,7 @@ use Rattle.std.specs.Prelude.{IsTrue, nat_le, Ok}
 use Rattle.svc_values.specs.declared.entry.Entry.{Entry}
 use Rattle.svc_values.specs.declared.entry.Write.{Write}
 use Rattle.svc_values.specs.Fitting.{writes_fit}
-use Rattle.ltxid_book.specs.declared.State.{State}
-use Rattle.ltxid_book.specs.Sessions.{state_in, may_commit as can_commit, after_commit, Says}
+use Rattle.ltxid_book.specs.Sessions.{Contents, sessions_in, may_commit as may_note, after_commit}
 use Rattle.commit_log.specs.declared.journal.Journal.{Journal}
 use Rattle.commit_log.specs.declared.records.Record.TheVariants as kept
 use Rattle.commit_log.specs.Bases.{schemas_of}
@@ -19,17 +18,17 @@ same_journal : (a b : Journal) (image : List ℕ) → journal_of image ≡ Ok a 
 same_journal a b image first second = cc
 
 -- the book lets a plain commit through that may come next
-pub may_follow : (book : List ((ℕ × ℕ) × State)) (journal : Journal) (entry : Entry) → Follows book journal → IsPlain entry → IsTrue (can_commit (state_in book) entry.ltxid) → IsTrue (may_commit journal entry)
+pub may_follow : (book : Contents) (journal : Journal) (entry : Entry) → Follows book journal → IsPlain entry → IsTrue (may_note (sessions_in book) entry.ltxid) → IsTrue (may_commit journal entry)
 may_follow book journal entry follows plain may =
     let fits : Bool = writes_fit (schemas_of journal.base) entry.writes in
     may_beside book journal entry follows.book_for
-    ∙ ap (λ (n : ℕ). nat_le n journal.incarnation && (can_commit (state_in book) entry.ltxid && fits)) plain.incarnation
-    ∙ ap (λ (n : ℕ). nat_le 1 n && (can_commit (state_in book) entry.ltxid && fits)) follows.incarnation
+    ∙ ap (λ (n : ℕ). nat_le n journal.incarnation && (may_note (sessions_in book) entry.ltxid && fits)) plain.incarnation
+    ∙ ap (λ (n : ℕ). nat_le 1 n && (may_note (sessions_in book) entry.ltxid && fits)) follows.incarnation
     ∙ ap (λ (b : Bool). b && fits) may
     ∙ ap (λ (writes : List Write). writes_fit (schemas_of journal.base) writes) plain.writes
 
 -- and after it the book follows
-pub followed_after : (old new : List ((ℕ × ℕ) × State)) (before after : List ℕ) (first : Journal) (entry : Entry) → journal_of before ≡ Ok first → IsFollowed old before → IsTrue (can_commit (state_in old) entry.ltxid) → Says new (after_commit (state_in old) entry.ltxid entry.completed)
+pub followed_after : (old new : Contents) (before after : List ℕ) (first : Journal) (entry : Entry) → journal_of before ≡ Ok first → IsFollowed old before → IsTrue (may_note (sessions_in old) entry.ltxid) → sessions_in new ≡ after_commit (sessions_in old) entry.ltxid entry.completed
     → journal_of after ≡ with_records (kept.Commit entry ∷ []) (journal_of before) → IsFollowed new after
 followed_after old new before after first entry holds followed may says added journal is =
     let follows = followed first holds in

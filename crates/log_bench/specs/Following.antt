@@ -1,7 +1,7 @@
 -- What the work keeps beside a journal.
 use Rattle.std.specs.Prelude.{◌≡◌, ℕ, List, [], Ok}
 use Rattle.svc_values.specs.declared.entry.Entry.{Entry}
-use Rattle.ltxid_book.specs.declared.State.{State}
+use Rattle.ltxid_book.specs.Sessions.{Contents}
 use Rattle.commit_log.specs.declared.journal.Journal.{Journal}
 use Rattle.commit_log.specs.Journals.{journal_of}
 use Rattle.commit_log.specs.Judging.{IsBookFor}
@@ -12,10 +12,10 @@ pub record IsPlain (entry : Entry) : Type 0 where
   pub writes : entry.writes ≡ []
 
 -- the store was opened once, and the book is that of its journal
-pub record Follows (book : List ((ℕ × ℕ) × State)) (journal : Journal) : Type 0 where
+pub record Follows (book : Contents) (journal : Journal) : Type 0 where
   pub incarnation : journal.incarnation ≡ 1
   pub book_for : IsBookFor book journal
 
 -- so it is with the journal that the image holds
-abbrev pub IsFollowed : List ((ℕ × ℕ) × State) → List ℕ → Type 0
+abbrev pub IsFollowed : Contents → List ℕ → Type 0
 IsFollowed book image = (journal : Journal) → journal_of image ≡ Ok journal → Follows book journal

@@ -54,7 +54,7 @@ fn commit_next<D: Disk>(
     ensures ready { IfOk result (λ _. CanLog log.new (D.state disk.new)) }
     ensures followed { IfOk result (λ _. IsFollowed book.new (D.state disk.new).now.seen) }
 {
-    if !book.can_commit(&entry.ltxid) {
+    if !book.may_commit(&entry.ltxid) {
         return Ok(false);
     }
     log.commit(disk, entry)?;

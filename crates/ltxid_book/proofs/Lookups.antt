@@ -1,6 +1,9 @@
 -- Look-ups by a session's key, in a map whose keys are in order.
-use Rattle.std.proofs.Common.{◌≡◌, ℕ, ◌==◌, ◌&&◌, Bool, true, false, List, [], ◌∷◌, Option, Some, cond, unwrap_or, if◌then◌else◌, refl, sym, ap, ◌∙◌, arith}
+use Rattle.std.proofs.Common.{◌≡◌, ℕ, ◌≤◌, ◌==◌, ◌&&◌, Bool, true, false, List, [], ◌∷◌, Option, Some, cond, unwrap_or, if◌then◌else◌, refl, sym, ap, ◌∙◌, arith, filter}
+use Rattle.std.specs.Prelude.{nat_le}
+use Rattle.std.proofs.lemmas.Bool.Decides.{nat_tests}
 use Rattle.std.proofs.lemmas.Grind.{common_steps}
+use Rattle.std.proofs.lemmas.Map.Entries.{lookup-filter-keys}
 use Rattle.std.specs.Map.{lookup}
 use Rattle.std.specs.BTreeMap.{is_at}
 use Rattle.std.specs.Ordering.{nat_cmp, ordering_then, is_eq}
@@ -43,3 +46,13 @@ state_in-put old new key state put incarnation session =
     ap (λ o. unwrap_or o untouched) (sym (lookup-key_cmp new q) ∙ put q ∙ ap (λ t. cond t (Some state) (lookup (is_at (key_cmp q)) old)) (is_at-key_cmp key q)
     ∙ ap (λ o. cond ((key.0 == incarnation) && (key.1 == session)) (Some state) o) (lookup-key_cmp old q))
     ∙ chosen ((key.0 == incarnation) && (key.1 == session)) state (lookup (λ k. (incarnation == k.0) && (session == k.1)) old)
+
+test_of : (below incarnation session : ℕ) (key : ℕ × ℕ) → below ≤ incarnation → ((incarnation == key.0) && (session == key.1)) ≡ true → nat_le below key.0 ≡ true
+test_of below incarnation session key le is = grind (arith, nat_tests)
+
+-- what each session's state is after those of lower incarnations are gone
+pub state_in-filter : (old new : List ((ℕ × ℕ) × State)) (below : ℕ) → new ≡ filter (λ e. nat_le below e.0.0) old
+    → (incarnation session : ℕ) → below ≤ incarnation → state_in new incarnation session ≡ state_in old incarnation session
+state_in-filter old new below kept incarnation session le =
+    ap (λ (l : List ((ℕ × ℕ) × State)). state_in l incarnation session) kept
+    ∙ ap (λ o. unwrap_or o untouched) (lookup-filter-keys (λ key. (incarnation == key.0) && (session == key.1)) (λ key. nat_le below key.0) true (λ key is. test_of below incarnation session key le is) old)

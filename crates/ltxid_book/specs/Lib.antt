@@ -1,3 +1,5 @@
+pub mod InnerMaking
 pub mod Journal
 pub mod Laws
+pub mod Outcomes
 pub mod Sessions

@@ -12,8 +12,8 @@ use Rattle.svc_values.specs.declared.frame.Up.{Up}
 use Rattle.svc_values.specs.declared.frame.Up.TheVariants as up
 use Rattle.svc_values.specs.declared.frame.Down.TheVariants as down
 use Rattle.svc_values.specs.SameLaws.{bytes_decide}
-use Rattle.outcome_call.specs.declared.Verdict.{Verdict}
-use Rattle.outcome_call.specs.declared.Verdict.TheVariants as verdict
+use Rattle.ltxid_book.specs.declared.verdict.Verdict.{Verdict}
+use Rattle.ltxid_book.specs.declared.verdict.Verdict.TheVariants as verdict
 use Rattle.mutable_values.specs.Sources.{Opening}
 use Rattle.server_model.specs.Base.{Base}
 use Rattle.server_model.specs.Core.{Core}
@@ -180,6 +180,7 @@ told_lined verdict.AlreadyBlocked core x = nothing core (up.Outcome x) _ _ refl 
 told_lined (verdict.Committed completed) core x = nothing core (up.Outcome x) (Says (down_of (verdict.Committed completed))) _ refl refl
 told_lined (verdict.ServerAhead next) core x = nothing core (up.Outcome x) (Says (down_of (verdict.ServerAhead next))) _ refl refl
 told_lined (verdict.ClientAhead next) core x = nothing core (up.Outcome x) (Says (down_of (verdict.ClientAhead next))) _ refl refl
+told_lined (verdict.Forgotten horizon) core x = nothing core (up.Outcome x) (Says (down_of (verdict.Forgotten horizon))) _ refl refl
 
 outcomes_lined : (core : Core) (x : Ltxid) (after : Core) (told : Told) → Outcomes core x after told → Lined core (up.Outcome x) told after
 outcomes_lined core x _ _ (IsTold judged by) = told_lined judged core x
@@ -227,6 +228,7 @@ asked_alerts core x _ _ (IsTold verdict.AlreadyBlocked by) = refl
 asked_alerts core x _ _ (IsTold (verdict.Committed completed) by) = refl
 asked_alerts core x _ _ (IsTold (verdict.ServerAhead next) by) = refl
 asked_alerts core x _ _ (IsTold (verdict.ClientAhead next) by) = refl
+asked_alerts core x _ _ (IsTold (verdict.Forgotten horizon) by) = refl
 asked_alerts core x _ _ (BlockStops after by (inl same)) = ap (λ (c : Core). c.alerts) same
 asked_alerts core x _ _ (BlockStops after by (inr same)) = ap (λ (c : Core). c.alerts) same
 
@@ -245,9 +247,10 @@ moves_lined server _ _ (AnswersAsk x core frame on asks) = quiet_move server _ _
 moves_lined server _ _ (HaltsInAsk x core told running asks) = quiet_move server _ _ refl (asked_alerts server.core x core told asks)
 moves_lined server _ _ (Reaps front back sess split) = quiet_move server _ [] refl refl
 moves_lined server _ _ Falls = quiet_move server _ [] refl refl
-moves_lined server _ _ (Opens off) = quiet_move server _ [] refl refl
-moves_lined server _ _ (StopsOpening core off (inl same)) = quiet_move server _ [] refl (ap (λ (c : Core). c.alerts) same)
-moves_lined server _ _ (StopsOpening core off (inr same)) = quiet_move server _ [] refl (ap (λ (c : Core). c.alerts) same)
+moves_lined server _ _ (Opens below off may) = quiet_move server _ [] refl refl
+moves_lined server _ _ (StopsOpening below core off may (inl same)) = quiet_move server _ [] refl (ap (λ (c : Core). c.alerts) same)
+moves_lined server _ _ (StopsOpening below core off may (inr (inl same))) = quiet_move server _ [] refl (ap (λ (c : Core). c.alerts) same)
+moves_lined server _ _ (StopsOpening below core off may (inr (inr same))) = quiet_move server _ [] refl (ap (λ (c : Core). c.alerts) same)
 
 runs_lined : (base : Base) (history : List Happened) (server : Server) → Runs base history server → lines_stand (lines_in history) server.core.alerts ≡ true
 unfolding lines_in

@@ -15,8 +15,8 @@ use Rattle.svc_values.specs.declared.frame.Up.TheVariants as up
 use Rattle.svc_values.specs.declared.frame.Down.TheVariants as down
 use Rattle.svc_values.specs.Endings.{is_committed, ends_committed}
 use Rattle.mutable_values.specs.Sources.{Opening}
-use Rattle.outcome_call.specs.declared.Verdict.{Verdict}
-use Rattle.outcome_call.specs.declared.Verdict.TheVariants as verdict
+use Rattle.ltxid_book.specs.declared.verdict.Verdict.{Verdict}
+use Rattle.ltxid_book.specs.declared.verdict.Verdict.TheVariants as verdict
 use Rattle.svc_values.specs.declared.tables.PlainRow.{PlainRow}
 use Rattle.stmt_meaning.specs.Meaning.{Meant}
 use Rattle.server_model.specs.Base.{Base}
@@ -92,6 +92,7 @@ outcomes_stored core sess x _ _ (IsTold judged by) = told_of judged
     told_of (verdict.Committed completed) = tt
     told_of (verdict.ServerAhead next) = tt
     told_of (verdict.ClientAhead next) = tt
+    told_of (verdict.Forgotten horizon) = tt
 outcomes_stored core sess x _ _ (BlockStops after by same) = tt
 
 pub serve_stored : (core : Core) (sess : Sess) (now : ℕ) (frame : Up) (after : Core) (t : Sess) (told : Told) → Serve core sess now frame after t told → IfCommitted told core sess after
@@ -161,8 +162,8 @@ moves_stored server _ _ (AnswersAsk x core frame on asks) = (tt, tt)
 moves_stored server _ _ (HaltsInAsk x core told running asks) = (tt, tt)
 moves_stored server _ _ (Reaps front back sess split) = tt
 moves_stored server _ _ Falls = tt
-moves_stored server _ _ (Opens off) = tt
-moves_stored server _ _ (StopsOpening core off same) = tt
+moves_stored server _ _ (Opens below off may) = tt
+moves_stored server _ _ (StopsOpening below core off may same) = tt
 
 pub runs_stored : (base : Base) (history : List Happened) (server : Server) → Runs base history server → AllStored history server
 runs_stored base _ _ Start = tt

@@ -1,15 +1,14 @@
 -- How often each session commits, with one commit more.
-use Rattle.std.specs.Prelude.{◌≡◌, ◌+◌, ◌==◌, ◌&&◌, ◌<◌, ◌≤◌, ℕ, Bool, true, false, not, IsTrue, List, [], ◌∷◌, ◌++◌, map, length, if◌then◌else◌}
-use Rattle.std.proofs.Common.{refl, sym, ◌∙◌, ap, subst, arith, length-append, append-nil, append_assoc}
+use Rattle.std.specs.Prelude.{◌≡◌, ◌+◌, ◌==◌, ◌<◌, ◌≤◌, ℕ, Bool, true, false, not, IsTrue, List, [], ◌∷◌, ◌++◌, map, length, if◌then◌else◌}
+use Rattle.std.proofs.Common.{refl, sym, ◌∙◌, ap, arith, length-append, append-nil, append_assoc}
 use Rattle.std.proofs.lemmas.List.{map-append}
 use Rattle.std.proofs.lemmas.List.Elements.{filter-append}
 use Rattle.std.proofs.lemmas.Bool.Decides.{nat_tests}
 use Rattle.svc_values.specs.declared.entry.Ltxid.{Ltxid}
 use Rattle.svc_values.specs.declared.entry.Entry.{Entry}
 use Rattle.svc_values.specs.Identifiers.{is_of}
-use Rattle.ltxid_book.specs.Sessions.{may_commit}
-use Rattle.ltxid_book.specs.Journal.{Committed, commits_of, is_blocked, next_ltxid, book_of}
-use Rattle.server_model.specs.Base.{committed_of}
+use Rattle.ltxid_book.specs.Journal.{Committed, commits_of, is_blocked, next_ltxid, state_of, committed_of}
+use Rattle.ltxid_book.proofs.Offered.{May}
 use Rattle.server_model.specs.Laws.{AreNumbered}
 
 abbrev pub count : List Committed → ℕ → ℕ → ℕ
@@ -47,17 +46,16 @@ is_of-later x incarnation session below = grind (arith, nat_tests)
 pub is_of-above : (x : Ltxid) (incarnation session n : ℕ) → x.session ≤ n → n < session → is_of x incarnation session ≡ false
 is_of-above x incarnation session n within above = grind (arith, nat_tests)
 
-same_number : (n : ℕ) → (n == n) ≡ true
-same_number n = grind (arith, nat_tests)
-
-both : (a b : Bool) → a ≡ true → b ≡ true → (a && b) ≡ true
-both true b one other = other
-both false b one other = let none : ⊥ = cc in absurd none
+not-true : (b : Bool) → not b ≡ true → b ≡ false
+not-true true is = let none : ⊥ = cc in absurd none
+not-true false is = refl
 
 -- a session's next identifier that is not blocked may commit
-pub may-commit : (commits : List Committed) (blocks : List Ltxid) (x : Ltxid) → x.number ≡ count commits x.incarnation x.session → IsTrue (not (is_blocked blocks x)) → IsTrue (may_commit (book_of commits blocks) x)
-may-commit commits blocks x number free =
-    subst (λ (n : ℕ). ((x.number == n) && not (is_blocked blocks (record { incarnation = x.incarnation; session = x.session; number = n }))) ≡ true) number (both (x.number == x.number) (not (is_blocked blocks x)) (same_number x.number) free)
+pub may-commit : (commits : List Committed) (blocks : List Ltxid) (x : Ltxid) → x.number ≡ count commits x.incarnation x.session → IsTrue (not (is_blocked blocks x)) → May x (state_of commits blocks x.incarnation x.session)
+may-commit commits blocks x number free = record {
+  number_is = number;
+  free = ap (λ (n : ℕ). is_blocked blocks (record { incarnation = x.incarnation; session = x.session; number = n })) (sym number) ∙ not-true (is_blocked blocks x) free;
+}
 
 -- ---- entries in order
 

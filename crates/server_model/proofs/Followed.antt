@@ -18,8 +18,8 @@ use Rattle.svc_values.specs.SettingsList.{put_setting}
 use Rattle.svc_values.specs.Tables.{with_writes}
 use Rattle.stmt_meaning.specs.Meaning.{Meant, mean}
 use Rattle.mutable_values.specs.Sources.{Opening}
-use Rattle.outcome_call.specs.declared.Verdict.{Verdict}
-use Rattle.outcome_call.specs.declared.Verdict.TheVariants as verdict
+use Rattle.ltxid_book.specs.declared.verdict.Verdict.{Verdict}
+use Rattle.ltxid_book.specs.declared.verdict.Verdict.TheVariants as verdict
 use Rattle.server_model.specs.Base.{Base}
 use Rattle.server_model.specs.Core.{Core, committed, all_entries}
 use Rattle.svc_values.specs.declared.entry.SessionId.{SessionId}
@@ -147,6 +147,7 @@ module _ (base : Base) (core : Core) (here : Walk) (sess : Sess) (at : At base c
   tells now x (verdict.Committed completed) left = record { stands = record { committed = at.committed; stored = at.stored; left = left [] (sym (append-nil core.entries)); incarnation = refl }; holds = record { mine = at.transaction; others = λ other apart. refl; over = refl } }
   tells now x (verdict.ServerAhead number) left = record { stands = record { committed = at.committed; stored = at.stored; left = left [] (sym (append-nil core.entries)); incarnation = refl }; holds = record { mine = at.transaction; others = λ other apart. refl; over = refl } }
   tells now x (verdict.ClientAhead number) left = record { stands = record { committed = at.committed; stored = at.stored; left = left [] (sym (append-nil core.entries)); incarnation = refl }; holds = record { mine = at.transaction; others = λ other apart. refl; over = refl } }
+  tells now x (verdict.Forgotten horizon) left = record { stands = record { committed = at.committed; stored = at.stored; left = left [] (sym (append-nil core.entries)); incarnation = refl }; holds = record { mine = at.transaction; others = λ other apart. refl; over = refl } }
 
   asks : (now : ℕ) (x : Ltxid) (after : Core) (told : Told) → Left here core rest after → Outcomes core x after told → IsTrue (is_answered told) → (new : Sess) → transaction_of new ≡ transaction_of sess → new.life ≡ sess.life
       → Goes here (session_of sess.ltxid) after new rest (behind_thing base here (session_of sess.ltxid) now (thing_of (up.Outcome x) told))

@@ -8,8 +8,8 @@ use Rattle.svc_values.specs.declared.draw.Draw.TheVariants as draw
 use Rattle.svc_values.specs.declared.entry.Ltxid.{Ltxid}
 use Rattle.svc_values.specs.declared.entry.Entry.{Entry}
 use Rattle.svc_values.specs.Identifiers.{is_of, same_ltxid, session_of, ltxid_of, same_session}
-use Rattle.ltxid_book.specs.Journal.{commits_of}
-use Rattle.server_model.specs.Base.{Base, committed_of}
+use Rattle.ltxid_book.specs.Journal.{commits_of, committed_of}
+use Rattle.server_model.specs.Base.{Base}
 use Rattle.svc_values.specs.declared.entry.SessionId.{SessionId}
 use Rattle.server_model.specs.Sessions.{Life, Sess}
 use Rattle.server_model.specs.Runs.{Happened}

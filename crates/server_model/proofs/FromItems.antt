@@ -92,9 +92,10 @@ moves_gain server _ _ (AnswersAsk x core frame on asks) = Nothing (outcomes-entr
 moves_gain server _ _ (HaltsInAsk x core told running asks) = Nothing (outcomes-entries server.core x core told asks)
 moves_gain server _ _ (Reaps front back sess split) = Nothing refl
 moves_gain server _ _ Falls = Nothing refl
-moves_gain server _ _ (Opens off) = Nothing refl
-moves_gain server _ _ (StopsOpening core off (inl same)) = Nothing (ap (λ (c : Core). c.entries) same)
-moves_gain server _ _ (StopsOpening core off (inr same)) = Nothing (ap (λ (c : Core). c.entries) same)
+moves_gain server _ _ (Opens below off may) = Nothing refl
+moves_gain server _ _ (StopsOpening below core off may (inl same)) = Nothing (ap (λ (c : Core). c.entries) same)
+moves_gain server _ _ (StopsOpening below core off may (inr (inl same))) = Nothing (ap (λ (c : Core). c.entries) same)
+moves_gain server _ _ (StopsOpening below core off may (inr (inr same))) = Nothing (ap (λ (c : Core). c.entries) same)
 
 -- ---- runs
 

@@ -6,8 +6,8 @@ use Rattle.svc_values.specs.declared.call.Call.{Call}
 use Rattle.svc_values.specs.declared.answer.Answer.{Answer}
 use Rattle.svc_values.specs.declared.entry.Ltxid.{Ltxid}
 use Rattle.svc_values.specs.declared.frame.Up.{Up}
-use Rattle.outcome_call.specs.declared.Verdict.{Verdict}
-use Rattle.outcome_call.specs.declared.Verdict.TheVariants as verdict
+use Rattle.ltxid_book.specs.declared.verdict.Verdict.{Verdict}
+use Rattle.ltxid_book.specs.declared.verdict.Verdict.TheVariants as verdict
 use Rattle.svc_values.specs.declared.tables.PlainRow.{PlainRow}
 use Rattle.stmt_meaning.specs.Meaning.{Meant}
 use Rattle.mutable_values.specs.Sources.{Opening}
@@ -52,6 +52,7 @@ blocks-entries verdict.AlreadyBlocked core x = refl
 blocks-entries (verdict.Committed completed) core x = refl
 blocks-entries (verdict.ServerAhead next) core x = refl
 blocks-entries (verdict.ClientAhead next) core x = refl
+blocks-entries (verdict.Forgotten horizon) core x = refl
 
 pub outcomes-entries : (core : Core) (x : Ltxid) (after : Core) (told : Told) → Outcomes core x after told → after.entries ≡ core.entries
 outcomes-entries core x _ _ (IsTold judged by) = blocks-entries judged core x

@@ -7,8 +7,8 @@ use Rattle.svc_values.specs.declared.entry.Entry.{Entry}
 use Rattle.svc_values.specs.declared.frame.Up.{Up}
 use Rattle.svc_values.specs.declared.frame.Down.TheVariants as down
 use Rattle.stmt_meaning.specs.SerialTest.{is_nil}
-use Rattle.ltxid_book.specs.Journal.{is_blocked}
-use Rattle.server_model.specs.Base.{Base, IsSound, committed_of}
+use Rattle.ltxid_book.specs.Journal.{is_blocked, committed_of}
+use Rattle.server_model.specs.Base.{Base, IsSound}
 use Rattle.server_model.specs.Core.{Core}
 use Rattle.svc_values.specs.declared.entry.SessionId.{SessionId}
 use Rattle.svc_values.specs.Identifiers.{session_of}
@@ -106,8 +106,8 @@ step-right base history _ server _ rest gained walk lives numbered (AnswersAsk x
 step-right base history _ server _ rest gained walk lives numbered (HaltsInAsk x core told running asked) stops later grew walks blocks = refl
 step-right base history _ server _ rest gained walk lives numbered (Reaps front back sess split) stops later grew walks blocks = refl
 step-right base history _ server _ rest gained walk lives numbered Falls stops later grew walks blocks = refl
-step-right base history _ server _ rest gained walk lives numbered (Opens off) stops later grew walks blocks = refl
-step-right base history _ server _ rest gained walk lives numbered (StopsOpening core off same) stops later grew walks blocks = refl
+step-right base history _ server _ rest gained walk lives numbered (Opens below off may) stops later grew walks blocks = refl
+step-right base history _ server _ rest gained walk lives numbered (StopsOpening below core off may same) stops later grew walks blocks = refl
 
 -- ---- a whole run
 

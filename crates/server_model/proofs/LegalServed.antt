@@ -19,8 +19,8 @@ use Rattle.svc_values.specs.Tables.{with_writes}
 use Rattle.stmt_meaning.specs.Meaning.{Meant, mean}
 use Rattle.ltxid_book.specs.Journal.{is_blocked}
 use Rattle.mutable_values.specs.Sources.{Opening}
-use Rattle.outcome_call.specs.declared.Verdict.{Verdict}
-use Rattle.outcome_call.specs.declared.Verdict.TheVariants as verdict_on
+use Rattle.ltxid_book.specs.declared.verdict.Verdict.{Verdict}
+use Rattle.ltxid_book.specs.declared.verdict.Verdict.TheVariants as verdict_on
 use Rattle.server_model.specs.Base.{Base}
 use Rattle.server_model.specs.Core.{Core, committed, all_blocked}
 use Rattle.svc_values.specs.declared.entry.SessionId.{SessionId}
@@ -130,6 +130,7 @@ module _ (base : Base) (core : Core) (here : Walk) (sess : Sess) (at : At base c
   asks now x (verdict_on.Committed completed) = refl
   asks now x (verdict_on.ServerAhead next) = refl
   asks now x (verdict_on.ClientAhead next) = refl
+  asks now x (verdict_on.Forgotten horizon) = refl
 
   outcomes : (now : ℕ) (x : Ltxid) (after : Core) (told : Told) → Outcomes core x after told → IsTrue (is_answered told) → deed_but here (deed_in base here (session_of sess.ltxid) now (thing_of (up.Outcome x) told)) ≡ true
   outcomes now x _ _ (IsTold judged by) answered = asks now x judged

@@ -1,19 +1,21 @@
+mod TwoSessions
 pub mod Alerts
 pub mod Answered
 pub mod Counts
 pub mod Deeds
-pub mod FromItems
 pub mod Followed
 pub mod FollowedStops
 pub mod Following
+pub mod Forgetting
+pub mod FromItems
 pub mod Fronts
 pub mod Growth
 pub mod Interpreter
-pub mod NumberRuns
 pub mod KeptDraws
 pub mod LegalFrames
 pub mod LegalRuns
 pub mod LegalServed
+pub mod NumberRuns
 pub mod Numbers
 pub mod PlainAnswers
 pub mod Ran
@@ -25,9 +27,8 @@ pub mod Services
 pub mod Stays
 pub mod Steps
 pub mod Tells
-mod TwoSessions
+pub mod ToldBlocked
+pub mod ToldFrames
 pub mod Views
 pub mod WalkBlocks
 pub mod WalkRuns
-pub mod ToldBlocked
-pub mod ToldFrames

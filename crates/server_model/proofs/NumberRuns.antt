@@ -7,17 +7,17 @@ use Rattle.svc_values.specs.declared.entry.Ltxid.{Ltxid}
 use Rattle.svc_values.specs.declared.entry.Entry.{Entry}
 use Rattle.svc_values.specs.declared.frame.Up.{Up}
 use Rattle.svc_values.specs.Identifiers.{is_of}
-use Rattle.ltxid_book.specs.Journal.{Committed, commits_of, is_blocked, next_ltxid, BlocksStand, book_of}
-use Rattle.ltxid_book.proofs.Journal.{follows_blocks}
+use Rattle.ltxid_book.specs.Journal.{Committed, commits_of, is_blocked, next_ltxid, BlocksStand, committed_of}
+use Rattle.ltxid_book.proofs.Offered.{follows_blocks}
 use Rattle.mutable_values.specs.Sources.{Opening}
-use Rattle.outcome_call.specs.declared.Verdict.{Verdict}
-use Rattle.outcome_call.specs.declared.Verdict.TheVariants as verdict
-use Rattle.server_model.specs.Base.{Base, IsSound, committed_of}
+use Rattle.ltxid_book.specs.declared.verdict.Verdict.{Verdict}
+use Rattle.ltxid_book.specs.declared.verdict.Verdict.TheVariants as verdict
+use Rattle.server_model.specs.Base.{Base, IsSound}
 use Rattle.server_model.specs.Core.{Core, all_entries, all_blocked}
 use Rattle.server_model.specs.Sessions.{Sess, ended}
 use Rattle.server_model.specs.Outcomes.{Told, Says, Outcomes, IsTold, BlockStops, if_blocks, verdict_on}
 use Rattle.server_model.specs.Serve.{Serve}
-use Rattle.server_model.specs.Runs.{Happened, Server, Turns, Moves, Makes, Answers, Halts, Loses, AnswersAsk, HaltsInAsk, Reaps, Falls, Opens, StopsOpening, Runs, Start, Then, Off, On, Halted, Power, is_running, reopened_core, next_session}
+use Rattle.server_model.specs.Runs.{Happened, Server, Turns, Moves, Makes, Answers, Halts, Loses, AnswersAsk, HaltsInAsk, Reaps, Falls, Opens, StopsOpening, Runs, Start, Then, Off, On, Halted, Power, is_running, reopened_core, forgetting, next_session}
 use Rattle.server_model.specs.Laws.{Stands, AreNumbered, StaysIn, RunsStand, EntryNumbers, NeverAfterBlock}
 use Rattle.server_model.proofs.Counts.{count, count-append, is_of-self, none-yet, AllWithin, AllWithin-wider, AllUpTo, up_to-within, up_to-next}
 use Rattle.server_model.proofs.Stays.{serve_stays, outcomes_stay}
@@ -76,6 +76,7 @@ blocks-asked verdict.AlreadyBlocked core x by = (refl, inl refl)
 blocks-asked (verdict.Committed completed) core x by = (refl, inl refl)
 blocks-asked (verdict.ServerAhead next) core x by = (refl, inl refl)
 blocks-asked (verdict.ClientAhead next) core x by = (refl, inl refl)
+blocks-asked (verdict.Forgotten horizon) core x by = (refl, inl refl)
 
 outcomes-asked : (core : Core) (x : Ltxid) (after : Core) (told : Told) → Outcomes core x after told → (after.entries ≡ core.entries) × ((after.blocked ≡ core.blocked) ⊎ ((after.blocked ≡ core.blocked ++ x ∷ []) × IsNext core x))
 outcomes-asked core x _ _ (IsTold judged by) = blocks-asked judged core x by
@@ -91,7 +92,7 @@ stand-asked : (core : Core) (x : Ltxid) (after : Core) → after.base ≡ core.b
 stand-asked core x after base entries (inl same) stand = same_stand core after entries (blocked-same core after base same) stand
 stand-asked core x after base entries (inr (more, next)) stand =
     let all : all_blocked after ≡ all_blocked core ++ x ∷ [] = (λ i. (base i).blocked ++ more i) ∙ sym (append_assoc core.base.blocked core.blocked (x ∷ [])) in
-    let stands : BlocksStand (map committed_of (all_entries core)) (all_blocked core ++ x ∷ []) = (follows_blocks (book_of (map committed_of (all_entries core)) (all_blocked core)) (map committed_of (all_entries core)) (all_blocked core) x (λ incarnation session. refl) stand next).1 in
+    let stands : BlocksStand (map committed_of (all_entries core)) (all_blocked core ++ x ∷ []) = (follows_blocks core.horizon (map committed_of (all_entries core)) (all_blocked core) x stand next).1 in
     subst (λ (e : List Entry). BlocksStand (map committed_of e) (all_blocked after)) (sym entries) (subst (λ (b : List Ltxid). BlocksStand (map committed_of (all_entries core)) b) (sym all) stands)
 
 asked : (base : Base) (server : Server) (x : Ltxid) (core : Core) (told : Told) (power : Power) → Numbered base server → IsTrue (is_running server.power) → IsTrue (is_running power) → Outcomes server.core x core told → Numbered base (record server { power = power; core = core })
@@ -122,7 +123,7 @@ halted-running power halted = ap is_running halted
 lost : (base : Base) (server after : Server) (old : Sess) → Numbered base server → server.power ≡ Halted → Turns server after old (ended old) server.core Halted → Numbered base after
 lost base server after old numbered halted turns =
     let before = before-of base server after old (ended old) server.core Halted numbered turns (halted-running server.power halted) in
-    turned base server after old (ended old) server.core Halted numbered turns refl (record { base = refl; incarnation = refl; session = refl })
+    turned base server after old (ended old) server.core Halted numbered turns refl (record { base = refl; incarnation = refl; session = refl; horizon = refl })
     (record {
       order = before.order;
       stand = before.stand;
@@ -176,7 +177,7 @@ moves_number base server _ _ numbered (Reaps front back sess split) = record {
   apart = apart-without front back sess (subst Apart split numbered.apart);
 }
 moves_number base server _ _ numbered Falls = down base server server.core numbered refl refl refl (in-up_to server.power server.core.opening.incarnation server.count (all_entries server.core) numbered.within)
-moves_number base server _ _ numbered (Opens off) = record {
+moves_number base server _ _ numbered (Opens below off may) = record {
   is = numbered.is;
   order = numbered.order;
   stand = numbered.stand;
@@ -184,11 +185,14 @@ moves_number base server _ _ numbered (Opens off) = record {
   mine = tt;
   apart = tt;
 }
-moves_number base server _ _ numbered (StopsOpening core off (inl same)) =
+moves_number base server _ _ numbered (StopsOpening below core off may (inl same)) =
     subst (λ (c : Core). Numbered base (record { power = Off; core = c; sessions = []; count = 0 })) (sym same) (down base server server.core numbered refl refl refl (off-up_to server off numbered.within))
-moves_number base server _ _ numbered (StopsOpening core off (inr same)) =
+moves_number base server _ _ numbered (StopsOpening below core off may (inr (inl same))) =
     subst (λ (c : Core). Numbered base (record { power = Off; core = c; sessions = []; count = 0 })) (sym same)
-    (down base server (reopened_core server.core) numbered refl refl refl (up_to-next server.core.opening.incarnation (all_entries server.core) (off-up_to server off numbered.within)))
+    (down base server (forgetting server.core below) numbered refl refl refl (off-up_to server off numbered.within))
+moves_number base server _ _ numbered (StopsOpening below core off may (inr (inr same))) =
+    subst (λ (c : Core). Numbered base (record { power = Off; core = c; sessions = []; count = 0 })) (sym same)
+    (down base server (reopened_core (forgetting server.core below)) numbered refl refl refl (up_to-next server.core.opening.incarnation (all_entries server.core) (off-up_to server off numbered.within)))
 
 earlier : (incarnation : ℕ) (entries : List Entry) → All (λ entry. entry.ltxid.incarnation ≤ incarnation) entries → AllUpTo incarnation entries
 earlier incarnation [] all = tt

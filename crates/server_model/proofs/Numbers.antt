@@ -1,15 +1,14 @@
 -- In a run each session's identifier is its next one, entries are numbered in order, and blocks
 -- stand.
-use Rattle.std.specs.Prelude.{◌≡◌, ◌⊎◌, ◌+◌, ◌==◌, ◌≤◌, ℕ, false, IsTrue, List, [], ◌∷◌, ◌++◌, map}
-use Rattle.std.proofs.Common.{refl, inl, inr, sym, ◌∙◌, ap, subst, arith, append_assoc}
+use Rattle.std.specs.Prelude.{◌≡◌, ◌⊎◌, ◌+◌, ◌==◌, ◌≤◌, ℕ, false, List, [], ◌∷◌, ◌++◌, map}
+use Rattle.std.proofs.Common.{inl, inr, sym, ◌∙◌, ap, subst, arith, append_assoc}
 use Rattle.std.proofs.lemmas.Bool.Decides.{nat_tests}
 use Rattle.svc_values.specs.declared.entry.Ltxid.{Ltxid}
 use Rattle.svc_values.specs.declared.entry.Entry.{Entry}
-use Rattle.ltxid_book.specs.Sessions.{may_commit}
-use Rattle.ltxid_book.specs.Journal.{Committed, book_of, BlocksStand}
+use Rattle.ltxid_book.specs.Journal.{Committed, state_of, BlocksStand, committed_of}
 use Rattle.svc_values.specs.Identifiers.{is_of, session_of, ltxid_of}
-use Rattle.ltxid_book.proofs.Journal.{follows_commits, follows_blocks}
-use Rattle.server_model.specs.Base.{Base, committed_of}
+use Rattle.ltxid_book.proofs.Offered.{May, commit_stands, follows_blocks}
+use Rattle.server_model.specs.Base.{Base}
 use Rattle.server_model.specs.Core.{Core, all_entries, all_blocked}
 use Rattle.server_model.specs.Sessions.{Ended, Sess}
 use Rattle.svc_values.specs.declared.entry.SessionId.{SessionId}
@@ -207,7 +206,7 @@ module _ (core : Core) (most : ℕ) (sess : Sess) (after : Core) (t : Sess) (bef
   behind (BlocksOne x entries blocked next same) =
       let all = entries-same core after stays.base entries in
       let more : all_blocked after ≡ all_blocked core ++ x ∷ [] = (λ i. (stays.base i).blocked ++ blocked i) ∙ sym (append_assoc core.base.blocked core.blocked (x ∷ [])) in
-      let stand : BlocksStand (map committed_of (all_entries core)) (all_blocked core ++ x ∷ []) = (follows_blocks (book_of (map committed_of (all_entries core)) (all_blocked core)) (map committed_of (all_entries core)) (all_blocked core) x (λ incarnation session. refl) before.stand next).1 in
+      let stand : BlocksStand (map committed_of (all_entries core)) (all_blocked core ++ x ∷ []) = (follows_blocks core.horizon (map committed_of (all_entries core)) (all_blocked core) x before.stand next).1 in
       record {
         order = order-same core after stays.base entries before.order;
         stand = subst (λ (e : List Entry). BlocksStand (map committed_of e) (all_blocked after)) (sym all) (subst (λ (b : List Ltxid). BlocksStand (map committed_of (all_entries core)) b) (sym more) stand);
@@ -219,9 +218,9 @@ module _ (core : Core) (most : ℕ) (sess : Sess) (after : Core) (t : Sess) (bef
       let all : all_entries after ≡ core.base.entries ++ (core.entries ++ entry ∷ []) = (λ i. (stays.base i).entries ++ entries i) in
       let commits : map committed_of (all_entries after) ≡ map committed_of (all_entries core) ++ committed_of entry ∷ [] = ap (map committed_of) all ∙ commits-more core.base.entries core.entries entry in
       let listed : all_entries after ≡ all_entries core ++ entry ∷ [] = all ∙ sym (append_assoc core.base.entries core.entries (entry ∷ [])) in
-      let may : IsTrue (may_commit (book_of (map committed_of (all_entries core)) (all_blocked core)) sess.ltxid) = may-commit (map committed_of (all_entries core)) (all_blocked core) sess.ltxid number-of free in
-      let may-own : IsTrue (may_commit (book_of (map committed_of (all_entries core)) (all_blocked core)) entry.ltxid) = subst (λ x. IsTrue (may_commit (book_of (map committed_of (all_entries core)) (all_blocked core)) x)) (sym own) may in
-      let stand : BlocksStand (map committed_of (all_entries core) ++ committed_of entry ∷ []) (all_blocked core) = (follows_commits (book_of (map committed_of (all_entries core)) (all_blocked core)) (map committed_of (all_entries core)) (all_blocked core) (committed_of entry) (λ incarnation session. refl) before.stand may-own).1 in
+      let own_state : Ltxid → Type 0 = λ x. May x (state_of (map committed_of (all_entries core)) (all_blocked core) x.incarnation x.session) in
+      let may : own_state entry.ltxid = subst own_state (sym own) (may-commit (map committed_of (all_entries core)) (all_blocked core) sess.ltxid number-of free) in
+      let stand : BlocksStand (map committed_of (all_entries core) ++ committed_of entry ∷ []) (all_blocked core) = commit_stands (map committed_of (all_entries core)) (all_blocked core) (committed_of entry) before.stand may in
       let others : (incarnation other : ℕ) → (other == sess.ltxid.session) ≡ false → count (map committed_of (all_entries after)) incarnation other ≡ count (map committed_of (all_entries core)) incarnation other =
       λ incarnation other apart. ap (λ c. count c incarnation other) commits
       ∙ count-other (map committed_of (all_entries core)) (committed_of entry) incarnation other (ap (λ x. is_of x incarnation other) own ∙ is_of-other sess.ltxid incarnation other apart) in

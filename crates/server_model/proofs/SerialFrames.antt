@@ -22,8 +22,8 @@ use Rattle.stmt_meaning.specs.Rerun.{Moment, pieces_of}
 use Rattle.svc_values.proofs.Offered.{AreTables-with_writes, with_writes-append}
 use Rattle.stmt_meaning.proofs.Offered.{rerun-transaction, Serial-next}
 use Rattle.mutable_values.specs.Sources.{Opening}
-use Rattle.outcome_call.specs.declared.Verdict.{Verdict}
-use Rattle.outcome_call.specs.declared.Verdict.TheVariants as verdict
+use Rattle.ltxid_book.specs.declared.verdict.Verdict.{Verdict}
+use Rattle.ltxid_book.specs.declared.verdict.Verdict.TheVariants as verdict
 use Rattle.server_model.specs.Base.{Base}
 use Rattle.server_model.specs.Core.{Core, committed, tables_with, writes_in}
 use Rattle.server_model.specs.Sessions.{Sess, Idle, with_work, entry_of, piece_of, ReadsStand}
@@ -171,6 +171,7 @@ blocks_keep verdict.AlreadyBlocked core x = record { base = refl; entries = refl
 blocks_keep (verdict.Committed completed) core x = record { base = refl; entries = refl }
 blocks_keep (verdict.ServerAhead next) core x = record { base = refl; entries = refl }
 blocks_keep (verdict.ClientAhead next) core x = record { base = refl; entries = refl }
+blocks_keep (verdict.Forgotten horizon) core x = record { base = refl; entries = refl }
 
 pub outcomes_keep : (core : Core) (x : Ltxid) (after : Core) (told : Told) → Outcomes core x after told → SameStore core after
 outcomes_keep core x _ _ (IsTold judged by) = blocks_keep judged core x

@@ -75,9 +75,10 @@ moves_keep base server _ _ ordered holds (AnswersAsk x core frame on asks) = ask
 moves_keep base server _ _ ordered holds (HaltsInAsk x core told running asks) = asked base server core Halted holds (outcomes_keep server.core x core told asks)
 moves_keep base server _ _ ordered holds (Reaps front back sess split) = record { is = holds.is; serial = holds.serial; ran = AllRan-without server.core.base.shape front back sess (subst (AllRan server.core.base.shape) split holds.ran) }
 moves_keep base server _ _ ordered holds Falls = record { is = holds.is; serial = holds.serial; ran = tt }
-moves_keep base server _ _ ordered holds (Opens off) = record { is = holds.is; serial = holds.serial; ran = tt }
-moves_keep base server _ _ ordered holds (StopsOpening core off (inl same)) = subst (λ (c : Core). Holds base (record { power = Off; core = c; sessions = []; count = 0 })) (sym same) (record { is = holds.is; serial = holds.serial; ran = tt })
-moves_keep base server _ _ ordered holds (StopsOpening core off (inr same)) = subst (λ (c : Core). Holds base (record { power = Off; core = c; sessions = []; count = 0 })) (sym same) (record { is = holds.is; serial = holds.serial; ran = tt })
+moves_keep base server _ _ ordered holds (Opens below off may) = record { is = holds.is; serial = holds.serial; ran = tt }
+moves_keep base server _ _ ordered holds (StopsOpening below core off may (inl same)) = subst (λ (c : Core). Holds base (record { power = Off; core = c; sessions = []; count = 0 })) (sym same) (record { is = holds.is; serial = holds.serial; ran = tt })
+moves_keep base server _ _ ordered holds (StopsOpening below core off may (inr (inl same))) = subst (λ (c : Core). Holds base (record { power = Off; core = c; sessions = []; count = 0 })) (sym same) (record { is = holds.is; serial = holds.serial; ran = tt })
+moves_keep base server _ _ ordered holds (StopsOpening below core off may (inr (inr same))) = subst (λ (c : Core). Holds base (record { power = Off; core = c; sessions = []; count = 0 })) (sym same) (record { is = holds.is; serial = holds.serial; ran = tt })
 
 pub runs_hold : (base : Base) (history : List Happened) (server : Server) → AreTables base.tables → Runs base history server → Holds base server
 runs_hold base _ _ ordered Start = record { is = refl; serial = refl; ran = tt }

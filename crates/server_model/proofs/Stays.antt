@@ -16,8 +16,8 @@ use Rattle.svc_values.specs.Draws.{is_there}
 use Rattle.mutable_values.specs.declared.source.SeqState.{SeqState}
 use Rattle.mutable_values.specs.declared.source.Drawn.TheVariants as drawn
 use Rattle.mutable_values.specs.Sources.{Opening, DrawnFrom as Drew, draw_of, draw_from, new_draw, new_value, first_kept, sequence_of, names_of, changed, next_value, reservation_size, reserved_to}
-use Rattle.outcome_call.specs.declared.Verdict.{Verdict}
-use Rattle.outcome_call.specs.declared.Verdict.TheVariants as verdict
+use Rattle.ltxid_book.specs.declared.verdict.Verdict.{Verdict}
+use Rattle.ltxid_book.specs.declared.verdict.Verdict.TheVariants as verdict
 use Rattle.server_model.specs.Core.{Core, committed}
 use Rattle.server_model.specs.Sessions.{Sess, with_work}
 use Rattle.svc_values.specs.Identifiers.{session_of}
@@ -85,47 +85,48 @@ halt-stays now kept before _ (BlockStands name upto is) = refl
 -- ---- frames
 
 moved : (core : Core) (opening : Opening) (sess : Sess) (rows : List PlainRow) (meant : Meant) (after : Core) (t : Sess) → opening.incarnation ≡ core.opening.incarnation → StaysIn (with_opening core opening) (with_work sess rows meant) after t → StaysIn core sess after t
-moved core opening sess rows meant after t same stays = record { base = stays.base; incarnation = stays.incarnation ∙ same; session = stays.session }
+moved core opening sess rows meant after t same stays = record { base = stays.base; incarnation = stays.incarnation ∙ same; session = stays.session; horizon = stays.horizon }
 
 commits_stay : (core : Core) (sess : Sess) (replay : Bool) (called : Call) (answers : List Answer) (draws : List Draw) (after : Core) (t : Sess) (told : Told) → Commits core sess replay called answers draws after t told → StaysIn core sess after t
-commits_stay core sess replay called answers draws _ _ _ (InReplay marked) = record { base = refl; incarnation = refl; session = refl }
-commits_stay core sess replay called answers draws _ _ _ (Blocks unmarked blocked) = record { base = refl; incarnation = refl; session = refl }
-commits_stay core sess replay called answers draws _ _ _ (Conflicts unmarked free differs) = record { base = refl; incarnation = refl; session = refl }
-commits_stay core sess replay called answers draws _ _ _ (Stores may) = record { base = refl; incarnation = refl; session = refl }
-commits_stay core sess replay called answers draws _ _ _ (StopsBefore may) = record { base = refl; incarnation = refl; session = refl }
-commits_stay core sess replay called answers draws _ _ _ (StopsAfter may) = record { base = refl; incarnation = refl; session = refl }
+commits_stay core sess replay called answers draws _ _ _ (InReplay marked) = record { base = refl; incarnation = refl; session = refl; horizon = refl }
+commits_stay core sess replay called answers draws _ _ _ (Blocks unmarked blocked) = record { base = refl; incarnation = refl; session = refl; horizon = refl }
+commits_stay core sess replay called answers draws _ _ _ (Conflicts unmarked free differs) = record { base = refl; incarnation = refl; session = refl; horizon = refl }
+commits_stay core sess replay called answers draws _ _ _ (Stores may) = record { base = refl; incarnation = refl; session = refl; horizon = refl }
+commits_stay core sess replay called answers draws _ _ _ (StopsBefore may) = record { base = refl; incarnation = refl; session = refl; horizon = refl }
+commits_stay core sess replay called answers draws _ _ _ (StopsAfter may) = record { base = refl; incarnation = refl; session = refl; horizon = refl }
 
 works_stay : (core : Core) (sess : Sess) (replay : Bool) (kept : List Draw) (called : Call) (now : ℕ) (after : Core) (t : Sess) (told : Told) → Works core sess replay kept called now after t told → StaysIn core sess after t
-works_stay core sess replay kept called now _ _ _ (Answers opening draws left meant drew means ends) = record { base = refl; incarnation = all-stays now draws core.opening _ opening left drew; session = refl }
+works_stay core sess replay kept called now _ _ _ (Answers opening draws left meant drew means ends) = record { base = refl; incarnation = all-stays now draws core.opening _ opening left drew; session = refl; horizon = refl }
 works_stay core sess replay kept called now _ _ _ (Reaches opening draws left meant after t told drew means ends commits) =
     moved core opening sess (committed core) meant after t (all-stays now draws core.opening _ opening left drew) (commits_stay (with_opening core opening) _ replay called meant.answers draws after t told commits)
 works_stay core sess replay kept called now _ _ _ (HaltsInDraw between opening draws more left meant drew means some halts) =
-    record { base = refl; incarnation = halt-stays now left between opening halts ∙ all-stays now draws core.opening _ between left drew; session = refl }
+    record { base = refl; incarnation = halt-stays now left between opening halts ∙ all-stays now draws core.opening _ between left drew; session = refl; horizon = refl }
 
-same_stays : (core after : Core) (sess t : Sess) → (after.base ≡ core.base) → (after.opening ≡ core.opening) → session_of t.ltxid ≡ session_of sess.ltxid → StaysIn core sess after t
-same_stays core after sess t base opening session = record { base = base; incarnation = ap (λ (o : Opening). o.incarnation) opening; session = session }
+same_stays : (core after : Core) (sess t : Sess) → (after.base ≡ core.base) → (after.opening ≡ core.opening) → (after.horizon ≡ core.horizon) → session_of t.ltxid ≡ session_of sess.ltxid → StaysIn core sess after t
+same_stays core after sess t base opening horizon session = record { base = base; incarnation = ap (λ (o : Opening). o.incarnation) opening; session = session; horizon = horizon }
 
 calls_stay : (core : Core) (sess : Sess) (replay : Bool) (kept : List Draw) (now : ℕ) (called : Call) (after : Core) (t : Sess) (told : Told) → Calls core sess replay kept now called after t told → StaysIn core sess after t
 calls_stay core sess replay kept now _ _ _ _ (IsWork statements commit after t told works) = works_stay core sess replay kept _ now after t told works
-calls_stay core sess replay kept now _ _ _ _ (IsSet name value) = record { base = refl; incarnation = refl; session = refl }
-calls_stay core sess replay kept now _ _ _ _ (IsAlter line unmarked) = record { base = refl; incarnation = refl; session = refl }
-calls_stay core sess replay kept now _ _ _ _ (AlterStops line after unmarked (inl same)) = same_stays core after sess _ (ap (λ (c : Core). c.base) same) (ap (λ (c : Core). c.opening) same) refl
-calls_stay core sess replay kept now _ _ _ _ (AlterStops line after unmarked (inr same)) = same_stays core after sess _ (ap (λ (c : Core). c.base) same) (ap (λ (c : Core). c.opening) same) refl
-calls_stay core sess replay kept now _ _ _ _ (AlterMarked line marked) = record { base = refl; incarnation = refl; session = refl }
-calls_stay core sess replay kept now _ _ _ _ IsDisable = record { base = refl; incarnation = refl; session = refl }
-calls_stay core sess replay kept now _ _ _ _ IsRollback = record { base = refl; incarnation = refl; session = refl }
+calls_stay core sess replay kept now _ _ _ _ (IsSet name value) = record { base = refl; incarnation = refl; session = refl; horizon = refl }
+calls_stay core sess replay kept now _ _ _ _ (IsAlter line unmarked) = record { base = refl; incarnation = refl; session = refl; horizon = refl }
+calls_stay core sess replay kept now _ _ _ _ (AlterStops line after unmarked (inl same)) = same_stays core after sess _ (ap (λ (c : Core). c.base) same) (ap (λ (c : Core). c.opening) same) (ap (λ (c : Core). c.horizon) same) refl
+calls_stay core sess replay kept now _ _ _ _ (AlterStops line after unmarked (inr same)) = same_stays core after sess _ (ap (λ (c : Core). c.base) same) (ap (λ (c : Core). c.opening) same) (ap (λ (c : Core). c.horizon) same) refl
+calls_stay core sess replay kept now _ _ _ _ (AlterMarked line marked) = record { base = refl; incarnation = refl; session = refl; horizon = refl }
+calls_stay core sess replay kept now _ _ _ _ IsDisable = record { base = refl; incarnation = refl; session = refl; horizon = refl }
+calls_stay core sess replay kept now _ _ _ _ IsRollback = record { base = refl; incarnation = refl; session = refl; horizon = refl }
 
-blocks_stay : (judged : Verdict) (core : Core) (x : Ltxid) → ((if_blocks judged core x).base ≡ core.base) × ((if_blocks judged core x).opening ≡ core.opening)
-blocks_stay verdict.BlockIt core x = (refl, refl)
-blocks_stay verdict.AlreadyBlocked core x = (refl, refl)
-blocks_stay (verdict.Committed completed) core x = (refl, refl)
-blocks_stay (verdict.ServerAhead next) core x = (refl, refl)
-blocks_stay (verdict.ClientAhead next) core x = (refl, refl)
+blocks_stay : (judged : Verdict) (core : Core) (x : Ltxid) → ((if_blocks judged core x).base ≡ core.base) × ((if_blocks judged core x).opening ≡ core.opening) × ((if_blocks judged core x).horizon ≡ core.horizon)
+blocks_stay verdict.BlockIt core x = (refl, refl, refl)
+blocks_stay verdict.AlreadyBlocked core x = (refl, refl, refl)
+blocks_stay (verdict.Committed completed) core x = (refl, refl, refl)
+blocks_stay (verdict.ServerAhead next) core x = (refl, refl, refl)
+blocks_stay (verdict.ClientAhead next) core x = (refl, refl, refl)
+blocks_stay (verdict.Forgotten horizon) core x = (refl, refl, refl)
 
-pub outcomes_stay : (core : Core) (x : Ltxid) (after : Core) (told : Told) → Outcomes core x after told → (after.base ≡ core.base) × (after.opening ≡ core.opening)
+pub outcomes_stay : (core : Core) (x : Ltxid) (after : Core) (told : Told) → Outcomes core x after told → (after.base ≡ core.base) × (after.opening ≡ core.opening) × (after.horizon ≡ core.horizon)
 outcomes_stay core x _ _ (IsTold judged by) = blocks_stay judged core x
-outcomes_stay core x _ _ (BlockStops after by (inl same)) = (ap (λ (c : Core). c.base) same, ap (λ (c : Core). c.opening) same)
-outcomes_stay core x _ _ (BlockStops after by (inr same)) = (ap (λ (c : Core). c.base) same, ap (λ (c : Core). c.opening) same)
+outcomes_stay core x _ _ (BlockStops after by (inl same)) = (ap (λ (c : Core). c.base) same, ap (λ (c : Core). c.opening) same, ap (λ (c : Core). c.horizon) same)
+outcomes_stay core x _ _ (BlockStops after by (inr same)) = (ap (λ (c : Core). c.base) same, ap (λ (c : Core). c.opening) same, ap (λ (c : Core). c.horizon) same)
 
 told-session : (told : Told) (sess : Sess) → session_of (if_told told sess).ltxid ≡ session_of sess.ltxid
 told-session Silent sess = refl
@@ -133,10 +134,10 @@ told-session (Says frame) sess = refl
 told-session Stopped sess = refl
 
 pub serve_stays : (core : Core) (sess : Sess) (now : ℕ) (frame : Up) (after : Core) (t : Sess) (told : Told) → Serve core sess now frame after t told → StaysIn core sess after t
-serve_stays core sess now _ _ _ _ (Connects life) = record { base = refl; incarnation = refl; session = refl }
-serve_stays core sess now _ _ _ _ (Begins settings serving) = record { base = refl; incarnation = refl; session = refl }
-serve_stays core sess now _ _ _ _ (Ends serving) = record { base = refl; incarnation = refl; session = refl }
-serve_stays core sess now _ _ _ _ (Closes serving) = record { base = refl; incarnation = refl; session = refl }
-serve_stays core sess now _ _ _ _ (Asks x after told serving asked) = let same = outcomes_stay core x after told asked in same_stays core after sess (if_told told sess) same.0 same.1 (told-session told sess)
+serve_stays core sess now _ _ _ _ (Connects life) = record { base = refl; incarnation = refl; session = refl; horizon = refl }
+serve_stays core sess now _ _ _ _ (Begins settings serving) = record { base = refl; incarnation = refl; session = refl; horizon = refl }
+serve_stays core sess now _ _ _ _ (Ends serving) = record { base = refl; incarnation = refl; session = refl; horizon = refl }
+serve_stays core sess now _ _ _ _ (Closes serving) = record { base = refl; incarnation = refl; session = refl; horizon = refl }
+serve_stays core sess now _ _ _ _ (Asks x after told serving asked) = let same = outcomes_stay core x after told asked in same_stays core after sess (if_told told sess) same.0 same.1 same.2 (told-session told sess)
 serve_stays core sess now _ _ _ _ (Runs replay kept called after t told begun calls) = calls_stay core sess replay kept now called after t told calls
-serve_stays core sess now _ _ _ _ (Refuses frame out) = record { base = refl; incarnation = refl; session = refl }
+serve_stays core sess now _ _ _ _ (Refuses frame out) = record { base = refl; incarnation = refl; session = refl; horizon = refl }

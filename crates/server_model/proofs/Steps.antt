@@ -11,12 +11,12 @@ use Rattle.svc_values.specs.declared.frame.Up.{Up}
 use Rattle.svc_values.specs.declared.tables.PlainRow.{PlainRow}
 use Rattle.stmt_meaning.specs.Meaning.{Meant}
 use Rattle.ltxid_book.specs.declared.State.{State}
-use Rattle.ltxid_book.specs.Sessions.{may_commit}
+use Rattle.ltxid_book.specs.Sessions.{is_forgotten, can_commit, may_commit}
 use Rattle.ltxid_book.specs.Journal.{is_blocked}
 use Rattle.mutable_values.specs.Sources.{Opening}
-use Rattle.outcome_call.specs.declared.Verdict.{Verdict}
-use Rattle.outcome_call.specs.declared.Verdict.TheVariants as verdict
-use Rattle.outcome_call.specs.Table.{outcome_in}
+use Rattle.ltxid_book.specs.declared.verdict.Verdict.{Verdict}
+use Rattle.ltxid_book.specs.declared.verdict.Verdict.TheVariants as verdict
+use Rattle.ltxid_book.specs.Outcomes.{outcome_in}
 use Rattle.server_model.specs.Core.{Core, committed, all_blocked, book}
 use Rattle.server_model.specs.Sessions.{Life, New, Idle, Begun, Ended, Sess, with_work}
 use Rattle.svc_values.specs.Identifiers.{session_of, ltxid_of}
@@ -81,7 +81,11 @@ blocks-next state number is =
     (if_never (nat_lt (number + 1) state.next) (verdict.ServerAhead state.next) (verdict.ClientAhead state.next) (λ e. let none : ⊥ = cc in none) (λ e. let none : ⊥ = cc in none)))) is
 
 pub blocks-IsNext : (core : Core) (x : Ltxid) → verdict_on core x ≡ verdict.BlockIt → IsNext core x
-blocks-IsNext core x is = blocks-next (book core x.incarnation x.session) x.number is
+blocks-IsNext core x = by (is_forgotten (book core) x.incarnation)
+  where
+    by : (lost : Bool) → (if lost then verdict.Forgotten core.horizon else outcome_in ((book core).state x.incarnation x.session) x.number) ≡ verdict.BlockIt → IsTrue (not lost && can_commit (book core) x)
+    by true is = let none : ⊥ = cc in absurd none
+    by false is = blocks-next ((book core).state x.incarnation x.session) x.number is
 
 told_step : (core : Core) (sess t : Sess) (x : Ltxid) (judged : Verdict) → verdict_on core x ≡ judged → t.ltxid ≡ sess.ltxid → Steps core sess (if_blocks judged core x) t
 told_step core sess t x verdict.BlockIt by same = BlocksOne x refl refl (blocks-IsNext core x by) same
@@ -89,6 +93,7 @@ told_step core sess t x verdict.AlreadyBlocked by same = Keeps refl refl same
 told_step core sess t x (verdict.Committed completed) by same = Keeps refl refl same
 told_step core sess t x (verdict.ServerAhead next) by same = Keeps refl refl same
 told_step core sess t x (verdict.ClientAhead next) by same = Keeps refl refl same
+told_step core sess t x (verdict.Forgotten horizon) by same = Keeps refl refl same
 
 pub outcomes_step : (core : Core) (sess t : Sess) (x : Ltxid) (after : Core) (told : Told) → Outcomes core x after told → t.ltxid ≡ sess.ltxid → Steps core sess after t
 outcomes_step core sess t x _ _ (IsTold judged by) same = told_step core sess t x judged by same

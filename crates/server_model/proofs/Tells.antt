@@ -10,10 +10,10 @@ use Rattle.svc_values.specs.declared.frame.Up.{Up}
 use Rattle.svc_values.specs.declared.frame.Up.TheVariants as up
 use Rattle.svc_values.specs.declared.frame.Down.{Down}
 use Rattle.svc_values.specs.declared.frame.Down.TheVariants as down
-use Rattle.ltxid_book.specs.Journal.{next_ltxid}
-use Rattle.outcome_call.specs.declared.Verdict.{Verdict}
-use Rattle.outcome_call.specs.declared.Verdict.TheVariants as verdict
-use Rattle.server_model.specs.Base.{Base, committed_of}
+use Rattle.ltxid_book.specs.Journal.{next_ltxid, committed_of}
+use Rattle.ltxid_book.specs.declared.verdict.Verdict.{Verdict}
+use Rattle.ltxid_book.specs.declared.verdict.Verdict.TheVariants as verdict
+use Rattle.server_model.specs.Base.{Base}
 use Rattle.server_model.specs.Core.{Core, all_entries, committed}
 use Rattle.server_model.specs.Sessions.{Life, Begun, Ended, Sess, with_work}
 use Rattle.svc_values.specs.declared.entry.SessionId.{SessionId}
@@ -84,6 +84,7 @@ no_identifier verdict.AlreadyBlocked = refl
 no_identifier (verdict.Committed completed) = refl
 no_identifier (verdict.ServerAhead next) = refl
 no_identifier (verdict.ClientAhead next) = refl
+no_identifier (verdict.Forgotten horizon) = refl
 
 outcomes_say : (core : Core) (t : Sess) (y : Ltxid) (after : Core) (told : Told) → Outcomes core y after told → IfSays (up.Outcome y) told core t
 outcomes_say core t y _ _ (IsTold judged by) =
@@ -149,8 +150,8 @@ moves_tell base server _ _ numbered (AnswersAsk x core frame on asks) = (outcome
 moves_tell base server _ _ numbered (HaltsInAsk x core told running asks) = (tt, tt)
 moves_tell base server _ _ numbered (Reaps front back sess split) = tt
 moves_tell base server _ _ numbered Falls = tt
-moves_tell base server _ _ numbered (Opens off) = tt
-moves_tell base server _ _ numbered (StopsOpening core off same) = tt
+moves_tell base server _ _ numbered (Opens below off may) = tt
+moves_tell base server _ _ numbered (StopsOpening below core off may same) = tt
 
 -- ---- the last thing of a history
 
@@ -183,9 +184,10 @@ still server _ _ (AnswersAsk x core frame on asks) none = some_none none
 still server _ _ (HaltsInAsk x core told running asks) none = some_none none
 still server _ _ (Reaps front back sess split) none = record { base = refl; entries = refl }
 still server _ _ Falls none = record { base = refl; entries = refl }
-still server _ _ (Opens off) none = record { base = refl; entries = refl }
-still server _ _ (StopsOpening core off (inl same)) none = record { base = ap (λ (c : Core). c.base) same; entries = ap (λ (c : Core). c.entries) same }
-still server _ _ (StopsOpening core off (inr same)) none = record { base = ap (λ (c : Core). c.base) same; entries = ap (λ (c : Core). c.entries) same }
+still server _ _ (Opens below off may) none = record { base = refl; entries = refl }
+still server _ _ (StopsOpening below core off may (inl same)) none = record { base = ap (λ (c : Core). c.base) same; entries = ap (λ (c : Core). c.entries) same }
+still server _ _ (StopsOpening below core off may (inr (inl same))) none = record { base = ap (λ (c : Core). c.base) same; entries = ap (λ (c : Core). c.entries) same }
+still server _ _ (StopsOpening below core off may (inr (inr same))) none = record { base = ap (λ (c : Core). c.base) same; entries = ap (λ (c : Core). c.entries) same }
 
 -- where the last thing of a history came: a run before it, the move that added it, and the store
 -- since
@@ -267,8 +269,8 @@ moves_table server _ _ (AnswersAsk x core frame on asks) = (asked_table server.c
 moves_table server _ _ (HaltsInAsk x core told running asks) = (tt, tt)
 moves_table server _ _ (Reaps front back sess split) = tt
 moves_table server _ _ Falls = tt
-moves_table server _ _ (Opens off) = tt
-moves_table server _ _ (StopsOpening core off same) = tt
+moves_table server _ _ (Opens below off may) = tt
+moves_table server _ _ (StopsOpening below core off may same) = tt
 
 pub tells_outcomes : TellsOutcomes
 tells_outcomes base history server session now x told runs =

@@ -10,12 +10,13 @@ use Rattle.svc_values.specs.declared.frame.Up.TheVariants as up
 use Rattle.svc_values.specs.declared.frame.Down.TheVariants as down
 use Rattle.ltxid_book.specs.declared.State.{State}
 use Rattle.svc_values.specs.Identifiers.{same_ltxid, session_of}
-use Rattle.ltxid_book.specs.Journal.{is_blocked, next_ltxid}
-use Rattle.outcome_call.specs.declared.Verdict.{Verdict}
-use Rattle.outcome_call.specs.declared.Verdict.TheVariants as verdict
-use Rattle.outcome_call.specs.Table.{outcome_in}
-use Rattle.server_model.specs.Base.{Base, committed_of}
-use Rattle.server_model.specs.Core.{Core, all_entries, all_blocked, book}
+use Rattle.ltxid_book.specs.Journal.{is_blocked, next_ltxid, state_of, committed_of}
+use Rattle.ltxid_book.specs.declared.verdict.Verdict.{Verdict}
+use Rattle.ltxid_book.specs.declared.verdict.Verdict.TheVariants as verdict
+use Rattle.ltxid_book.specs.Sessions.{untouched}
+use Rattle.ltxid_book.specs.Outcomes.{outcome_in}
+use Rattle.server_model.specs.Base.{Base}
+use Rattle.server_model.specs.Core.{Core, all_entries, all_blocked}
 use Rattle.svc_values.specs.declared.entry.SessionId.{SessionId}
 use Rattle.server_model.specs.Sessions.{Sess}
 use Rattle.server_model.specs.Outcomes.{Told, Silent, Says, Stopped, Outcomes, IsTold, BlockStops, down_of, if_blocks, with_block, verdict_on}
@@ -66,10 +67,14 @@ parts : (n m : ℕ) (b : Bool) → ((n == m) && b) ≡ true → (n ≡ m) × (b 
 parts n m b is = (grind (arith, nat_tests), grind (arith, nat_tests))
 
 already-blocked : (core : Core) (x : Ltxid) → verdict_on core x ≡ verdict.AlreadyBlocked → IsBlocked core x
-already-blocked core x is =
-    let both = parts x.number _ _ (already (book core x.incarnation x.session) x.number is) in
-    let same : x ≡ next_ltxid (map committed_of (all_entries core)) x.incarnation x.session = (λ i. record { incarnation = x.incarnation; session = x.session; number = both.0 i }) in
-    ap (is_blocked (all_blocked core)) same ∙ both.1
+already-blocked core x = by (nat_lt x.incarnation core.horizon)
+  where
+    by : (lost : Bool) → (let state = if lost then untouched else state_of (map committed_of (all_entries core)) (all_blocked core) x.incarnation x.session in if lost then verdict.Forgotten core.horizon else outcome_in state x.number) ≡ verdict.AlreadyBlocked → IsBlocked core x
+    by true is = let none : ⊥ = cc in absurd none
+    by false is =
+        let both = parts x.number _ _ (already (state_of (map committed_of (all_entries core)) (all_blocked core) x.incarnation x.session) x.number is) in
+        let same : x ≡ next_ltxid (map committed_of (all_entries core)) x.incarnation x.session = (λ i. record { incarnation = x.incarnation; session = x.session; number = both.0 i }) in
+        ap (is_blocked (all_blocked core)) same ∙ both.1
 
 new-blocked : (core : Core) (x : Ltxid) → IsBlocked (with_block core x) x
 new-blocked core x = ap (λ b. is_blocked b x) (sym (append_assoc core.base.blocked core.blocked (x ∷ []))) ∙ blocked-last (all_blocked core) x
@@ -86,6 +91,7 @@ judged_told verdict.AlreadyBlocked core x is = already-blocked core x is
 judged_told (verdict.Committed completed) core x is = tt
 judged_told (verdict.ServerAhead next) core x is = tt
 judged_told (verdict.ClientAhead next) core x is = tt
+judged_told (verdict.Forgotten horizon) core x is = tt
 
 outcomes_told : (core : Core) (x : Ltxid) (after : Core) (told : Told) → Outcomes core x after told → IfTold told x after
 outcomes_told core x _ _ (IsTold judged by) = judged_told judged core x by
@@ -169,8 +175,8 @@ moves_asked server _ _ (AnswersAsk x core frame on asks) = (outcomes_told server
 moves_asked server _ _ (HaltsInAsk x core told running asks) = (tt, tt)
 moves_asked server _ _ (Reaps front back sess split) = tt
 moves_asked server _ _ Falls = tt
-moves_asked server _ _ (Opens off) = tt
-moves_asked server _ _ (StopsOpening core off same) = tt
+moves_asked server _ _ (Opens below off may) = tt
+moves_asked server _ _ (StopsOpening below core off may same) = tt
 
 -- a move leaves the base
 pub moves_base : (server after : Server) (more : List Happened) → Moves server more after → after.core.base ≡ server.core.base
@@ -182,9 +188,10 @@ moves_base server _ _ (AnswersAsk x core frame on asks) = (outcomes_stay server.
 moves_base server _ _ (HaltsInAsk x core told running asks) = (outcomes_stay server.core x core told asks).0
 moves_base server _ _ (Reaps front back sess split) = refl
 moves_base server _ _ Falls = refl
-moves_base server _ _ (Opens off) = refl
-moves_base server _ _ (StopsOpening core off (inl same)) = ap (λ (c : Core). c.base) same
-moves_base server _ _ (StopsOpening core off (inr same)) = ap (λ (c : Core). c.base) same
+moves_base server _ _ (Opens below off may) = refl
+moves_base server _ _ (StopsOpening below core off may (inl same)) = ap (λ (c : Core). c.base) same
+moves_base server _ _ (StopsOpening below core off may (inr (inl same))) = ap (λ (c : Core). c.base) same
+moves_base server _ _ (StopsOpening below core off may (inr (inr same))) = ap (λ (c : Core). c.base) same
 
 moves_block : (server after : Server) (more : List Happened) → Moves server more after → (y : Ltxid) → IsBlocked server.core y → IsBlocked after.core y
 moves_block server after more moves y is =

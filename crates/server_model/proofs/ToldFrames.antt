@@ -1,6 +1,6 @@
 -- Each answered frame is told as it has to be, where the walk stands where the server does.
-use Rattle.std.specs.Prelude.{◌≡◌, ◌==◌, ◌&&◌, ℕ, Bool, true, false, not, IsTrue, List, [], ◌∷◌, map, if◌then◌else◌}
-use Rattle.std.proofs.Common.{refl, sym, ◌∙◌, ap, arith}
+use Rattle.std.specs.Prelude.{◌≡◌, ◌==◌, ◌&&◌, ℕ, Bool, true, false, not, nat_lt, ◌+◌, IsTrue, List, [], ◌∷◌, map, if◌then◌else◌}
+use Rattle.std.proofs.Common.{refl, sym, ◌∙◌, ap, subst, arith}
 use Rattle.std.proofs.lemmas.Bool.Decides.{nat_tests}
 use Rattle.svc_values.specs.declared.draw.Draw.{Draw}
 use Rattle.svc_values.specs.declared.statement.Statement.{Statement}
@@ -14,11 +14,12 @@ use Rattle.svc_values.specs.declared.frame.Up.TheVariants as up
 use Rattle.svc_values.specs.declared.frame.Down.{Down}
 use Rattle.svc_values.specs.declared.frame.Down.TheVariants as down
 use Rattle.svc_values.specs.Identifiers.{same_ltxid}
-use Rattle.ltxid_book.specs.Journal.{Committed, book_of}
-use Rattle.outcome_call.specs.declared.Verdict.{Verdict}
-use Rattle.outcome_call.specs.declared.Verdict.TheVariants as verdict
-use Rattle.outcome_call.specs.Table.{verdict_of}
-use Rattle.server_model.specs.Base.{committed_of}
+use Rattle.ltxid_book.specs.Journal.{Committed, state_of, committed_of}
+use Rattle.ltxid_book.specs.declared.verdict.Verdict.{Verdict}
+use Rattle.ltxid_book.specs.declared.verdict.Verdict.TheVariants as verdict
+use Rattle.ltxid_book.specs.declared.State.{State}
+use Rattle.ltxid_book.specs.Sessions.{untouched}
+use Rattle.ltxid_book.specs.Outcomes.{outcome_in}
 use Rattle.server_model.specs.Core.{Core, all_entries, all_blocked}
 use Rattle.svc_values.specs.declared.entry.SessionId.{SessionId}
 use Rattle.server_model.specs.Sessions.{Life, New, Idle, Begun, Ended, Sess}
@@ -26,7 +27,7 @@ use Rattle.server_model.specs.Outcomes.{Told, Silent, Says, Outcomes, IsTold, Bl
 use Rattle.server_model.specs.Serve.{Commits, InReplay, Blocks, Conflicts, Stores, StopsBefore, StopsAfter, Works, Answers, Reaches, HaltsInDraw, Calls, IsWork, IsSet, IsAlter, AlterStops, AlterMarked, IsDisable, IsRollback, Serve, Connects, Begins, Ends, Closes, Asks, Runs as Serves, Refuses, is_serving, is_out_of_order, if_told}
 use Rattle.server_model.specs.Runs.{is_answered}
 use Rattle.server_model.specs.Walk.{Walk, next_of}
-use Rattle.server_model.specs.ToldRight.{life_after, told_holds, same_outcome, outcome_on, ask_holds, is_refused}
+use Rattle.server_model.specs.ToldRight.{life_after, told_holds, same_outcome, outcome_on, tells_outcome, ask_holds, is_refused}
 use Rattle.server_model.proofs.Following.{ltxid-self}
 
 -- ---- outcomes
@@ -38,9 +39,13 @@ if-down false true more = refl
 if-down false false more = refl
 
 -- what is blocked makes no difference to what is told
-same-down : (commits : List Committed) (some other : List Ltxid) (x : Ltxid) → down_of (verdict_of (book_of commits some) x) ≡ down_of (verdict_of (book_of commits other) x)
-same-down commits some other x = if-down (x.number == (book_of commits some x.incarnation x.session).next) (book_of commits some x.incarnation x.session).blocked _
-    ∙ sym (if-down (x.number == (book_of commits other x.incarnation x.session).next) (book_of commits other x.incarnation x.session).blocked _)
+same-down : (commits : List Committed) (some other : List Ltxid) (x : Ltxid) → down_of (outcome_in (state_of commits some x.incarnation x.session) x.number) ≡ down_of (outcome_in (state_of commits other x.incarnation x.session) x.number)
+same-down commits some other x = if-down (x.number == (state_of commits some x.incarnation x.session).next) (state_of commits some x.incarnation x.session).blocked _
+    ∙ sym (if-down (x.number == (state_of commits other x.incarnation x.session).next) (state_of commits other x.incarnation x.session).blocked _)
+
+-- nothing is below 0
+none-below : (n : ℕ) → nat_lt n 0 ≡ false
+none-below n = grind (arith, nat_tests)
 
 number-self : (n : ℕ) → (n == n) ≡ true
 number-self n = grind (arith, nat_tests)
@@ -49,18 +54,46 @@ bool-self : (b : Bool) → same_outcome (down.OutcomeIs true b) (down.OutcomeIs 
 bool-self true = refl
 bool-self false = refl
 
-outcome-self : (judged : Verdict) → same_outcome (down_of judged) (down_of judged) ≡ true
-outcome-self verdict.BlockIt = refl
-outcome-self verdict.AlreadyBlocked = refl
-outcome-self (verdict.Committed completed) = bool-self completed
-outcome-self (verdict.ServerAhead next) = number-self next
-outcome-self (verdict.ClientAhead next) = number-self next
+outcome-self : (judged : Verdict) → ((horizon : ℕ) → judged ≡ verdict.Forgotten horizon → ⊥) → same_outcome (down_of judged) (down_of judged) ≡ true
+outcome-self verdict.BlockIt never = refl
+outcome-self verdict.AlreadyBlocked never = refl
+outcome-self (verdict.Committed completed) never = bool-self completed
+outcome-self (verdict.ServerAhead next) never = number-self next
+outcome-self (verdict.ClientAhead next) never = number-self next
+outcome-self (verdict.Forgotten horizon) never = absurd (never horizon refl)
 
-pub outcome-right : (core : Core) (walk : Walk) (x : Ltxid) (judged : Verdict) → walk.stored ≡ all_entries core → verdict_on core x ≡ judged → same_outcome (down_of judged) (outcome_on walk x) ≡ true
-outcome-right core walk x judged stored by =
-    let there : outcome_on walk x ≡ down_of judged =
-    ap (λ s. down_of (verdict_of (book_of (map committed_of s) walk.blocked) x)) stored ∙ same-down (map committed_of (all_entries core)) walk.blocked (all_blocked core) x ∙ ap down_of by in
-    ap (same_outcome (down_of judged)) there ∙ outcome-self judged
+never-forgotten : (a b c d completed : Bool) (next horizon : ℕ)
+    → (if a then verdict.BlockIt else (if b then verdict.AlreadyBlocked else (if c then verdict.Committed completed else (if d then verdict.ServerAhead next else verdict.ClientAhead next)))) ≡ verdict.Forgotten horizon → ⊥
+never-forgotten true b c d completed next horizon is = cc
+never-forgotten false true c d completed next horizon is = cc
+never-forgotten false false true d completed next horizon is = cc
+never-forgotten false false false true completed next horizon is = cc
+never-forgotten false false false false completed next horizon is = cc
+
+-- a verdict on a session that is not forgotten is told by the table
+by-table : (walk : Walk) (x : Ltxid) (judged : Verdict) → ((horizon : ℕ) → judged ≡ verdict.Forgotten horizon → ⊥) → outcome_on walk x ≡ down_of judged → tells_outcome walk x (down_of judged) ≡ true
+by-table walk x verdict.BlockIt never there = ap (same_outcome (down_of verdict.BlockIt)) there ∙ outcome-self verdict.BlockIt never
+by-table walk x verdict.AlreadyBlocked never there = ap (same_outcome (down_of verdict.AlreadyBlocked)) there ∙ outcome-self verdict.AlreadyBlocked never
+by-table walk x (verdict.Committed completed) never there = ap (same_outcome (down_of (verdict.Committed completed))) there ∙ outcome-self (verdict.Committed completed) never
+by-table walk x (verdict.ServerAhead next) never there = ap (same_outcome (down_of (verdict.ServerAhead next))) there ∙ outcome-self (verdict.ServerAhead next) never
+by-table walk x (verdict.ClientAhead next) never there = ap (same_outcome (down_of (verdict.ClientAhead next))) there ∙ outcome-self (verdict.ClientAhead next) never
+by-table walk x (verdict.Forgotten horizon) never there = absurd (never horizon refl)
+
+pub outcome-right : (core : Core) (walk : Walk) (x : Ltxid) (judged : Verdict) → walk.stored ≡ all_entries core → verdict_on core x ≡ judged → tells_outcome walk x (down_of judged) ≡ true
+outcome-right core walk x judged stored by = cases (nat_lt x.incarnation core.horizon) refl by
+  where
+    cases : (lost : Bool) → nat_lt x.incarnation core.horizon ≡ lost
+        → (let state = if lost then untouched else state_of (map committed_of (all_entries core)) (all_blocked core) x.incarnation x.session in if lost then verdict.Forgotten core.horizon else outcome_in state x.number) ≡ judged
+        → tells_outcome walk x (down_of judged) ≡ true
+    cases true lost is = subst (λ v. tells_outcome walk x (down_of v) ≡ true) is lost
+    cases false known is =
+        let own : State = state_of (map committed_of (all_entries core)) (all_blocked core) x.incarnation x.session in
+        let there : outcome_on walk x ≡ down_of judged =
+        ap (λ b. let state = if b then untouched else state_of (map committed_of walk.stored) walk.blocked x.incarnation x.session in down_of (if b then verdict.Forgotten 0 else outcome_in state x.number)) (none-below x.incarnation)
+        ∙ ap (λ s. down_of (outcome_in (state_of (map committed_of s) walk.blocked x.incarnation x.session) x.number)) stored
+        ∙ same-down (map committed_of (all_entries core)) walk.blocked (all_blocked core) x
+        ∙ ap down_of is in
+        by-table walk x judged (λ horizon e. never-forgotten ((x.number == own.next) && not own.blocked) ((x.number == own.next) && own.blocked) (x.number + 1 == own.next) (nat_lt (x.number + 1) own.next) own.completed own.next horizon (is ∙ e)) there
 
 pub ask-right : (core : Core) (walk : Walk) (x : Ltxid) (after : Core) (told : Told) → walk.stored ≡ all_entries core → Outcomes core x after told → ask_holds walk x told ≡ true
 ask-right core walk x _ _ stored (IsTold judged by) = outcome-right core walk x judged stored by
@@ -74,6 +107,7 @@ asked-life verdict.AlreadyBlocked x life = refl
 asked-life (verdict.Committed completed) x life = refl
 asked-life (verdict.ServerAhead next) x life = refl
 asked-life (verdict.ClientAhead next) x life = refl
+asked-life (verdict.Forgotten horizon) x life = refl
 
 outcomes-life : (core : Core) (sess : Sess) (x : Ltxid) (after : Core) (told : Told) → Outcomes core x after told → IsTrue (is_answered told) → life_after (up.Outcome x) told sess.life ≡ (if_told told sess).life
 outcomes-life core sess x _ _ (IsTold judged by) answered = asked-life judged x sess.life
@@ -133,7 +167,7 @@ module _ (before behind : Walk) (session : SessionId) where
   silent Begun frame is both = both.1
   silent Ended frame is both = let none : ⊥ = cc in absurd none
 
-  outcome : (life : Life) (x : Ltxid) (told : Down) → is_serving life ≡ true → same_outcome told (outcome_on before x) ≡ true → told_holds life before behind session (up.Outcome x) (Says told) ≡ true
+  outcome : (life : Life) (x : Ltxid) (told : Down) → is_serving life ≡ true → tells_outcome before x told ≡ true → told_holds life before behind session (up.Outcome x) (Says told) ≡ true
   outcome New x told is right = let none : ⊥ = cc in absurd none
   outcome Idle x told is right = right
   outcome Begun x told is right = right

@@ -1,7 +1,7 @@
 -- A run of the server, computed: two sessions get and update one row. The first one's commit is
 -- stored, and that of the second is answered Conflict.
 use Rattle.std.specs.Prelude.{◌≡◌, ℕ, ℤ, pos, true, false, IsTrue, List, [], ◌∷◌, ◌++◌, Option, Some, None}
-use Rattle.std.proofs.Common.{refl}
+use Rattle.std.proofs.Common.{refl, arith}
 use Rattle.svc_values.specs.declared.value.Value.TheVariants as value
 use Rattle.svc_values.specs.declared.value.Kind.TheVariants as kind
 use Rattle.svc_values.specs.declared.statement.Operand.TheVariants as operand
@@ -23,7 +23,7 @@ use Rattle.server_model.specs.Base.{Base}
 use Rattle.server_model.specs.Core.{Core, core_of}
 use Rattle.server_model.specs.Sessions.{Sess, made}
 use Rattle.server_model.specs.Outcomes.{Silent, Says}
-use Rattle.server_model.specs.Runs.{Happened, Served, Server, On, is_answered, Makes, Answers, Opens, Runs, Start, Then, reopened_core}
+use Rattle.server_model.specs.Runs.{Happened, Served, Server, On, is_answered, Makes, Answers, Opens, Runs, Start, Then, reopened_core, forgetting}
 use Rattle.server_model.specs.Items.{items_of}
 use Rattle.server_model.specs.Legal.{legal}
 use Rattle.server_model.specs.ToldRight.{told_right}
@@ -53,6 +53,7 @@ bank = record {
   blocked = [];
   alerts = [];
   incarnation = 0;
+  horizon = 0;
 }
 
 -- ---- what is asked of the sessions
@@ -107,7 +108,7 @@ serves history server front back old frame d runs on split is answered =
     Then history _ server _ runs (Answers old d.sess 0 frame d.core d.told _ on (interpret-is server.core old 0 frame d is) answered (record { front = front; back = back; split = split; turned = refl }))
 
 opened : Core
-opened = reopened_core (core_of bank)
+opened = reopened_core (forgetting (core_of bank) 0)
 
 fresh : ℕ → Sess
 fresh number = made (session number)
@@ -133,7 +134,7 @@ second = does first.core (added 2 (pos 7)) (asks commit)
 both-runs : Runs bank (both (answer.Conflict ∷ [])) (record { power = On; core = second.core; sessions = first.sess ∷ second.sess ∷ []; count = 2 })
 unfolding acc id bal row bank session get add commit asks connect begin replies rows both or_stay does opened fresh idle begun got added first second
 both-runs =
-    let on : Runs bank [] (record { power = On; core = opened; sessions = []; count = 0 }) = Then [] [] _ _ Start (Opens refl) in
+    let on : Runs bank [] (record { power = On; core = opened; sessions = []; count = 0 }) = Then [] [] _ _ Start (Opens 0 refl (omega arith)) in
     let one : Runs bank [] (record { power = On; core = opened; sessions = fresh 1 ∷ []; count = 1 }) = Then [] [] _ _ on (Makes refl) in
     let two : Runs bank [] (record { power = On; core = opened; sessions = fresh 1 ∷ fresh 2 ∷ []; count = 2 }) = Then [] [] _ _ one (Makes refl) in
     let r1 = serves [] _ [] (fresh 2 ∷ []) (fresh 1) up.Connect (does opened (fresh 1) up.Connect) two refl refl refl refl in

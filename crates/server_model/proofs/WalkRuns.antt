@@ -7,17 +7,18 @@ use Rattle.svc_values.specs.declared.entry.Ltxid.{Ltxid}
 use Rattle.svc_values.specs.declared.entry.Entry.{Entry}
 use Rattle.svc_values.specs.declared.frame.Up.{Up}
 use Rattle.svc_values.specs.declared.frame.Up.TheVariants as up
-use Rattle.outcome_call.specs.declared.Verdict.{Verdict}
-use Rattle.outcome_call.specs.declared.Verdict.TheVariants as verdict
+use Rattle.ltxid_book.specs.declared.verdict.Verdict.{Verdict}
+use Rattle.ltxid_book.specs.declared.verdict.Verdict.TheVariants as verdict
 use Rattle.mutable_values.specs.Sources.{Opening}
-use Rattle.server_model.specs.Base.{Base, IsSound, committed_of}
+use Rattle.ltxid_book.specs.Journal.{committed_of}
+use Rattle.server_model.specs.Base.{Base, IsSound}
 use Rattle.server_model.specs.Core.{Core, committed, all_entries, tables_with}
 use Rattle.svc_values.specs.declared.entry.SessionId.{SessionId}
 use Rattle.svc_values.specs.Identifiers.{session_of, same_session}
 use Rattle.server_model.specs.Sessions.{Life, New, Begun, Ended, Sess, ended, with_work, entry_of}
 use Rattle.server_model.specs.Outcomes.{Told, Silent, Says, Stopped, Outcomes, IsTold, down_of, if_blocks}
 use Rattle.server_model.specs.Serve.{Serve}
-use Rattle.server_model.specs.Runs.{Happened, Served, Asked, Server, Turns, Moves, Makes, Answers, Halts, Loses, AnswersAsk, HaltsInAsk, Reaps, Falls, Opens, StopsOpening, Runs, Start, Then, Off, On, Halted, Power, is_running, is_answered, reopened_core, next_session}
+use Rattle.server_model.specs.Runs.{Happened, Served, Asked, Server, Turns, Moves, Makes, Answers, Halts, Loses, AnswersAsk, HaltsInAsk, Reaps, Falls, Opens, StopsOpening, Runs, Start, Then, Off, On, Halted, Power, is_running, is_answered, reopened_core, forgetting, next_session}
 use Rattle.server_model.specs.Items.{item_of}
 use Rattle.server_model.specs.NewValues.{opened}
 use Rattle.server_model.specs.Walk.{Walk, walk_of, transaction_in, entered, next_of}
@@ -390,6 +391,7 @@ asked-same base walk x verdict.AlreadyBlocked = record { committed = refl; store
 asked-same base walk x (verdict.Committed completed) = record { committed = refl; stored = refl; left = refl; sessions = refl; views = refl; incarnation = refl; over = refl }
 asked-same base walk x (verdict.ServerAhead next) = record { committed = refl; stored = refl; left = refl; sessions = refl; views = refl; incarnation = refl; over = refl }
 asked-same base walk x (verdict.ClientAhead next) = record { committed = refl; stored = refl; left = refl; sessions = refl; views = refl; incarnation = refl; over = refl }
+asked-same base walk x (verdict.Forgotten horizon) = record { committed = refl; stored = refl; left = refl; sessions = refl; views = refl; incarnation = refl; over = refl }
 
 asked-told : (base : Base) (lives : List (SessionId × Life)) (walk : Walk) (x : Ltxid) (judged : Verdict) → ask_holds walk x (Says (down_of judged)) ≡ true → told_from base lives walk (Asked x (Says (down_of judged)) ∷ []) ≡ true
 asked-told base lives walk x verdict.BlockIt is = and-true _ is
@@ -397,6 +399,7 @@ asked-told base lives walk x verdict.AlreadyBlocked is = and-true _ is
 asked-told base lives walk x (verdict.Committed completed) is = and-true _ is
 asked-told base lives walk x (verdict.ServerAhead next) is = and-true _ is
 asked-told base lives walk x (verdict.ClientAhead next) is = and-true _ is
+asked-told base lives walk x (verdict.Forgotten horizon) is = and-true _ is
 
 held-same : (walk behind : Walk) (lives : List (SessionId × Life)) (sessions : List Sess) → behind.sessions ≡ walk.sessions → AllHeld walk lives sessions → AllHeld behind lives sessions
 held-same walk behind lives [] same all = tt
@@ -431,8 +434,8 @@ module _ (base : Base) (history : List Happened) (server : Server) (rest gained 
       not-yet s (inl far) = walks.unseen s (inl (above server.core.opening.incarnation core.opening.incarnation s.incarnation later far))
       not-yet s (inr (on, more)) = off-running on
 
-  opens-up : reopened_core server.core ≡ reopened_core server.core → server.core.entries ≡ server.core.entries ++ gained → Walks (history ++ []) (record { power = On; core = reopened_core server.core; sessions = []; count = 0 }) rest walk lives
-  opens-up same grew = record {
+  opens-up : (below : ℕ) → server.core.entries ≡ server.core.entries ++ gained → Walks (history ++ []) (record { power = On; core = reopened_core (forgetting server.core below); sessions = []; count = 0 }) rest walk lives
+  opens-up below grew = record {
     committed = walks.committed;
     stored = walks.stored;
     left = same-left server.core.entries refl grew;
@@ -583,12 +586,16 @@ step base history _ server _ rest gained walk lives numbered after_numbered (Hal
 step base history _ server _ rest gained walk lives numbered after_numbered (Reaps front back sess split) stops later grew walks = record { walks = reaps base history server rest gained walk lives numbered walks front back sess split grew; told = refl }
 step base history _ server _ rest gained walk lives numbered after_numbered Falls stops later grew walks =
     record { walks = is-down base history server rest gained walk lives numbered walks server.core refl refl (same-within server.core.opening.incarnation server.core.opening.incarnation refl) grew; told = refl }
-step base history _ server _ rest gained walk lives numbered after_numbered (Opens off) stops later grew walks = record { walks = opens-up base history server rest gained walk lives numbered walks refl grew; told = refl }
-step base history _ server _ rest gained walk lives numbered after_numbered (StopsOpening core off (inl same)) stops later grew walks = record {
+step base history _ server _ rest gained walk lives numbered after_numbered (Opens below off may) stops later grew walks = record { walks = opens-up base history server rest gained walk lives numbered walks below grew; told = refl }
+step base history _ server _ rest gained walk lives numbered after_numbered (StopsOpening below core off may (inl same)) stops later grew walks = record {
   walks = is-down base history server rest gained walk lives numbered walks core (ap (λ (c : Core). c.base) same) (ap (λ (c : Core). c.entries) same) (same-within server.core.opening.incarnation core.opening.incarnation (sym (ap (λ (c : Core). c.opening.incarnation) same))) grew;
   told = refl;
 }
-step base history _ server _ rest gained walk lives numbered after_numbered (StopsOpening core off (inr same)) stops later grew walks = record {
+step base history _ server _ rest gained walk lives numbered after_numbered (StopsOpening below core off may (inr (inl same))) stops later grew walks = record {
+  walks = is-down base history server rest gained walk lives numbered walks core (ap (λ (c : Core). c.base) same) (ap (λ (c : Core). c.entries) same) (same-within server.core.opening.incarnation core.opening.incarnation (sym (ap (λ (c : Core). c.opening.incarnation) same))) grew;
+  told = refl;
+}
+step base history _ server _ rest gained walk lives numbered after_numbered (StopsOpening below core off may (inr (inr same))) stops later grew walks = record {
   walks = is-down base history server rest gained walk lives numbered walks core (ap (λ (c : Core). c.base) same) (ap (λ (c : Core). c.entries) same) (above-one server.core.opening.incarnation core.opening.incarnation (ap (λ (c : Core). c.opening.incarnation) same)) grew;
   told = refl;
 }
@@ -614,9 +621,10 @@ moves-later history _ server _ rest gained (AnswersAsk x core frame on asked) gr
 moves-later history _ server _ rest gained (HaltsInAsk x core told running asked) grew stops later = quiet-later history rest gained _ _ (outcomes-entries server.core x core told asked) grew later
 moves-later history _ server _ rest gained (Reaps front back sess split) grew stops later = quiet-later history rest gained _ _ refl grew later
 moves-later history _ server _ rest gained Falls grew stops later = quiet-later history rest gained _ _ refl grew later
-moves-later history _ server _ rest gained (Opens off) grew stops later = quiet-later history rest gained _ _ refl grew later
-moves-later history _ server _ rest gained (StopsOpening core off (inl same)) grew stops later = quiet-later history rest gained _ _ (ap (λ (c : Core). c.entries) same) grew later
-moves-later history _ server _ rest gained (StopsOpening core off (inr same)) grew stops later = quiet-later history rest gained _ _ (ap (λ (c : Core). c.entries) same) grew later
+moves-later history _ server _ rest gained (Opens below off may) grew stops later = quiet-later history rest gained _ _ refl grew later
+moves-later history _ server _ rest gained (StopsOpening below core off may (inl same)) grew stops later = quiet-later history rest gained _ _ (ap (λ (c : Core). c.entries) same) grew later
+moves-later history _ server _ rest gained (StopsOpening below core off may (inr (inl same))) grew stops later = quiet-later history rest gained _ _ (ap (λ (c : Core). c.entries) same) grew later
+moves-later history _ server _ rest gained (StopsOpening below core off may (inr (inr same))) grew stops later = quiet-later history rest gained _ _ (ap (λ (c : Core). c.entries) same) grew later
 
 -- ---- a whole run
 

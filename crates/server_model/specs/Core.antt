@@ -6,20 +6,21 @@ use Rattle.svc_values.specs.declared.entry.Ltxid.{Ltxid}
 use Rattle.svc_values.specs.declared.entry.Write.{Write}
 use Rattle.svc_values.specs.declared.tables.PlainRow.{PlainRow}
 use Rattle.svc_values.specs.Tables.{with_writes}
-use Rattle.ltxid_book.specs.declared.State.{State}
-use Rattle.ltxid_book.specs.Journal.{book_of}
+use Rattle.ltxid_book.specs.Sessions.{Sessions}
+use Rattle.ltxid_book.specs.Journal.{book_of, committed_of}
 use Rattle.mutable_values.specs.declared.source.SeqState.{SeqState}
 use Rattle.mutable_values.specs.Sources.{Opening}
-use Rattle.server_model.specs.Base.{Sequence, Base, committed_of}
+use Rattle.server_model.specs.Base.{Sequence, Base}
 
 -- `entries`, `blocked` and `alerts` are what the store has gained since the service was made, each
--- in the order in which it was stored.
+-- in the order in which it was stored. Outcomes of incarnations below `horizon` are forgotten.
 pub record Core : Type 0 where
   pub base : Base
   pub opening : Opening
   pub entries : List Entry
   pub blocked : List Ltxid
   pub alerts : List (List ℕ)
+  pub horizon : ℕ
 
 abbrev pub writes_in : Entry → List Write
 writes_in entry = entry.writes
@@ -40,8 +41,8 @@ abbrev pub all_blocked : Core → List Ltxid
 all_blocked core = core.base.blocked ++ core.blocked
 
 -- what the store says of each session
-abbrev pub book : Core → ℕ → ℕ → State
-book core = book_of (map committed_of (all_entries core)) (all_blocked core)
+abbrev pub book : Core → Sessions
+book core = book_of core.horizon (map committed_of (all_entries core)) (all_blocked core)
 
 -- a sequence goes on behind its last block
 abbrev pub reopened : SeqState → SeqState
@@ -62,4 +63,5 @@ core_of base = record {
   entries = [];
   blocked = [];
   alerts = [];
+  horizon = base.horizon;
 }

@@ -1,5 +1,5 @@
 -- What holds of every run of the plain server.
-use Rattle.std.specs.Prelude.{◌≡◌, ◌⊎◌, ◌+◌, ◌&&◌, ℕ, Bool, true, false, not, IsTrue, List, [], ◌∷◌, ◌++◌, map, All, Contains, nat_lt, Option, Some, None}
+use Rattle.std.specs.Prelude.{◌≡◌, ◌⊎◌, ◌+◌, ◌≤◌, ◌&&◌, ℕ, Bool, true, false, not, IsTrue, List, [], ◌∷◌, ◌++◌, map, All, Contains, nat_lt, Option, Some, None}
 use Rattle.svc_values.specs.declared.call.Call.{Call}
 use Rattle.svc_values.specs.declared.answer.Answer.{Answer}
 use Rattle.svc_values.specs.declared.draw.Draw.{Draw}
@@ -11,15 +11,15 @@ use Rattle.svc_values.specs.declared.frame.Down.{Down}
 use Rattle.svc_values.specs.declared.frame.Down.TheVariants as down
 use Rattle.svc_values.specs.Endings.{ends_committed}
 use Rattle.stmt_meaning.specs.Serial.{Serial}
-use Rattle.ltxid_book.specs.Journal.{is_blocked, next_ltxid, BlocksStand}
-use Rattle.server_model.specs.Base.{Base, committed_of, IsSound}
+use Rattle.ltxid_book.specs.Journal.{is_blocked, next_ltxid, BlocksStand, committed_of}
+use Rattle.server_model.specs.Base.{Base, IsSound}
 use Rattle.server_model.specs.Core.{Core, committed, all_entries, all_blocked, tables_with}
 use Rattle.svc_values.specs.declared.entry.SessionId.{SessionId}
 use Rattle.svc_values.specs.Identifiers.{session_of}
 use Rattle.server_model.specs.Sessions.{Sess}
 use Rattle.server_model.specs.Outcomes.{Told, Says, Stopped, down_of, verdict_on}
 use Rattle.server_model.specs.Serve.{Serve}
-use Rattle.server_model.specs.Runs.{Happened, Served, Asked, Server, Runs}
+use Rattle.server_model.specs.Runs.{Happened, Served, Asked, Server, is_running, Runs}
 use Rattle.server_model.specs.Items.{items_of}
 use Rattle.server_model.specs.Legal.{legal, lines_of, lines_stand}
 use Rattle.server_model.specs.Fresh.{fresh_new, has_room}
@@ -38,11 +38,12 @@ pub data Grows (core : Core) (sess : Sess) (after : Core) : Type 0 where
 abbrev pub ServeGrows : Type 0
 ServeGrows = (core : Core) (sess : Sess) (now : ℕ) (frame : Up) (after : Core) (t : Sess) (told : Told) → Serve core sess now frame after t told → Grows core sess after
 
--- A frame leaves the base, and its session's place.
+-- A frame leaves the base, its session's place, and what is forgotten.
 pub record StaysIn (core : Core) (sess : Sess) (after : Core) (t : Sess) : Type 0 where
   pub base : after.base ≡ core.base
   pub incarnation : after.opening.incarnation ≡ core.opening.incarnation
   pub session : session_of t.ltxid ≡ session_of sess.ltxid
+  pub horizon : after.horizon ≡ core.horizon
 
 abbrev pub ServeStays : Type 0
 ServeStays = (core : Core) (sess : Sess) (now : ℕ) (frame : Up) (after : Core) (t : Sess) (told : Told) → Serve core sess now frame after t told → StaysIn core sess after t
@@ -71,6 +72,15 @@ AreNumbered before (entry ∷ entries) = (entry.ltxid ≡ next_ltxid (map commit
 
 abbrev pub EntryNumbers : Type 0
 EntryNumbers = (base : Base) (history : List Happened) (server : Server) → IsSound base → Runs base history server → AreNumbered base.entries server.core.entries
+
+-- The horizon never falls, and no incarnation that is still to come is forgotten: where the server runs, not its own either.
+pub record Forgets (base : Base) (server : Server) : Type 0 where
+  pub rises : base.horizon ≤ server.core.horizon
+  pub within : server.core.horizon ≤ server.core.opening.incarnation + 1
+  pub living : IsTrue (is_running server.power) → server.core.horizon ≤ server.core.opening.incarnation
+
+abbrev pub RunsForget : Type 0
+RunsForget = (base : Base) (history : List Happened) (server : Server) → IsSound base → Runs base history server → Forgets base server
 
 -- The entries that the store gained are a serial run from its tables at the start, and what they
 -- wrote leaves the same tables.
@@ -175,6 +185,7 @@ pub record IsFront (before after : Server) : Type 0 where
   pub entries : after.core.entries ≡ before.core.entries ++ more_entries
   pub blocked : after.core.blocked ≡ before.core.blocked ++ more_blocked
   pub alerts : after.core.alerts ≡ before.core.alerts ++ more_alerts
+  pub horizon : before.core.horizon ≤ after.core.horizon
 
 abbrev pub RunsFront : Type 0
 RunsFront = (base : Base) (history more : List Happened) (after : Server) → Runs base (history ++ more) after

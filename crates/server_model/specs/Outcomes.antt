@@ -4,9 +4,9 @@ use Rattle.svc_values.specs.declared.entry.Ltxid.{Ltxid}
 use Rattle.svc_values.specs.declared.frame.Down.{Down}
 use Rattle.svc_values.specs.declared.frame.Down.TheVariants as down
 use Rattle.svc_values.specs.declared.frame.Ahead.TheVariants as ahead
-use Rattle.outcome_call.specs.declared.Verdict.{Verdict}
-use Rattle.outcome_call.specs.declared.Verdict.TheVariants as verdict
-use Rattle.outcome_call.specs.Table.{verdict_of}
+use Rattle.ltxid_book.specs.declared.verdict.Verdict.{Verdict}
+use Rattle.ltxid_book.specs.declared.verdict.Verdict.TheVariants as verdict
+use Rattle.ltxid_book.specs.Outcomes.{verdict_of}
 use Rattle.server_model.specs.Core.{Core, book}
 
 -- What is told of a frame: nothing, a frame, or nothing because the store was stopped before the
@@ -23,6 +23,7 @@ down_of verdict.BlockIt = down.OutcomeIs false false
 down_of verdict.AlreadyBlocked = down.OutcomeIs false false
 down_of (verdict.ServerAhead next) = down.OutcomeRefused ahead.Server next
 down_of (verdict.ClientAhead next) = down.OutcomeRefused ahead.Client next
+down_of (verdict.Forgotten horizon) = down.OutcomeRefused ahead.Forgotten horizon
 
 -- the verdict where the store is as it is
 abbrev pub verdict_on : Core → Ltxid → Verdict
@@ -39,6 +40,7 @@ if_blocks verdict.AlreadyBlocked core x = core
 if_blocks (verdict.Committed completed) core x = core
 if_blocks (verdict.ServerAhead next) core x = core
 if_blocks (verdict.ClientAhead next) core x = core
+if_blocks (verdict.Forgotten horizon) core x = core
 
 -- The outcome of an identifier is told, and before it is told uncommitted it is blocked. At a stop
 -- the block stands or not.

@@ -1,7 +1,9 @@
 -- What a service shows of itself.
-use Rattle.std.specs.Prelude.{◌≡◌, ◌≢◌, ◌+◌, ◌==◌, ◌<◌, ◌≤◌, ◌^◌, ◌-◌, ◌⊎◌, ℕ, Bool, true, false, List, [], ◌∷◌, ◌++◌, filter, not, Option, Some, None, if◌then◌else◌}
+use Rattle.std.specs.Prelude.{◌≡◌, ◌≢◌, ◌+◌, ◌==◌, ◌<◌, ◌≤◌, ◌^◌, ◌-◌, ◌⊎◌, ℕ, Bool, true, false, List, [], ◌∷◌, ◌++◌, map, filter, not, Option, Some, None, if◌then◌else◌}
 use Rattle.svc_values.specs.declared.entry.Entry.{Entry}
 use Rattle.svc_values.specs.declared.entry.Ltxid.{Ltxid}
+use Rattle.ltxid_book.specs.Journal.{committed_of, book_of}
+use Rattle.ltxid_book.specs.Sessions.{Sessions}
 use Rattle.server_model.specs.Base.{Base}
 use Rattle.svc_values.specs.declared.entry.SessionId.{SessionId}
 use Rattle.server_model.specs.Runs.{Happened, Server, Power, Off, On, Runs}
@@ -10,10 +12,15 @@ use Rattle.server_model.specs.Runs.{Happened, Server, Power, Off, On, Runs}
 -- the number of its records
 pub record Store : Type 0 where
   pub incarnation : ℕ
+  pub horizon : ℕ
   pub entries : List Entry
   pub blocked : List Ltxid
   pub alerts : List (List ℕ)
   pub records : ℕ
+
+-- what it says of each session
+abbrev pub book_in : Store → Sessions
+book_in store = book_of store.horizon (map committed_of store.entries) store.blocked
 
 -- a connection that lives, with its session once a frame was served on it
 pub record Living : Type 0 where
@@ -66,6 +73,7 @@ pub record IsHistory (seen : Seen) : Type 0 where
   pub blocked : seen.store.blocked ≡ seen.start.blocked ++ server.core.blocked
   pub alerts : seen.store.alerts ≡ seen.start.alerts ++ server.core.alerts
   pub incarnation : seen.store.incarnation ≡ server.core.opening.incarnation
+  pub horizon : seen.store.horizon ≡ server.core.horizon
   pub count : seen.is_up ≡ true → seen.sessions ≡ server.count
   pub power : HasPower seen.is_up seen.is_settled server.power
 
@@ -76,6 +84,7 @@ pub record IsNew (seen : Seen) : Type 0 where
   pub blocked : seen.store.blocked ≡ seen.start.blocked
   pub alerts : seen.store.alerts ≡ seen.start.alerts
   pub incarnation : seen.store.incarnation ≡ seen.start.incarnation
+  pub horizon : seen.store.horizon ≡ seen.start.horizon
   pub down : (seen.is_up ≡ false) × (seen.is_settled ≡ true) × (seen.is_opened ≡ false)
   pub none : (seen.living ≡ []) × (seen.stop ≡ None) × (seen.crashes ≡ 0) × (seen.last_pick ≡ None) × (seen.calls ≡ 0) × (seen.is_spent ≡ false)
 

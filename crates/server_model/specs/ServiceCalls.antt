@@ -1,5 +1,5 @@
 -- What each call of a service does to what is seen of it.
-use Rattle.std.specs.Prelude.{◌≡◌, ◌≢◌, ◌⊎◌, ◌+◌, ◌*◌, ◌%◌, ◌<◌, ◌≤◌, ℕ, Bool, true, false, List, [], ◌∷◌, ◌++◌, length, filter, Option, Some, None, All, nat_lt, if◌then◌else◌}
+use Rattle.std.specs.Prelude.{◌≡◌, ◌≢◌, ◌⊎◌, ◌+◌, ◌*◌, ◌%◌, ◌<◌, ◌≤◌, ℕ, Bool, true, false, List, [], ◌∷◌, ◌++◌, length, filter, Option, Some, None, All, nat_lt, max, if◌then◌else◌}
 use Rattle.svc_values.specs.declared.draw.Draw.{Draw}
 use Rattle.svc_values.specs.declared.draw.DrawKind.{DrawKind}
 use Rattle.svc_values.specs.declared.draw.DrawKind.TheVariants as kind
@@ -10,14 +10,15 @@ use Rattle.svc_values.specs.declared.entry.Ltxid.{Ltxid}
 use Rattle.svc_values.specs.declared.frame.Up.{Up}
 use Rattle.svc_values.specs.declared.frame.Up.TheVariants as up
 use Rattle.svc_values.specs.declared.frame.Down.TheVariants as down
-use Rattle.outcome_call.specs.declared.Verdict.{Verdict}
-use Rattle.outcome_call.specs.declared.Verdict.TheVariants as verdict
+use Rattle.ltxid_book.specs.declared.verdict.Verdict.{Verdict}
+use Rattle.ltxid_book.specs.declared.verdict.Verdict.TheVariants as verdict
+use Rattle.ltxid_book.specs.Outcomes.{verdict_of}
 use Rattle.svc_values.specs.declared.entry.SessionId.{SessionId}
 use Rattle.svc_values.specs.Identifiers.{ltxid_of}
 use Rattle.server_model.specs.Outcomes.{Told, Silent, Says, Stopped, down_of}
 use Rattle.server_model.specs.Runs.{Happened, Served, Asked}
 use Rattle.server_model.specs.NewValues.{asked_of}
-use Rattle.server_model.specs.Seen.{Store, Living, Seen, connection_in, without_connection, with_session, Rose, Keeps, KeepsStore}
+use Rattle.server_model.specs.Seen.{Store, book_in, Living, Seen, connection_in, without_connection, with_session, Rose, Keeps, KeepsStore}
 
 -- ---- connect, reap, stop_after
 
@@ -75,6 +76,7 @@ pub record StopsOnly (old new : Seen) (is_stopped : Bool) : Type 0 where
 -- at most so many entries, blocks and lines together, and records
 pub record Adds (old new : Store) (lines most : ℕ) : Type 0 where
   pub incarnation : new.incarnation ≡ old.incarnation
+  pub horizon : new.horizon ≡ old.horizon
   pub more_entries : List Entry
   pub more_blocked : List Ltxid
   pub more_alerts : List (List ℕ)
@@ -110,6 +112,11 @@ abbrev pub is_up_after : Told → Bool
 is_up_after Stopped = false
 is_up_after _ = true
 
+-- An outcome is told by the table on what the store says, unless its frame is refused.
+abbrev pub TellsByTable : Store → Up → Told → Type 0
+TellsByTable store (up.Outcome x) (Says told) = (told ≡ down.Refused 2) ⊎ (told ≡ down_of (verdict_of (book_in store) x))
+TellsByTable store _ _ = Unit {0}
+
 -- A frame joins the history as one thing, of the connection's session. It adds at most one entry,
 -- block or line, and a block for each sequence operand.
 pub record ServedOne (old : Seen) (connection now : ℕ) (frame : Up) (told : Told) (new : Seen) : Type 0 where
@@ -120,6 +127,7 @@ pub record ServedOne (old : Seen) (connection now : ℕ) (frame : Up) (told : To
   pub living : new.living ≡ living_after frame told connection session old.living
   pub is_up : new.is_up ≡ is_up_after told
   pub kept : new.kept ≡ old.stop
+  pub outcome : TellsByTable old.store frame told
   pub adds : Adds old.store new.store 1 (1 + sequence_operands frame)
   pub cause : StopCause old new (1 + sequence_operands frame) told
   -- a frame that stores nothing is never stopped
@@ -165,19 +173,29 @@ pub record KeepsOpening (old new : Seen) : Type 0 where
   pub is_spent : new.is_spent ≡ false
   pub entries : (new.store.entries ≡ old.store.entries) × (new.store.blocked ≡ old.store.blocked) × (new.store.alerts ≡ old.store.alerts)
 
--- an opening of the next incarnation, which has made no session
-pub record Opened (old new : Seen) : Type 0 where
+-- at most the incarnations so far may be forgotten
+abbrev pub MayForget : Seen → ℕ → Type 0
+MayForget old below = below ≤ old.store.incarnation + 1
+
+-- an opening of the next incarnation, which has made no session; the horizon is the wanted one where that is greater
+pub record Opened (old : Seen) (below : ℕ) (new : Seen) : Type 0 where
   pub keeps : KeepsOpening old new
   pub is_up : (new.is_up ≡ true) × (new.is_opened ≡ true)
   pub incarnation : new.store.incarnation ≡ old.store.incarnation + 1
+  pub horizon : new.store.horizon ≡ max old.store.horizon below
   pub sessions : new.sessions ≡ 0
   pub cause : StopsOnly old new false
 
--- an opening that was stopped is stored or not
-pub record StoppedOpening (old new : Seen) : Type 0 where
+-- what an opening that was stopped has stored: nothing, its horizon, or its incarnation behind that
+pub data OpenedSoFar (old : Store) (below : ℕ) (new : Store) : Type 0 where
+  Neither : new.incarnation ≡ old.incarnation → new.horizon ≡ old.horizon → OpenedSoFar old below new
+  Forgets : new.incarnation ≡ old.incarnation → new.horizon ≡ max old.horizon below → OpenedSoFar old below new
+  Both : new.incarnation ≡ old.incarnation + 1 → new.horizon ≡ max old.horizon below → OpenedSoFar old below new
+
+pub record StoppedOpening (old : Seen) (below : ℕ) (new : Seen) : Type 0 where
   pub keeps : KeepsOpening old new
   pub is_up : (new.is_up ≡ false) × (new.is_opened ≡ old.is_opened)
-  pub incarnation : (new.store.incarnation ≡ old.store.incarnation) ⊎ (new.store.incarnation ≡ old.store.incarnation + 1)
+  pub so_far : OpenedSoFar old.store below new.store
   pub cause : StopsOnly old new true
 
 -- ---- outside, ask
@@ -202,7 +220,7 @@ pub record RanOutside (old : Seen) (calls : List Call) (now : ℕ) (x : Ltxid) (
   pub ran : RunsAre (next_session old) now calls runs more
   pub history : new.history ≡ old.history ++ begins_outside (next_session old) now ++ more
   pub others : (new.living ≡ old.living) × (new.is_up ≡ true) × (new.kept ≡ old.kept) × (new.sessions ≡ old.sessions + 1)
-  pub incarnation : new.store.incarnation ≡ old.store.incarnation
+  pub opening : (new.store.incarnation ≡ old.store.incarnation) × (new.store.horizon ≡ old.store.horizon)
   pub cause : StopsOnly old new false
 
 abbrev pub IsOf : SessionId → Happened → Type 0
@@ -226,6 +244,7 @@ IsAnswer _ = Unit {0}
 pub record AskedOne (old : Seen) (x : Ltxid) (told : Verdict) (new : Seen) : Type 0 where
   pub keeps : Keeps old new
   pub verdict : IsAnswer told
+  pub outcome : down_of told ≡ down_of (verdict_of (book_in old.store) x)
   pub history : new.history ≡ old.history ++ Asked x (Says (down_of told)) ∷ []
   pub others : (new.living ≡ old.living) × (new.is_up ≡ true) × (new.kept ≡ old.kept) × (new.sessions ≡ old.sessions)
   pub adds : Adds old.store new.store 1 1

@@ -1,6 +1,6 @@
 -- Whether each frame that was told is the right one: identifiers, outcomes, and refusals of frames
 -- out of order.
-use Rattle.std.specs.Prelude.{◌==◌, ◌&&◌, Bool, true, false, not, List, [], ◌∷◌, map, if◌then◌else◌}
+use Rattle.std.specs.Prelude.{◌==◌, ◌&&◌, Bool, true, false, not, nat_lt, List, [], ◌∷◌, map, if◌then◌else◌}
 use Rattle.svc_values.specs.declared.call.Call.{Call}
 use Rattle.svc_values.specs.declared.call.Call.TheVariants as call
 use Rattle.svc_values.specs.declared.entry.Ltxid.{Ltxid}
@@ -12,9 +12,9 @@ use Rattle.svc_values.specs.declared.frame.Down.TheVariants as down
 use Rattle.svc_values.specs.declared.frame.Ahead.{Ahead}
 use Rattle.svc_values.specs.declared.frame.Ahead.TheVariants as ahead
 use Rattle.svc_values.specs.Identifiers.{same_ltxid, same_session}
-use Rattle.ltxid_book.specs.Journal.{book_of}
-use Rattle.outcome_call.specs.Table.{verdict_of}
-use Rattle.server_model.specs.Base.{Base, committed_of}
+use Rattle.ltxid_book.specs.Journal.{book_of, committed_of}
+use Rattle.ltxid_book.specs.Outcomes.{verdict_of}
+use Rattle.server_model.specs.Base.{Base}
 use Rattle.svc_values.specs.declared.entry.SessionId.{SessionId}
 use Rattle.server_model.specs.Sessions.{Life, New, Idle, Begun, Ended}
 use Rattle.svc_values.specs.Same.{same_bool}
@@ -78,7 +78,6 @@ is_refused _ = false
 abbrev pub same_ahead : Ahead → Ahead → Bool
 same_ahead ahead.Server ahead.Server = true
 same_ahead ahead.Client ahead.Client = true
-same_ahead ahead.Forgotten ahead.Forgotten = true
 same_ahead _ _ = false
 
 abbrev pub same_outcome : Down → Down → Bool
@@ -86,17 +85,22 @@ same_outcome (down.OutcomeIs a m) (down.OutcomeIs b n) = same_bool a b && same_b
 same_outcome (down.OutcomeRefused a m) (down.OutcomeRefused b n) = same_ahead a b && (m == n)
 same_outcome _ _ = false
 
--- the frame that tells the outcome by the table, on the entries so far. Whether an uncommitted
+-- the frame that tells the outcome by the table, on the entries so far, where nothing is forgotten. Whether an uncommitted
 -- identifier was blocked before makes no difference
 abbrev pub outcome_on : Walk → Ltxid → Down
-outcome_on walk x = down_of (verdict_of (book_of (map committed_of walk.stored) walk.blocked) x)
+outcome_on walk x = down_of (verdict_of (book_of 0 (map committed_of walk.stored) walk.blocked) x)
+
+-- an outcome is told by the table, or as forgotten below a horizon
+abbrev pub tells_outcome : Walk → Ltxid → Down → Bool
+tells_outcome walk x (down.OutcomeRefused ahead.Forgotten horizon) = nat_lt x.incarnation horizon
+tells_outcome walk x told = same_outcome told (outcome_on walk x)
 
 -- in order, an answer is of the frame's kind, and has the session's identifier behind the frame
 abbrev pub tells : Walk → Walk → SessionId → Up → Down → Bool
 tells before behind session up.Connect (down.Hello x) = same_ltxid x (next_of behind session)
 tells before behind session (up.Call replay kept called) (down.Reply answers draws x) = same_ltxid x (next_of behind session)
 tells before behind session (up.Call replay kept called) down.Blocked = true
-tells before behind session (up.Outcome x) told = same_outcome told (outcome_on before x)
+tells before behind session (up.Outcome x) told = tells_outcome before x told
 tells before behind session _ _ = false
 
 abbrev pub is_silent : Up → Bool
@@ -119,7 +123,7 @@ told_holds life before behind session frame Stopped = true
 
 abbrev pub ask_holds : Walk → Ltxid → Told → Bool
 ask_holds before x Silent = false
-ask_holds before x (Says told) = same_outcome told (outcome_on before x)
+ask_holds before x (Says told) = tells_outcome before x told
 ask_holds before x Stopped = true
 
 abbrev pub happened_holds : List (SessionId × Life) → Walk → Walk → Happened → Bool

@@ -1,11 +1,16 @@
 //! Laws of the plain server. Each function does nothing, and its contract is the law.
-ghost use Rattle.server_model.specs.Laws.{ServeGrows, ServeStays, RunsSerial, RunsStand, NeverAfterBlock, EntryNumbers, EntryFromItem, AnswersStand, BlocksAreStored, TellsNext, TellsOutcomes, TellsAsks, RunsAlerts, RunsTold, RunsFront, ServiceStores};
+ghost use Rattle.server_model.specs.Laws.{ServeGrows, ServeStays, RunsForget, RunsSerial, RunsStand, NeverAfterBlock, EntryNumbers, EntryFromItem, AnswersStand, BlocksAreStored, TellsNext, TellsOutcomes, TellsAsks, RunsAlerts, RunsTold, RunsFront, ServiceStores};
 
 /// A frame stores no entry, or one of its session, under its identifier, which is not blocked. It
 /// leaves the base, the incarnation and which session it is.
 pub fn serve_grows()
     ensures entries { ServeGrows }
     ensures stays { ServeStays }
+{}
+
+/// The horizon never falls, and an incarnation that is open or still to come is not forgotten.
+pub fn runs_forget()
+    ensures { RunsForget }
 {}
 
 /// The entries that a store gained in a run are a serial run from its tables at the start.

@@ -5,3 +5,5 @@
 mod disks;
 #[cfg(test)]
 mod records;
+#[cfg(test)]
+mod sessions;

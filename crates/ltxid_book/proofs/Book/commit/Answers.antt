@@ -1,5 +1,14 @@
+use Rattle.std.proofs.Common.{◌≡◌, IsTrue, sym, subst}
+use Rattle.ltxid_book.specs.Sessions.{Contents, state_in, sessions_in, may_commit}
 use Rattle.ltxid_book.proofs.Lookups.{state_in-put}
+use Rattle.ltxid_book.proofs.Known.{may_known}
+use Rattle.ltxid_book.proofs.Books.{says_with}
 use Rattle.ltxid_book.proofs.Book.commit.Goals as goal
 
 pub returns-clause-ok : goal.returns-clause-ok
-returns-clause-ok c = rw (← c.self.view_is) (state_in-put _ _ _ _ c.in_ok-insert.ensures.updates.0)
+returns-clause-ok c =
+    let x = c.args.x.now in
+    let old = c.self.inside.sessions.entries in
+    let horizon = c.self.inside.horizon in
+    let at = may_known horizon (state_in old) x (subst (λ (b : Contents). IsTrue (may_commit (sessions_in b) x)) (sym c.self.view_is) c.requires.may) in
+    says_with horizon old c.insert.new.self.entries c.args.self.now x _ c.self.view_is at.0 (state_in-put _ _ _ _ c.in_ok-insert.ensures.updates.0)

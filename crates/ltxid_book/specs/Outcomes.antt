@@ -2,8 +2,9 @@
 use Rattle.std.specs.Prelude.{ℕ, ◌+◌, ◌==◌, ◌&&◌, not, nat_lt, if◌then◌else◌}
 use Rattle.svc_values.specs.declared.entry.Ltxid.{Ltxid}
 use Rattle.ltxid_book.specs.declared.State.{State}
-use Rattle.outcome_call.specs.declared.Verdict.{Verdict}
-use Rattle.outcome_call.specs.declared.Verdict.TheVariants as verdict
+use Rattle.ltxid_book.specs.declared.verdict.Verdict.{Verdict}
+use Rattle.ltxid_book.specs.declared.verdict.Verdict.TheVariants as verdict
+use Rattle.ltxid_book.specs.Sessions.{Sessions, is_forgotten}
 
 -- the first line that holds; in the last one the number is above the next one
 abbrev pub outcome_in : State → ℕ → Verdict
@@ -14,6 +15,6 @@ outcome_in state number =
     else (if nat_lt (number + 1) state.next then verdict.ServerAhead state.next
     else verdict.ClientAhead state.next)))
 
--- the outcome of an identifier, where each session has its state
-abbrev pub verdict_of : (ℕ → ℕ → State) → Ltxid → Verdict
-verdict_of sessions x = outcome_in (sessions x.incarnation x.session) x.number
+-- the outcome of an identifier, where this is said of sessions: one below the horizon is forgotten, whatever it was
+abbrev pub verdict_of : Sessions → Ltxid → Verdict
+verdict_of sessions x = if is_forgotten sessions x.incarnation then verdict.Forgotten sessions.horizon else outcome_in (sessions.state x.incarnation x.session) x.number

@@ -1,5 +1,0 @@
-use Rattle.ltxid_book.proofs.Journal.{begins_untouched, follows_commits, follows_blocks, tells_blocks}
-use Rattle.ltxid_book.proofs.follows_journal.Goals as goal
-
-pub returns : goal.returns
-returns c = record { begins = begins_untouched; commits = follows_commits; blocks = follows_blocks; tells = tells_blocks }

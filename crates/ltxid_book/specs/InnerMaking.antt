@@ -1,0 +1,17 @@
+-- A book under way to that of a journal: commits and blocks that are taken as they come, whatever their numbers.
+use Rattle.std.specs.Prelude.{ℕ, ◌+◌, ◌==◌, true, if◌then◌else◌}
+use Rattle.svc_values.specs.declared.entry.Ltxid.{Ltxid}
+use Rattle.ltxid_book.specs.Sessions.{Sessions, is_forgotten, with_state}
+use Rattle.ltxid_book.specs.Journal.{Committed}
+
+-- its session has one commit more
+abbrev pub counted : Sessions → Committed → Sessions
+counted sessions c =
+    let state = sessions.state c.ltxid.incarnation c.ltxid.session in
+    if is_forgotten sessions c.ltxid.incarnation then sessions else with_state sessions c.ltxid (record state { next = state.next + 1; completed = c.completed })
+
+-- its session is blocked, if this is its next identifier
+abbrev pub marked : Sessions → Ltxid → Sessions
+marked sessions x =
+    let state = sessions.state x.incarnation x.session in
+    if is_forgotten sessions x.incarnation then sessions else (if x.number == state.next then with_state sessions x (record state { blocked = true }) else sessions)

@@ -1,0 +1,182 @@
+//! A book, and the outcomes that it gives.
+ghost use Rattle.std.specs.Prelude.{◌≡◌};
+ghost use Rattle.svc_values.specs.Identifiers.{IsLtxid};
+
+use ltxid_book::{Book, State};
+use outcome_call::{Verdict, decide};
+use std::alloc::Global;
+use std::test::Fail;
+use svc_values::{Entry, Ltxid, NoMemory, Pieces, Settings, Writes};
+
+// The commits of a journal, each with whether its call had no statements: two of the first session of opening 1, and one
+// of that of opening 2.
+const COMMITS: [(u64, u64, u64, bool); 3] = [(1, 1, 0, true), (1, 1, 1, false), (2, 1, 0, true)];
+
+fn ltxid(incarnation: u64, session: u64, number: u64) -> Ltxid
+    ensures { result ≡ record { incarnation = incarnation; session = session; number = number } }
+{
+    Ltxid {
+        incarnation,
+        session,
+        number,
+    }
+}
+
+// Commits the identifier, if it may commit.
+fn commit_next(book: &mut Book, x: &Ltxid, completed: bool) -> Result<bool, NoMemory>
+    requires { IsLtxid x.now }
+{
+    if !book.may_commit(x) {
+        return Ok(false);
+    }
+    book.commit(x, completed)?;
+    Ok(true)
+}
+
+// Blocks the identifier, if it may be blocked.
+fn block_next(book: &mut Book, x: &Ltxid) -> Result<bool, NoMemory> {
+    if !book.may_commit(x) {
+        return Ok(false);
+    }
+    book.block(x)?;
+    Ok(true)
+}
+
+// The book with these commits, in which the first session of opening 1 is blocked then.
+fn told_one_by_one(alloc: Global) -> Result<Book, NoMemory> {
+    let mut book = Book::new(alloc);
+    commit_next(&mut book, &ltxid(1, 1, 0), true)?;
+    commit_next(&mut book, &ltxid(1, 1, 1), false)?;
+    block_next(&mut book, &ltxid(1, 1, 2))?;
+    commit_next(&mut book, &ltxid(2, 1, 0), true)?;
+    Ok(book)
+}
+
+// The same from a journal with this horizon.
+fn told_at_once(alloc: Global, horizon: u64) -> Result<Book, Fail> {
+    let mut entries = Vec::new(alloc);
+    for (incarnation, session, number, completed) in COMMITS {
+        entries.push(Entry {
+            ltxid: ltxid(incarnation, session, number),
+            completed,
+            settings: Settings::new(alloc),
+            pieces: Pieces::new(alloc),
+            writes: Writes::new(alloc),
+        })?;
+    }
+    Ok(Book::of_journal(alloc, horizon, &entries, &[ltxid(1, 1, 2)])?)
+}
+
+// The state of each of three sessions.
+fn states(book: &Book) -> [State; 3] {
+    [book.state(1, 1), book.state(1, 2), book.state(2, 1)]
+}
+
+const UNTOUCHED: State = State {
+    next: 0,
+    blocked: false,
+    completed: false,
+};
+
+const BLOCKED: State = State {
+    next: 2,
+    blocked: true,
+    completed: false,
+};
+
+const COMMITTED_ONCE: State = State {
+    next: 1,
+    blocked: false,
+    completed: true,
+};
+
+#[test]
+fn counts_commits_until_the_block(rt: HostRuntime) -> Result<(), Fail> {
+    let mut book = told_one_by_one(rt.alloc())?;
+    assert_eq!(rt; states(&book), [BLOCKED, UNTOUCHED, COMMITTED_ONCE]);
+    assert!(rt; !book.can_commit(&ltxid(1, 1, 2)));
+    assert!(rt; !commit_next(&mut book, &ltxid(1, 1, 2), true)?);
+    assert!(rt; !block_next(&mut book, &ltxid(1, 1, 2))?);
+    Ok(())
+}
+
+#[test]
+fn forgets_what_is_below_the_greater_horizon(rt: HostRuntime) -> Result<(), Fail> {
+    let mut book = told_one_by_one(rt.alloc())?;
+    assert_eq!(rt; book.horizon(), 0);
+    for below in [2, 1] {
+        book.forget(below);
+        assert_eq!(rt; book.horizon(), 2);
+        assert_eq!(rt; states(&book), [UNTOUCHED, UNTOUCHED, COMMITTED_ONCE]);
+    }
+    assert!(rt; !commit_next(&mut book, &ltxid(1, 1, 0), true)?);
+    assert!(rt; !block_next(&mut book, &ltxid(1, 1, 0))?);
+    Ok(())
+}
+
+#[test]
+fn is_made_from_a_journal(rt: HostRuntime) -> Result<(), Fail> {
+    let alloc = rt.alloc();
+    assert_eq!(rt;
+        states(&told_at_once(alloc, 0)?),
+        [BLOCKED, UNTOUCHED, COMMITTED_ONCE]
+    );
+    assert_eq!(rt;
+        states(&told_at_once(alloc, 2)?),
+        [UNTOUCHED, UNTOUCHED, COMMITTED_ONCE]
+    );
+    assert_eq!(rt;
+        states(&told_at_once(alloc, 3)?),
+        [UNTOUCHED, UNTOUCHED, UNTOUCHED]
+    );
+    Ok(())
+}
+
+// Identifiers, with their outcome before and after opening 1 is forgotten.
+const OUTCOMES: [((u8, u8, u8), Verdict, Verdict); 9] = [
+    ((1, 1, 0), Verdict::ServerAhead { next: 2 }, FORGOTTEN),
+    (
+        (1, 1, 1),
+        Verdict::Committed { completed: false },
+        FORGOTTEN,
+    ),
+    ((1, 1, 2), Verdict::AlreadyBlocked, FORGOTTEN),
+    ((1, 1, 3), Verdict::ClientAhead { next: 2 }, FORGOTTEN),
+    ((1, 2, 0), Verdict::BlockIt, FORGOTTEN),
+    (
+        (2, 1, 0),
+        Verdict::Committed { completed: true },
+        Verdict::Committed { completed: true },
+    ),
+    ((2, 1, 1), Verdict::BlockIt, Verdict::BlockIt),
+    (
+        (2, 1, 2),
+        Verdict::ClientAhead { next: 1 },
+        Verdict::ClientAhead { next: 1 },
+    ),
+    ((3, 1, 0), Verdict::BlockIt, Verdict::BlockIt),
+];
+
+const FORGOTTEN: Verdict = Verdict::Forgotten { horizon: 2 };
+
+#[test]
+fn tells_each_line_of_the_outcome_table(rt: HostRuntime) -> Result<(), Fail> {
+    let alloc = rt.alloc();
+    let kept = told_one_by_one(alloc)?;
+    let mut forgetful = told_one_by_one(alloc)?;
+    forgetful.forget(2);
+    for ((incarnation, session, number), before, after) in OUTCOMES {
+        let x = ltxid(incarnation.into(), session.into(), number.into());
+        assert_eq!(rt;
+            decide(&kept, &x),
+            before,
+            "at {incarnation}, {session}, {number}"
+        );
+        assert_eq!(rt;
+            decide(&forgetful, &x),
+            after,
+            "at {incarnation}, {session}, {number}"
+        );
+    }
+    Ok(())
+}
