@@ -1,0 +1,226 @@
+-- InvOnce: entries, the sendings that they are of, and values that were drawn.
+use Rattle.std.specs.Prelude.{ℕ, ◌+◌, ◌==◌, ◌&&◌, ◌||◌, Bool, true, false, not, nat_lt, nat_le, if◌then◌else◌, IsTrue, List, [], ◌∷◌, ◌++◌, length, map, filter, flat_map, count_by, take, Option, Some, None, is_none}
+use Rattle.std.specs.List.{list_all, list_any, last_or}
+use Rattle.std.specs.Option.{option_map_or}
+use Rattle.svc_values.specs.declared.draw.Draw.{Draw}
+use Rattle.svc_values.specs.declared.entry.Ltxid.{Ltxid}
+use Rattle.svc_values.specs.declared.entry.Entry.{Entry}
+use Rattle.svc_values.specs.declared.entry.Piece.{Piece}
+use Rattle.svc_values.specs.Calls.{is_lone_commit}
+use Rattle.svc_values.specs.Endings.{ends_committed, ends_transaction}
+use Rattle.svc_values.specs.Identifiers.{same_ltxid, is_of_session}
+use Rattle.outage_schedule.specs.declared.item.Item.{Item}
+use Rattle.outage_schedule.specs.declared.item.Item.TheVariants as item
+use Rattle.outage_schedule.specs.declared.request.ShownCall.{ShownCall}
+use Rattle.outage_schedule.specs.declared.request.RequestReport.{RequestReport}
+use Rattle.svc_values.specs.Same.{same_bool}
+use Rattle.run_clauses.specs.Tried.{Sending as Tried, is_tried, ids_tried, ids_differ, holds}
+use Rattle.run_clauses.specs.Once.{request_ends, copies_have_one, entries_in}
+use Rattle.run_clauses.specs.Copies.{copies_of}
+use Rattle.run_clauses.specs.Fresh.{is_given_again}
+use Rattle.svc_values.specs.declared.frame.Down.{Down}
+use Rattle.svc_values.specs.declared.frame.Down.TheVariants as down
+use Rattle.world_model.specs.Frames.{Owner, Sent, Handled}
+use Rattle.world_model.specs.Links.{Link, link_at}
+use Rattle.world_model.specs.Clients.{Client, script_at}
+use Rattle.world_model.specs.Traced.{Traced, Course, courses_of}
+use Rattle.world_model.specs.Sames.{each_pair, same_owners, owned_by}
+use Rattle.world_model.specs.Parts.{Sending, sendings_of, commit_sendings, is_commit_call, has_entry, implies, is_out, out_frame, held_number}
+
+-- all sendings of calls with a commit, of all requests
+abbrev pub all_sendings : Traced → List Sending
+all_sendings t = flat_map commit_sendings (courses_of t)
+
+-- O1: AN ENTRY'S SENDING --------------------------------------------------------------------------
+
+abbrev pub under : Ltxid → List Sending → List Sending
+under x sendings = filter (λ sending. same_ltxid sending.ltxid x) sendings
+
+abbrev pub is_open_or_committed : Sending → Bool
+is_open_or_committed sending = option_map_or ends_committed sending.taken true
+
+-- the entry is of a session of a connection
+abbrev pub is_of_link : Traced → Entry → Bool
+is_of_link t entry = list_any (λ link. option_map_or (λ session. is_of_session session entry.ltxid) link.session false) t.machine.links
+
+-- Exactly one sending under the identifier of an entry has no reply that was taken, or one that says Committed.
+abbrev pub has_sending : Traced → Entry → Bool
+has_sending t entry = count_by is_open_or_committed (under entry.ltxid (all_sendings t)) == 1
+
+abbrev pub entries_sent : Traced → Bool
+entries_sent t = list_all (λ entry. implies (is_of_link t entry) (has_sending t entry)) t.entries
+
+-- O1a: an entry is completed where the call that committed it has no statement
+abbrev pub last_lone : List Piece → Bool
+last_lone [] = false
+last_lone (piece ∷ []) = is_lone_commit piece.call
+last_lone (piece ∷ next ∷ pieces) = last_lone (next ∷ pieces)
+
+abbrev pub completed_rightly : Traced → Bool
+completed_rightly t = list_all (λ entry. same_bool entry.completed (last_lone entry.pieces)) t.entries
+
+-- O1b: a sending's identifier is one of its connection's session
+abbrev pub is_on_link : Traced → Sending → Bool
+is_on_link t sending = option_map_or (λ link. option_map_or (λ session. is_of_session session sending.ltxid) link.session false) (link_at t.machine.links sending.connection) false
+
+abbrev pub on_links : Traced → Bool
+on_links t = list_all (is_on_link t) (all_sendings t)
+
+-- O1c: a sending that was answered Committed has its entry
+abbrev pub committed_stored : Traced → Bool
+committed_stored t = list_all (λ sending. implies (option_map_or ends_committed sending.taken false) (has_entry t.entries sending.ltxid)) (all_sendings t)
+
+-- O1d: what became of a sending, against its connection: its number is at most the one held, and below it where it was answered Committed; where
+-- no reply was taken, it is what is out on it, under the identifier held
+abbrev pub is_frame_of : Sending → Sent → Bool
+is_frame_of sending sent = is_commit_call sent && (owned_by sending.owner sent && (sent.call == sending.at))
+
+-- the last reply that was taken is Blocked: the sending has none then
+abbrev pub is_blocked_reply : Down → Bool
+is_blocked_reply down.Blocked = true
+is_blocked_reply _ = false
+
+abbrev pub answered_blocked : Link → Bool
+answered_blocked link = option_map_or (λ reply. is_blocked_reply reply.frame) (last_or None link.taken) false
+
+abbrev pub has_fate : Sending → Link → Bool
+has_fate sending link =
+    nat_le sending.ltxid.number (held_number link)
+    && (option_map_or (λ answers. implies (ends_committed answers) (nat_lt sending.ltxid.number (held_number link))) sending.taken true
+    && implies (is_none sending.taken) ((is_out link || answered_blocked link) && (option_map_or (same_ltxid sending.ltxid) link.held false && option_map_or (is_frame_of sending) (out_frame link) false)))
+
+abbrev pub have_fates : Traced → Bool
+have_fates t = list_all (λ sending. option_map_or (has_fate sending) (link_at t.machine.links sending.connection) false) (all_sendings t)
+
+-- O2: of two sendings under one identifier, both are on one connection and at most one is open or committed
+abbrev pub share : Sending → Sending → Bool
+share a b = not (same_ltxid a.ltxid b.ltxid) || ((a.connection == b.connection) && not (is_open_or_committed a && is_open_or_committed b))
+
+abbrev pub are_apart : Traced → Bool
+are_apart t = each_pair share (all_sendings t)
+
+-- O3: TRANSACTIONS --------------------------------------------------------------------------------
+
+-- which transaction of its request a call is of, by the calls shown before it
+abbrev pub transaction_at : List ShownCall → ℕ → ℕ
+transaction_at shown at = count_by (λ call. ends_transaction call.answers) (take at shown)
+
+-- taken with other answers, or of an identifier that is blocked
+abbrev pub is_settled : Traced → Sending → Bool
+is_settled t sending = not (is_open_or_committed sending) || holds t.blocked sending.ltxid
+
+-- of the sendings (the last one first) of a transaction, all but the last are settled
+abbrev pub later_settled : Traced → List ShownCall → ℕ → List Sending → Bool
+later_settled t shown transaction [] = true
+later_settled t shown transaction (sending ∷ earlier) =
+    implies (transaction_at shown sending.at == transaction) (is_settled t sending) && later_settled t shown transaction earlier
+
+abbrev pub all_but_last : Traced → List ShownCall → List Sending → Bool
+all_but_last t shown [] = true
+all_but_last t shown (sending ∷ earlier) = later_settled t shown (transaction_at shown sending.at) earlier && all_but_last t shown earlier
+
+abbrev pub earlier_settled : Traced → Bool
+earlier_settled t = list_all (λ course. all_but_last t course.report.calls (commit_sendings course)) (courses_of t)
+
+-- what follows: the lines of Once for each request that is over, with the journal so far
+abbrev pub over_ends : Traced → Bool
+over_ends t = list_all (λ course. implies course.is_over (request_ends t.entries course.report)) (courses_of t)
+
+-- a transaction of the one in course was shown Conflict or RolledBack, or is open: at most one entry; all of it by the sendings
+abbrev pub transactions_have_one : Traced → Bool
+transactions_have_one t = list_all (λ course. list_all (λ ids. nat_le (length (entries_in t.entries ids)) 1) course.report.tried) (courses_of t)
+
+-- O4: `tried` is that of the sendings
+abbrev pub reverse_onto : List Sending → List Sending → List Sending
+reverse_onto [] done = done
+reverse_onto (sending ∷ others) done = reverse_onto others (sending ∷ done)
+
+abbrev pub tried_one : Sending → Tried
+tried_one sending = record { at = sending.at; call = sending.call; ltxid = sending.ltxid; taken = sending.taken }
+
+abbrev pub tells_tried : Course → Bool
+tells_tried course = is_tried course.report (map tried_one (reverse_onto (sendings_of course) []))
+
+abbrev pub tell_tried : Traced → Bool
+tell_tried t = list_all tells_tried (courses_of t)
+
+abbrev pub tried_apart : Traced → Bool
+tried_apart t = ids_differ (flat_map (λ course. ids_tried course.report) (courses_of t))
+
+-- O6: copies of a request with `again` above 0: an entry is of the last copy, and there is at most one
+abbrev pub with_now : Traced → ℕ → List RequestReport
+with_now t client = map (λ course. course.report) (filter (λ course. course.owner.client == client) (courses_of t))
+
+abbrev pub copies_have : Traced → ℕ → List Client → Bool
+copies_have t number [] = true
+copies_have t number (client ∷ clients) = list_all (copies_have_one t.entries) (copies_of (script_at t.setting number) (with_now t number)) && copies_have t (number + 1) clients
+
+abbrev pub copies_once : Traced → Bool
+copies_once t = copies_have t 1 t.machine.clients
+
+-- O5: VALUES --------------------------------------------------------------------------------------
+
+-- a value that was given: to which call of which request, with the mark or not, and at which event
+pub record Given : Type 0 where
+  pub value : Draw
+  pub owner : Option Owner
+  pub call : ℕ
+  pub mark : Bool
+  pub event : ℕ
+
+abbrev pub given_as : Handled → Bool → Draw → Given
+given_as one mark value = record { value = value; owner = one.sent.owner; call = one.sent.call; mark = mark; event = one.served.event }
+
+-- a call that was stopped: the values that its entry has, if it has one
+abbrev pub last_draws : List Piece → List Draw
+last_draws [] = []
+last_draws (piece ∷ []) = piece.draws
+last_draws (piece ∷ next ∷ pieces) = last_draws (next ∷ pieces)
+
+abbrev pub stopped_draws : Traced → Option Ltxid → List Draw
+stopped_draws t None = []
+stopped_draws t (Some x) = option_map_or (λ entry. last_draws entry.pieces) (last_or None (filter (λ entry. same_ltxid entry.ltxid x) t.entries)) []
+
+abbrev pub given_by : Traced → Link → Handled → Item → List Given
+given_by t link one (item.Call mark call answers draws) = map (given_as one mark) draws
+given_by t link one (item.CrashedCall mark call) = map (given_as one mark) (stopped_draws t link.held)
+given_by t link one _ = []
+
+abbrev pub given_on : Traced → Link → List Given
+given_on t link = flat_map (λ one. given_by t link one one.served.item) link.served
+
+abbrev pub given : Traced → List Given
+given t = flat_map (given_on t) t.machine.links
+
+-- Of two that are the same value, the later one is of a marked call, and both are of one call of one request.
+abbrev pub later_is_marked : Given → Given → Bool
+later_is_marked a b = if nat_lt a.event b.event then b.mark else a.mark
+
+abbrev pub have_one_owner : Given → Given → Bool
+have_one_owner a b = not (is_given_again a.value b.value) || (same_owners a.owner b.owner && ((a.call == b.call) && later_is_marked a b))
+
+abbrev pub owned : Traced → Bool
+owned t = each_pair have_one_owner (given t)
+
+-- none is one that an `outside` drew, or that the image has
+abbrev pub foreign_draws : Traced → List Draw
+foreign_draws t = t.outside_draws ++ flat_map (λ entry. flat_map (λ piece. piece.draws) entry.pieces) (filter (λ entry. not (is_of_link t entry)) t.entries)
+
+abbrev pub none_foreign : Traced → Bool
+none_foreign t = list_all (λ one. not (list_any (is_given_again one.value) (foreign_draws t))) (given t)
+
+pub record Once (t : Traced) : Type 0 where
+  pub entries : IsTrue (entries_sent t)
+  pub completed : IsTrue (completed_rightly t)
+  pub links : IsTrue (on_links t)
+  pub stored : IsTrue (committed_stored t)
+  pub fates : IsTrue (have_fates t)
+  pub apart : IsTrue (are_apart t)
+  pub settled : IsTrue (earlier_settled t)
+  pub ends : IsTrue (over_ends t)
+  pub one : IsTrue (transactions_have_one t)
+  pub tried : IsTrue (tell_tried t)
+  pub lists : IsTrue (tried_apart t)
+  pub copies : IsTrue (copies_once t)
+  pub owner : IsTrue (owned t)
+  pub foreign : IsTrue (none_foreign t)

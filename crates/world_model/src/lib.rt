@@ -1,0 +1,3 @@
+//! The world as a pure machine, in `specs/`: it walks the events of a run with their notes and the items that were served
+//! (`Followed`), and the invariant of its states is a record of tests (`Invariant`).
+#![tactic(auto)]
