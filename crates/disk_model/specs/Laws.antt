@@ -3,13 +3,13 @@ use Rattle.std.specs.Prelude.{◌≡◌, ◌⊎◌, ◌++◌, ℕ, List, IsTrue,
 use Rattle.disk_model.specs.Moment.{DiskMoment, MayLeave, AnyMayLeave}
 use Rattle.disk_model.specs.Disk.{DiskState, history, LeftSince, moment, Allows, Lowers, Caused}
 
--- What a crash since old may have left, it may have left then, or at a moment that was added since.
+-- What a crash since old may have left, it may have left at old, or at a moment that was added since.
 abbrev pub LeavesSince : Type 0
 LeavesSince =
     (old new : DiskState) (added : List DiskMoment)
     → history new ≡ history old ++ added → (image : List ℕ) → LeftSince new (moment old) image → MayLeave old.now image ⊎ AnyMayLeave added image
 
--- What a crash now may leave, it may leave where none was added, or at a moment that was.
+-- What a crash now may leave, it may have left at old, or at a moment that was added since.
 abbrev pub LeavesNow : Type 0
 LeavesNow =
     (old new : DiskState) (added : List DiskMoment)
