@@ -20,7 +20,8 @@ use Rattle.mutable_values.specs.Sources.{Opening}
 use Rattle.server_model.specs.Base.{Base}
 use Rattle.server_model.specs.Core.{Core, committed, all_entries, all_blocked, tables_with}
 use Rattle.svc_values.specs.Identifiers.{session_of}
-use Rattle.server_model.specs.Sessions.{Begun, Sess, with_work, entry_of, piece_of, ReadsStand}
+use Rattle.server_model.specs.Sessions.{Begun, Sess, with_work, entry_of, piece_of}
+use Rattle.stmt_meaning.specs.Reads.{ReadsStand}
 use Rattle.server_model.specs.Outcomes.{Told}
 use Rattle.server_model.specs.Serve.{Commits, InReplay, Blocks, Conflicts, Stores, StopsBefore, StopsAfter, Works, Answers, Reaches, HaltsInDraw, Calls, IsWork, IsSet, IsAlter, AlterStops, AlterMarked, IsDisable, IsRollback, Serve, Connects, Begins, Ends, Closes, Asks, Runs as Serves, Refuses, with_opening, with_entry}
 use Rattle.server_model.specs.Items.{CallStopped, without_answer}

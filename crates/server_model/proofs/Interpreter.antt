@@ -1,7 +1,9 @@
 -- The plain server as a function, where nothing stops. What it does is what `Serve` allows, so
 -- whole runs can be computed.
-use Rattle.std.specs.Prelude.{◌≡◌, ◌⊎◌, ◌||◌, ℕ, Bool, true, false, not, IsTrue, List, [], ◌∷◌, ◌++◌, Option, Some, None, if◌then◌else◌}
-use Rattle.std.proofs.Common.{refl, inl, inr, sym, ◌∙◌, ap, subst, append-nil, append_assoc}
+use Rattle.std.specs.Prelude.{◌≡◌, ◌⊎◌, ◌||◌, ℕ, suc, Bool, true, false, not, IsTrue, List, [], ◌∷◌, ◌++◌, Option, Some, None, if◌then◌else◌}
+use Rattle.std.specs.List.{AllByRecursion}
+use Rattle.std.proofs.Common.{refl, inl, inr, sym, ◌∙◌, ap, subst, append-nil, append_assoc, arith}
+use Rattle.std.proofs.lemmas.List.Elements.{All-from_recursion}
 use Rattle.svc_values.specs.declared.draw.Draw.{Draw}
 use Rattle.svc_values.specs.declared.draw.DrawKind.{DrawKind}
 use Rattle.svc_values.specs.declared.call.Call.{Call}
@@ -22,12 +24,12 @@ use Rattle.mutable_values.specs.declared.source.Drawn.{Drawn}
 use Rattle.mutable_values.specs.declared.source.Drawn.TheVariants as drawn
 use Rattle.mutable_values.specs.Sources.{Opening, DrawnFrom as Drew, draw_of, reserved_to}
 use Rattle.server_model.specs.Core.{Core, committed, all_blocked}
-use Rattle.server_model.specs.Sessions.{Life, New, Idle, Begun, Ended, Sess, begun_with, dropped, ended, with_piece, with_work, raised, entry_of, Differs, ReadsStand}
-use Rattle.stmt_meaning.specs.Reads.{Read}
-use Rattle.server_model.specs.Draws.{brought, kind_of, Draws, Gives, Reserves, DrawsAll}
+use Rattle.server_model.specs.Sessions.{Life, New, Idle, Begun, Ended, Sess, begun_with, dropped, ended, with_piece, with_work, raised, entry_of}
+use Rattle.stmt_meaning.specs.Reads.{Read, ReadsDiffer, ReadsStand}
+use Rattle.stmt_meaning.specs.Asked.{asked_by_call, kind_drawn}
+use Rattle.server_model.specs.Draws.{brought, Draws, Gives, Reserves, DrawsAll}
 use Rattle.server_model.specs.Outcomes.{Told, Silent, Says, IsTold, down_of, if_blocks, verdict_on}
 use Rattle.server_model.specs.Serve.{Commits, InReplay, Blocks, Conflicts, Stores, Works, Answers, Reaches, Calls, IsWork, IsSet, IsAlter, AlterMarked, IsDisable, IsRollback, Serve, Connects, Begins, Ends, Closes, Asks, Runs, Refuses, Means, with_last, reply, with_opening, with_entry, with_alert, is_serving, is_out_of_order}
-use Rattle.server_model.specs.NewValues.{asked_of}
 use Rattle.svc_values.specs.Same.{same_rows, same_draw_kind as same_kind}
 use Rattle.server_model.specs.Legal.{differs}
 use Rattle.svc_values.specs.SameLaws.{same_rows_decide, same_draw_kind_decides as same_kind_decides}
@@ -117,7 +119,7 @@ with_draw value (Some found) = Some (record { draws = value ∷ found.draws; ope
 
 abbrev pub if_given : Option Given → DrawKind → (Given → Option Found) → Option Found
 if_given None asked next = None
-if_given (Some given) asked next = if same_kind (kind_of given.value) asked then with_draw given.value (next given) else None
+if_given (Some given) asked next = if same_kind (kind_drawn given.value) asked then with_draw given.value (next given) else None
 
 -- the draws behind these, of the kinds that are asked for, until the call means something
 abbrev pub search_draws : Core → Sess → Call → ℕ → List Draw → Opening → List Draw → List DrawKind → Option Found
@@ -154,22 +156,22 @@ ended-is core sess called now before opening left (Some meant) found run is =
 if_given-is : (core : Core) (sess : Sess) (called : Call) (now : ℕ) (before : List Draw) (opening : Opening) (left : List Draw) (asked : DrawKind) (result : Option Given) (next : Given → Option Found) (found : Found)
     → draw_one opening left asked now ≡ result → ((given : Given) (more : Found) → next given ≡ Some more → FoundIs core sess called now (before ++ given.value ∷ []) given.opening given.left more) → if_given result asked next ≡ Some found → FoundIs core sess called now before opening left found
 if_given-is core sess called now before opening left asked None next found drew inner is = cc
-if_given-is core sess called now before opening left asked (Some given) next found drew inner is = by (same_kind (kind_of given.value) asked) refl is
+if_given-is core sess called now before opening left asked (Some given) next found drew inner is = by (same_kind (kind_drawn given.value) asked) refl is
   where
-    by_more : (more : Option Found) → next given ≡ more → same_kind (kind_of given.value) asked ≡ true → with_draw given.value more ≡ Some found → FoundIs core sess called now before opening left found
+    by_more : (more : Option Found) → next given ≡ more → same_kind (kind_drawn given.value) asked ≡ true → with_draw given.value more ≡ Some found → FoundIs core sess called now before opening left found
     by_more None found_more kind is = cc
     by_more (Some more) found_more kind is =
         let rest = inner given more found_more in
         let here : Found = record { draws = given.value ∷ more.draws; opening = more.opening; left = more.left; meant = more.meant } in
-        let drawn_here : Draws left (kind_of given.value) now opening given.value given.opening given.left =
-        subst (λ k. Draws left k now opening given.value given.opening given.left) (sym ((same_kind_decides (kind_of given.value) asked).0 kind)) (one-drawn opening left asked now _ given refl drew) in
+        let drawn_here : Draws left (kind_drawn given.value) now opening given.value given.opening given.left =
+        subst (λ k. Draws left k now opening given.value given.opening given.left) (sym ((same_kind_decides (kind_drawn given.value) asked).0 kind)) (one-drawn opening left asked now _ given refl drew) in
         let is_here : FoundIs core sess called now before opening left here = record {
           drew = (given.opening, given.left, (drawn_here, rest.drew));
           means = subst (λ ds. Means core sess called ds more.meant) (append_assoc before (given.value ∷ []) more.draws) rest.means;
         } in
         subst (FoundIs core sess called now before opening left) (some_is here found is) is_here
 
-    by : (b : Bool) → same_kind (kind_of given.value) asked ≡ b → (if b then with_draw given.value (next given) else None) ≡ Some found → FoundIs core sess called now before opening left found
+    by : (b : Bool) → same_kind (kind_drawn given.value) asked ≡ b → (if b then with_draw given.value (next given) else None) ≡ Some found → FoundIs core sess called now before opening left found
     by true kind is = by_more (next given) refl kind is
     by false kind is = cc
 
@@ -218,18 +220,24 @@ or_false false b is = let none : ⊥ = cc in absurd none
 false_true : (b : Bool) → b ≡ false → b ≡ true → ⊥
 false_true b one other = let none : ⊥ = (let e : false ≡ true = sym one ∙ other in cc) in none
 
-differs-is : (reads : List Read) (now : List PlainRow) → differs now reads ≡ true → Differs reads now
-differs-is [] now is = let none : ⊥ = cc in none
+differs-is : (reads : List Read) (now : List PlainRow) → differs now reads ≡ true → ReadsDiffer reads now
+differs-is [] now is = let none : ⊥ = cc in absurd none
 differs-is (read ∷ reads) now is =
     either (or_true (same_rows read.found (rows_at now read.at)) _ is)
-    (λ other. inl (λ same. false_true _ other ((same_rows_decide read.found (rows_at now read.at)).1 (sym same))))
-    (λ more. inr (differs-is reads now more))
+    (λ other. (read, ((0, omega arith, refl), λ same. false_true _ other ((same_rows_decide read.found (rows_at now read.at)).1 (sym same)))))
+    (λ more. behind (differs-is reads now more))
+  where
+    behind : ReadsDiffer reads now → ReadsDiffer (read ∷ reads) now
+    behind (found, ((k, lt, e), changed)) = (found, ((suc k, omega arith, e), changed))
+
+stands-each : (reads : List Read) (now : List PlainRow) → differs now reads ≡ false → AllByRecursion (λ read. rows_at now read.at ≡ read.found) reads
+stands-each [] now is = tt
+stands-each (read ∷ reads) now is =
+    let both = or_false (same_rows read.found (rows_at now read.at)) _ is in
+    (sym ((same_rows_decide read.found (rows_at now read.at)).0 both.0), stands-each reads now both.1)
 
 stands-is : (reads : List Read) (now : List PlainRow) → differs now reads ≡ false → ReadsStand reads now
-stands-is [] now is = tt
-stands-is (read ∷ reads) now is =
-    let both = or_false (same_rows read.found (rows_at now read.at)) _ is in
-    (sym ((same_rows_decide read.found (rows_at now read.at)).0 both.0), stands-is reads now both.1)
+stands-is reads now is = All-from_recursion (λ read. rows_at now read.at ≡ read.found) reads (stands-each reads now is)
 
 not_false : (b : Bool) → b ≡ false → IsTrue (not b)
 not_false b is = ap not is
@@ -264,7 +272,7 @@ marked_or false core sess line = done (with_alert core line) (with_piece sess (c
 
 abbrev pub interpret_call : Core → Sess → Bool → List Draw → ℕ → Call → Option Done
 interpret_call core sess replay kept now (call.Work statements commit) =
-    if_found core sess replay (call.Work statements commit) (search_draws core sess (call.Work statements commit) now [] core.opening (brought core.base.grants core.opening replay kept) (asked_of (call.Work statements commit)))
+    if_found core sess replay (call.Work statements commit) (search_draws core sess (call.Work statements commit) now [] core.opening (brought core.base.grants core.opening replay kept) (asked_by_call (call.Work statements commit)))
 interpret_call core sess replay kept now (call.Set name value) =
     Some (done core (record (with_piece sess (call.Set name value) (answer.Done 1 ∷ []) []) { settings = put_setting sess.settings name value }) (reply (answer.Done 1 ∷ []) [] sess))
 interpret_call core sess replay kept now (call.Alter line) = Some (marked_or replay core sess line)
@@ -278,11 +286,11 @@ work-is true core sess replay kept called now found ends is =
 work-is false core sess replay kept called now found ends is = Answers found.opening found.draws found.left found.meant is.drew is.means ends
 
 found-is : (core : Core) (sess : Sess) (replay : Bool) (kept : List Draw) (called : Call) (now : ℕ) (result : Option Found) (d : Done)
-    → search_draws core sess called now [] core.opening (brought core.base.grants core.opening replay kept) (asked_of called) ≡ result → if_found core sess replay called result ≡ Some d → Works core sess replay kept called now d.core d.sess d.told
+    → search_draws core sess called now [] core.opening (brought core.base.grants core.opening replay kept) (asked_by_call called) ≡ result → if_found core sess replay called result ≡ Some d → Works core sess replay kept called now d.core d.sess d.told
 found-is core sess replay kept called now None d run is = cc
 found-is core sess replay kept called now (Some found) d run is =
     subst (λ (x : Done). Works core sess replay kept called now x.core x.sess x.told) (some_is _ d is)
-    (work-is (ends_committed found.meant.answers) core sess replay kept called now found refl (search-is core sess called now (asked_of called) [] core.opening (brought core.base.grants core.opening replay kept) found run))
+    (work-is (ends_committed found.meant.answers) core sess replay kept called now found refl (search-is core sess called now (asked_by_call called) [] core.opening (brought core.base.grants core.opening replay kept) found run))
 
 marked-is : (replay : Bool) (core : Core) (sess : Sess) (kept : List Draw) (now : ℕ) (line : List ℕ) → let d = marked_or replay core sess line in Calls core sess replay kept now (call.Alter line) d.core d.sess d.told
 marked-is true core sess kept now line = AlterMarked line refl

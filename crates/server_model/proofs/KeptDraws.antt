@@ -8,7 +8,8 @@ use Rattle.mutable_values.specs.Sources.{Opening, first_kept, without_first}
 use Rattle.mutable_values.specs.Granting.{is_granted, is_kept_sequence, granted_of}
 use Rattle.server_model.specs.Base.{Base}
 use Rattle.server_model.specs.Core.{sequence_at}
-use Rattle.server_model.specs.Draws.{brought, kind_of}
+use Rattle.stmt_meaning.specs.Asked.{kind_drawn}
+use Rattle.server_model.specs.Draws.{brought}
 use Rattle.server_model.specs.NewValues.{Origin, Kept, New, origin_of, of_one_kind, and_before, grants, kept_by}
 
 -- the source's first kept draw, as an origin
@@ -16,7 +17,7 @@ abbrev pub origin_by : Option Draw → List Draw → Origin
 origin_by None left = New
 origin_by (Some one) left = Kept one left
 
-kinds-same : (one given : Draw) → of_one_kind one given ≡ is_of_kind (kind_of given) one
+kinds-same : (one given : Draw) → of_one_kind one given ≡ is_of_kind (kind_drawn given) one
 kinds-same (draw.Seq a m) (draw.Seq b n) = refl
 kinds-same (draw.Seq a m) (draw.Clock tick) = refl
 kinds-same (draw.Seq a m) (draw.Id id) = refl
@@ -31,14 +32,14 @@ before-by : (one : Draw) (found : Option Draw) (left : List Draw) → and_before
 before-by one None left = refl
 before-by one (Some first) left = refl
 
-pub kept-origin : (given : Draw) (kept : List Draw) → origin_of given kept ≡ origin_by (first_kept (kind_of given) kept) (without_first (kind_of given) kept)
+pub kept-origin : (given : Draw) (kept : List Draw) → origin_of given kept ≡ origin_by (first_kept (kind_drawn given) kept) (without_first (kind_drawn given) kept)
 kept-origin given [] = refl
-kept-origin given (one ∷ kept) = ap (λ b. if b then Kept one kept else and_before one (origin_of given kept)) (kinds-same one given) ∙ by (kept-origin given kept) (is_of_kind (kind_of given) one)
+kept-origin given (one ∷ kept) = ap (λ b. if b then Kept one kept else and_before one (origin_of given kept)) (kinds-same one given) ∙ by (kept-origin given kept) (is_of_kind (kind_drawn given) one)
   where
-    by : origin_of given kept ≡ origin_by (first_kept (kind_of given) kept) (without_first (kind_of given) kept) → (b : Bool)
-        → (if b then Kept one kept else and_before one (origin_of given kept)) ≡ origin_by (if b then Some one else first_kept (kind_of given) kept) (if b then kept else one ∷ without_first (kind_of given) kept)
+    by : origin_of given kept ≡ origin_by (first_kept (kind_drawn given) kept) (without_first (kind_drawn given) kept) → (b : Bool)
+        → (if b then Kept one kept else and_before one (origin_of given kept)) ≡ origin_by (if b then Some one else first_kept (kind_drawn given) kept) (if b then kept else one ∷ without_first (kind_drawn given) kept)
     by inner true = refl
-    by inner false = ap (and_before one) inner ∙ before-by one (first_kept (kind_of given) kept) (without_first (kind_of given) kept)
+    by inner false = ap (and_before one) inner ∙ before-by one (first_kept (kind_drawn given) kept) (without_first (kind_drawn given) kept)
 
 -- ---- the kept draws that are granted
 

@@ -1,11 +1,13 @@
 -- What a served call's deed has to meet, but for its draws: it uses them, its answers are the
 -- meaning's with the verdict, it commits only under a free identifier, and a commit stores the
 -- entry that comes next.
-use Rattle.std.specs.Prelude.{◌≡◌, ◌&&◌, ◌||◌, ℕ, Bool, true, false, not, List, [], ◌∷◌, Option, Some, None, if◌then◌else◌}
+use Rattle.std.specs.Prelude.{◌≡◌, ◌&&◌, ◌||◌, ℕ, zero, suc, Bool, true, false, not, List, [], ◌∷◌, Option, Some, None, Contains, if◌then◌else◌}
 use Rattle.std.specs.List.{last_or}
 use Rattle.std.specs.Option.{option_map_or}
 use Rattle.std.specs.Cmp.Lexicographic.{pointwise_decides}
-use Rattle.std.proofs.Common.{refl, inl, inr, sym, ◌∙◌, ap}
+use Rattle.std.specs.List.{AllByRecursion}
+use Rattle.std.proofs.Common.{refl, sym, ◌∙◌, ap, subst, arith}
+use Rattle.std.proofs.lemmas.List.Elements.{recursion_from_All}
 use Rattle.svc_values.specs.declared.draw.Draw.{Draw}
 use Rattle.svc_values.specs.declared.call.Call.{Call}
 use Rattle.svc_values.specs.declared.answer.Answer.{Answer}
@@ -24,8 +26,8 @@ use Rattle.svc_values.specs.Identifiers.{same_ltxid, session_of}
 use Rattle.ltxid_book.specs.Journal.{is_blocked}
 use Rattle.server_model.specs.Base.{Base}
 use Rattle.server_model.specs.Core.{Core, committed}
-use Rattle.server_model.specs.Sessions.{Begun, Sess, with_work, entry_of, Differs, ReadsStand}
-use Rattle.stmt_meaning.specs.Reads.{Read}
+use Rattle.server_model.specs.Sessions.{Begun, Sess, with_work, entry_of}
+use Rattle.stmt_meaning.specs.Reads.{Read, HasChanged, ReadsStand}
 use Rattle.server_model.specs.Serve.{with_last}
 use Rattle.server_model.specs.Walk.{Walk, Performed, Deed, Nothing, Meaningless, Ran, with_call, next_of, ends, is_ending}
 use Rattle.server_model.specs.Legal.{differs, verdict, ending_with, answers_hold, is_free, is_entry_of, is_first_entry, stores}
@@ -80,15 +82,19 @@ neither : (a b : Bool) → a ≡ false → b ≡ false → (a || b) ≡ false
 neither true b one other = let none : ⊥ = cc in absurd none
 neither false b one other = other
 
-pub differs-true : (reads : List Read) (now : List PlainRow) → Differs reads now → differs now reads ≡ true
-differs-true [] now is = absurd is
-differs-true (read ∷ reads) now (inl other) =
-    or-first (not (same_rows read.found (rows_at now read.at))) _ (ap not (bool-cases (same_rows read.found (rows_at now read.at)) (λ is. other (sym ((same_rows_decide read.found (rows_at now read.at)).0 is)))))
-differs-true (read ∷ reads) now (inr more) = or-second (not (same_rows read.found (rows_at now read.at))) _ (differs-true reads now more)
+pub differs-true : (reads : List Read) (now : List PlainRow) (read : Read) → Contains reads read → HasChanged now read → differs now reads ≡ true
+differs-true [] now read (k, lt, e) changed = absurd (omega arith)
+differs-true (first ∷ reads) now read (zero, lt, e) changed =
+    let other : HasChanged now first = subst (HasChanged now) (sym e) changed in
+    or-first (not (same_rows first.found (rows_at now first.at))) _ (ap not (bool-cases (same_rows first.found (rows_at now first.at)) (λ is. other (sym ((same_rows_decide first.found (rows_at now first.at)).0 is)))))
+differs-true (first ∷ reads) now read (suc k, lt, e) changed = or-second (not (same_rows first.found (rows_at now first.at))) _ (differs-true reads now read (k, omega arith, e) changed)
+
+differs-none : (reads : List Read) (now : List PlainRow) → AllByRecursion (λ read. rows_at now read.at ≡ read.found) reads → differs now reads ≡ false
+differs-none [] now stand = refl
+differs-none (read ∷ reads) now stand = neither (not (same_rows read.found (rows_at now read.at))) _ (ap not ((same_rows_decide read.found (rows_at now read.at)).1 (sym stand.0))) (differs-none reads now stand.1)
 
 pub differs-false : (reads : List Read) (now : List PlainRow) → ReadsStand reads now → differs now reads ≡ false
-differs-false [] now is = refl
-differs-false (read ∷ reads) now is = neither (not (same_rows read.found (rows_at now read.at))) _ (ap not ((same_rows_decide read.found (rows_at now read.at)).1 (sym is.0))) (differs-false reads now is.1)
+differs-false reads now stand = differs-none reads now (recursion_from_All (λ read. rows_at now read.at ≡ read.found) reads stand)
 
 -- ---- a call
 

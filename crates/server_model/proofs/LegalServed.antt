@@ -88,7 +88,7 @@ module _ (base : Base) (core : Core) (here : Walk) (sess : Sess) (at : At base c
     commits opening statements commit draws meant _ _ _ means used is left (Conflicts unmarked free changed) answered =
         by-deed (call.Work statements commit) (with_last meant.answers answer.Conflict) draws meant means
         (ended-right base core here sess at lives now replay kept (call.Work statements commit) draws meant used answer.Conflict is
-        (λ i. verdict (unmarked-is replay unmarked i) (differs-true (with_work sess (committed core) meant).reads (committed core) changed i))
+        (λ i. verdict (unmarked-is replay unmarked i) (differs-true (with_work sess (committed core) meant).reads (committed core) changed.0 changed.1.0 changed.1.1 i))
         (with-not meant.answers answer.Conflict refl) (free-free here (performed base core here sess at lives now replay kept (call.Work statements commit) (with_last meant.answers answer.Conflict) draws meant) (free-here free)))
     commits opening statements commit draws meant _ _ _ means used is left (Stores may) answered =
         by-deed (call.Work statements commit) meant.answers draws meant means

@@ -15,7 +15,8 @@ use Rattle.mutable_values.specs.Sources.{Opening, DrawnFrom as Drew, draw_of, dr
 use Rattle.mutable_values.specs.Granting.{is_kept_sequence}
 use Rattle.server_model.specs.Base.{Base}
 use Rattle.server_model.specs.Core.{sequence_at, reopened}
-use Rattle.server_model.specs.Draws.{kind_of, Draws, Gives, Reserves, DrawsAll, HaltsAt, BlockLost, BlockStands}
+use Rattle.stmt_meaning.specs.Asked.{kind_drawn}
+use Rattle.server_model.specs.Draws.{Draws, Gives, Reserves, DrawsAll, HaltsAt, BlockLost, BlockStands}
 
 -- what never changes of a sequence
 abbrev pub tag_of : SeqState → List ℕ × Bool
@@ -86,7 +87,7 @@ one-tags kept asked now _ _ _ _ (Reserves before between after name upto same gi
 -- the draws of a call leave them,
 pub all-tags : (now : ℕ) (draws : List Draw) (before : Opening) (kept : List Draw) (after : Opening) (left : List Draw) → DrawsAll now before kept draws after left → tags after ≡ tags before
 all-tags now [] before kept after left drew = ap tags drew.0
-all-tags now (given ∷ more) before kept after left drew = all-tags now more drew.0 drew.1 after left drew.2.1 ∙ one-tags kept (kind_of given) now before given drew.0 drew.1 drew.2.0
+all-tags now (given ∷ more) before kept after left drew = all-tags now more drew.0 drew.1 after left drew.2.1 ∙ one-tags kept (kind_drawn given) now before given drew.0 drew.1 drew.2.0
 
 -- and so does a stop in them
 pub halt-tags : (now : ℕ) (kept : List Draw) (before after : Opening) → HaltsAt now kept before after → tags after ≡ tags before

@@ -1,6 +1,6 @@
 -- A frame keeps that the entries are a serial run and that each transaction ran on what was
 -- committed.
-use Rattle.std.specs.Prelude.{◌≡◌, ℕ, Bool, true, false, List, [], ◌∷◌, ◌++◌, map, Option, Some, None, if◌then◌else◌}
+use Rattle.std.specs.Prelude.{◌≡◌, ℕ, Bool, true, false, List, [], ◌∷◌, ◌++◌, Option, Some, None, if◌then◌else◌}
 use Rattle.std.specs.List.{flat_map}
 use Rattle.std.proofs.Common.{refl, inl, inr, sym, ◌∙◌, ap, subst, append-nil}
 use Rattle.svc_values.specs.declared.value.Value.{Value}
@@ -20,17 +20,17 @@ use Rattle.stmt_meaning.specs.Meaning.{AllDone, Meant, mean, worked, statements_
 use Rattle.stmt_meaning.specs.Serial.{Replays, CommitLast, Transaction, Serial}
 use Rattle.stmt_meaning.specs.Rerun.{Moment, pieces_of}
 use Rattle.svc_values.proofs.Offered.{AreTables-with_writes, with_writes-append}
-use Rattle.stmt_meaning.proofs.Offered.{rerun-transaction, Serial-next}
+use Rattle.stmt_meaning.proofs.Offered.{RanAt-more, reads-more, rerun-transaction, Serial-next}
 use Rattle.mutable_values.specs.Sources.{Opening}
 use Rattle.ltxid_book.specs.declared.verdict.Verdict.{Verdict}
 use Rattle.ltxid_book.specs.declared.verdict.Verdict.TheVariants as verdict
 use Rattle.server_model.specs.Base.{Base}
 use Rattle.server_model.specs.Core.{Core, committed, tables_with, writes_in}
-use Rattle.server_model.specs.Sessions.{Sess, Idle, with_work, entry_of, piece_of, ReadsStand}
-use Rattle.stmt_meaning.specs.Reads.{read_at}
+use Rattle.server_model.specs.Sessions.{Sess, Idle, with_work, entry_of, piece_of}
+use Rattle.stmt_meaning.specs.Reads.{Read, reads_at, ReadsStand}
 use Rattle.server_model.specs.Outcomes.{Told, Silent, Says, Stopped, Outcomes, IsTold, BlockStops, if_blocks}
 use Rattle.server_model.specs.Serve.{Commits, InReplay, Blocks, Conflicts, Stores, StopsBefore, StopsAfter, Means, Works, Answers, Reaches, HaltsInDraw, Calls, IsWork, IsSet, IsAlter, AlterStops, AlterMarked, IsDisable, IsRollback, Serve, Connects, Begins, Ends, Closes, Asks, Runs, Refuses, with_opening, with_entry, if_told}
-use Rattle.server_model.proofs.Ran.{Ran, Ran-more, Ran-none, AreOrdered-more, RanAt-more, Unchanged-more, pieces-more, agree-reads, ReadsStand-front, ReadsStand-back, CommitLast-more}
+use Rattle.server_model.proofs.Ran.{Ran, Ran-more, Ran-none, AreOrdered-more, pieces-more, CommitLast-more}
 
 -- ---- what a work call leaves of the settings
 
@@ -90,14 +90,13 @@ module _ (core : Core) (sess : Sess) (called : Call) (draws : List Draw) (meant 
       → Transaction core.base.shape (committed core) sess.at_start (sess.pieces ++ piece ∷ []) (with_writes (committed core) (sess.writes ++ meant.writes))
   unfolding piece last
   transaction stand =
-      let old = ran.stand (committed core) (ReadsStand-front sess.reads _ (committed core) stand) in
-      let agree = agree-reads (committed core) (committed core) meant.reads (ReadsStand-back sess.reads _ (committed core) stand) in
+      let moments : List Moment = ran.moments ++ last ∷ [] in
       let ran_at = RanAt-more core.base.shape last meant ran.moments sess.at_start sess.settings [] sess.writes ran.ran replays in
-      let unchanged = Unchanged-more core.base.shape last meant ran.moments sess.at_start sess.settings [] sess.writes (committed core) ran.ran replays old agree in
-      let pieces : pieces_of (ran.moments ++ last ∷ []) ≡ sess.pieces ++ piece ∷ [] = pieces-more ran.moments last ∙ ap (λ p. p ++ piece ∷ []) ran.pieces in
+      let read = reads-more core.base.shape last meant ran.moments sess.at_start sess.settings [] sess.writes ran.ran replays ∙ ap (λ r. r ++ reads_at (committed core) meant.reads) ran.reads in
+      let pieces : pieces_of moments ≡ sess.pieces ++ piece ∷ [] = pieces-more ran.moments last ∙ ap (λ p. p ++ piece ∷ []) ran.pieces in
       subst (λ p. Transaction core.base.shape (committed core) sess.at_start p (with_writes (committed core) (sess.writes ++ meant.writes))) pieces
-      (rerun-transaction core.base.shape (committed core) meant.settings (sess.writes ++ meant.writes) sess.at_start (ran.moments ++ last ∷ []) own-ordered
-      (AreOrdered-more ran.moments last ran.ordered own-ordered) ran_at unchanged
+      (rerun-transaction core.base.shape (committed core) meant.settings (sess.writes ++ meant.writes) sess.at_start moments own-ordered
+      (AreOrdered-more ran.moments last ran.ordered own-ordered) ran_at (subst (λ (r : List Read). ReadsStand r (committed core)) (sym read) stand)
       (subst CommitLast (sym pieces) (CommitLast-more sess.pieces piece ran.none ends)))
 
   stored : IsSerial core → ReadsStand (with_work sess (committed core) meant).reads (committed core) → IsSerial (with_entry core (entry_of (with_work sess (committed core) meant) called meant.answers draws))
@@ -109,12 +108,12 @@ module _ (core : Core) (sess : Sess) (called : Call) (draws : List Draw) (meant 
 
   pub commits_keep : (opening : Opening) (replay : Bool) (after : Core) (t : Sess) (told : Told) → IsSerial core
       → Commits (with_opening core opening) (with_work sess (committed core) meant) replay called meant.answers draws after t told → Keeps core after t
-  commits_keep opening replay _ _ _ serial (InReplay marked) = record { base = refl; serial = serial; ran = Ran-none core.base.shape _ refl refl refl }
-  commits_keep opening replay _ _ _ serial (Blocks unmarked blocked) = record { base = refl; serial = serial; ran = Ran-none core.base.shape _ refl refl refl }
-  commits_keep opening replay _ _ _ serial (Conflicts unmarked free differs) = record { base = refl; serial = serial; ran = Ran-none core.base.shape _ refl refl refl }
-  commits_keep opening replay _ _ _ serial (Stores may) = record { base = refl; serial = stored serial may.same; ran = Ran-none core.base.shape _ refl refl refl }
-  commits_keep opening replay _ _ _ serial (StopsBefore may) = record { base = refl; serial = serial; ran = Ran-none core.base.shape _ refl refl refl }
-  commits_keep opening replay _ _ _ serial (StopsAfter may) = record { base = refl; serial = stored serial may.same; ran = Ran-none core.base.shape _ refl refl refl }
+  commits_keep opening replay _ _ _ serial (InReplay marked) = record { base = refl; serial = serial; ran = Ran-none core.base.shape _ refl refl refl refl }
+  commits_keep opening replay _ _ _ serial (Blocks unmarked blocked) = record { base = refl; serial = serial; ran = Ran-none core.base.shape _ refl refl refl refl }
+  commits_keep opening replay _ _ _ serial (Conflicts unmarked free differs) = record { base = refl; serial = serial; ran = Ran-none core.base.shape _ refl refl refl refl }
+  commits_keep opening replay _ _ _ serial (Stores may) = record { base = refl; serial = stored serial may.same; ran = Ran-none core.base.shape _ refl refl refl refl }
+  commits_keep opening replay _ _ _ serial (StopsBefore may) = record { base = refl; serial = serial; ran = Ran-none core.base.shape _ refl refl refl refl }
+  commits_keep opening replay _ _ _ serial (StopsAfter may) = record { base = refl; serial = stored serial may.same; ran = Ran-none core.base.shape _ refl refl refl refl }
 
 -- ---- calls
 
@@ -130,7 +129,7 @@ works_keep core sess replay kept statements commit now _ _ _ ordered serial ran 
     }
 works_keep core sess replay kept statements commit now _ _ _ ordered serial ran (Reaches opening draws left meant after t told drew means ends commits) =
     commits_keep core sess (call.Work statements commit) draws meant ordered ran means ends opening replay after t told serial commits
-works_keep core sess replay kept statements commit now _ _ _ ordered serial ran (HaltsInDraw between opening draws more left meant drew means some halts) = record { base = refl; serial = serial; ran = Ran-none core.base.shape _ refl refl refl }
+works_keep core sess replay kept statements commit now _ _ _ ordered serial ran (HaltsInDraw between opening draws more left meant drew means some halts) = record { base = refl; serial = serial; ran = Ran-none core.base.shape _ refl refl refl refl }
 
 -- a call that means one answer, and writes and reads nothing
 alone_keeps : (core : Core) (sess t : Sess) (called : Call) (meant : Meant) → AreTables core.base.tables → Ran core.base.shape sess
@@ -140,7 +139,7 @@ alone_keeps core sess t called meant ordered ran run rest ends no_writes no_read
     Ran-more core.base.shape sess t (committed core) (piece_of called meant.answers []) meant ran (AreTables-with_writes core.base.tables (flat_map writes_in core.entries) ordered)
     (record { run = run; draws = rest; answers = refl }) ends at_start settings pieces
     (writes ∙ sym (append-nil sess.writes) ∙ ap (λ w. sess.writes ++ w) (sym no_writes))
-    (reads ∙ sym (append-nil sess.reads) ∙ ap (λ r. sess.reads ++ map (read_at (committed core)) r) (sym no_reads))
+    (reads ∙ sym (append-nil sess.reads) ∙ ap (λ r. sess.reads ++ reads_at (committed core) r) (sym no_reads))
 
 pub calls_keep : (core : Core) (sess : Sess) (replay : Bool) (kept : List Draw) (now : ℕ) (called : Call) (after : Core) (t : Sess) (told : Told) → AreTables core.base.tables → IsSerial core → Ran core.base.shape sess
     → Calls core sess replay kept now called after t told → Keeps core after t
@@ -150,13 +149,13 @@ calls_keep core sess replay kept now _ _ _ _ ordered serial ran (IsSet name valu
 calls_keep core sess replay kept now _ _ _ _ ordered serial ran (IsAlter line unmarked) =
     record { base = refl; serial = serial; ran = alone_keeps core sess _ (call.Alter line) _ ordered ran refl refl refl refl refl refl refl refl refl refl }
 calls_keep core sess replay kept now _ _ _ _ ordered serial ran (AlterStops line after unmarked (inl same)) =
-    record { base = ap (λ (c : Core). c.base) same; serial = serial_as core after (ap (λ (c : Core). c.base) same) (ap (λ (c : Core). c.entries) same) serial; ran = Ran-none core.base.shape _ refl refl refl }
+    record { base = ap (λ (c : Core). c.base) same; serial = serial_as core after (ap (λ (c : Core). c.base) same) (ap (λ (c : Core). c.entries) same) serial; ran = Ran-none core.base.shape _ refl refl refl refl }
 calls_keep core sess replay kept now _ _ _ _ ordered serial ran (AlterStops line after unmarked (inr same)) =
-    record { base = ap (λ (c : Core). c.base) same; serial = serial_as core after (ap (λ (c : Core). c.base) same) (ap (λ (c : Core). c.entries) same) serial; ran = Ran-none core.base.shape _ refl refl refl }
-calls_keep core sess replay kept now _ _ _ _ ordered serial ran (AlterMarked line marked) = record { base = refl; serial = serial; ran = Ran-none core.base.shape _ refl refl refl }
+    record { base = ap (λ (c : Core). c.base) same; serial = serial_as core after (ap (λ (c : Core). c.base) same) (ap (λ (c : Core). c.entries) same) serial; ran = Ran-none core.base.shape _ refl refl refl refl }
+calls_keep core sess replay kept now _ _ _ _ ordered serial ran (AlterMarked line marked) = record { base = refl; serial = serial; ran = Ran-none core.base.shape _ refl refl refl refl }
 calls_keep core sess replay kept now _ _ _ _ ordered serial ran IsDisable =
     record { base = refl; serial = serial; ran = alone_keeps core sess _ call.Disable _ ordered ran refl refl refl refl refl refl refl refl refl refl }
-calls_keep core sess replay kept now _ _ _ _ ordered serial ran IsRollback = record { base = refl; serial = serial; ran = Ran-none core.base.shape _ refl refl refl }
+calls_keep core sess replay kept now _ _ _ _ ordered serial ran IsRollback = record { base = refl; serial = serial; ran = Ran-none core.base.shape _ refl refl refl refl }
 
 -- ---- outcomes
 
@@ -181,21 +180,21 @@ outcomes_keep core x _ _ (BlockStops after by (inr same)) = record { base = ap (
 Ran-told : (shape : Shape) (sess : Sess) (told : Told) → Ran shape sess → Ran shape (if_told told sess)
 Ran-told shape sess Silent ran = ran
 Ran-told shape sess (Says frame) ran = ran
-Ran-told shape sess Stopped ran = Ran-none shape _ refl refl refl
+Ran-told shape sess Stopped ran = Ran-none shape _ refl refl refl refl
 
 -- ---- frames
 
 Ran-connected : (shape : Shape) (sess : Sess) → Ran shape sess → Ran shape (record sess { life = Idle })
-Ran-connected shape sess ran = record { moments = ran.moments; ordered = ran.ordered; ran = ran.ran; pieces = ran.pieces; stand = ran.stand; none = ran.none }
+Ran-connected shape sess ran = record { moments = ran.moments; ordered = ran.ordered; ran = ran.ran; pieces = ran.pieces; reads = ran.reads; none = ran.none }
 
 pub serve_keeps : (core : Core) (sess : Sess) (now : ℕ) (frame : Up) (after : Core) (t : Sess) (told : Told) → AreTables core.base.tables → IsSerial core → Ran core.base.shape sess
     → Serve core sess now frame after t told → Keeps core after t
 serve_keeps core sess now _ _ _ _ ordered serial ran (Connects life) = record { base = refl; serial = serial; ran = Ran-connected core.base.shape sess ran }
-serve_keeps core sess now _ _ _ _ ordered serial ran (Begins settings serving) = record { base = refl; serial = serial; ran = Ran-none core.base.shape _ refl refl refl }
-serve_keeps core sess now _ _ _ _ ordered serial ran (Ends serving) = record { base = refl; serial = serial; ran = Ran-none core.base.shape _ refl refl refl }
-serve_keeps core sess now _ _ _ _ ordered serial ran (Closes serving) = record { base = refl; serial = serial; ran = Ran-none core.base.shape _ refl refl refl }
+serve_keeps core sess now _ _ _ _ ordered serial ran (Begins settings serving) = record { base = refl; serial = serial; ran = Ran-none core.base.shape _ refl refl refl refl }
+serve_keeps core sess now _ _ _ _ ordered serial ran (Ends serving) = record { base = refl; serial = serial; ran = Ran-none core.base.shape _ refl refl refl refl }
+serve_keeps core sess now _ _ _ _ ordered serial ran (Closes serving) = record { base = refl; serial = serial; ran = Ran-none core.base.shape _ refl refl refl refl }
 serve_keeps core sess now _ _ _ _ ordered serial ran (Asks x after told serving asked) =
     let same = outcomes_keep core x after told asked in
     record { base = same.base; serial = serial_as core after same.base same.entries serial; ran = Ran-told core.base.shape sess told ran }
 serve_keeps core sess now _ _ _ _ ordered serial ran (Runs replay kept called after t told begun calls) = calls_keep core sess replay kept now called after t told ordered serial ran calls
-serve_keeps core sess now _ _ _ _ ordered serial ran (Refuses frame out) = record { base = refl; serial = serial; ran = Ran-none core.base.shape _ refl refl refl }
+serve_keeps core sess now _ _ _ _ ordered serial ran (Refuses frame out) = record { base = refl; serial = serial; ran = Ran-none core.base.shape _ refl refl refl refl }

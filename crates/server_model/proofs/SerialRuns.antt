@@ -63,14 +63,14 @@ asked base server core power holds same = record {
 }
 
 pub moves_keep : (base : Base) (server after : Server) (more : List Happened) → AreTables base.tables → Holds base server → Moves server more after → Holds base after
-moves_keep base server _ _ ordered holds (Makes on) = record { is = holds.is; serial = holds.serial; ran = AllRan-more server.core.base.shape server.sessions _ holds.ran (Ran-none server.core.base.shape _ refl refl refl) }
+moves_keep base server _ _ ordered holds (Makes on) = record { is = holds.is; serial = holds.serial; ran = AllRan-more server.core.base.shape server.sessions _ holds.ran (Ran-none server.core.base.shape _ refl refl refl refl) }
 moves_keep base server _ _ ordered holds (Answers old new now frame core told after on serve answered turns) =
     let kept = serve_keeps server.core old now frame core new told (ordered_in base server ordered holds) holds.serial (old_ran base server after old new core On holds turns) serve in
     turned base server after old new core On holds turns kept.base kept.serial (λ ran. kept.ran)
 moves_keep base server _ _ ordered holds (Halts old new now frame core told after running serve turns) =
     let kept = serve_keeps server.core old now frame core new told (ordered_in base server ordered holds) holds.serial (old_ran base server after old new core Halted holds turns) serve in
     turned base server after old new core Halted holds turns kept.base kept.serial (λ ran. kept.ran)
-moves_keep base server _ _ ordered holds (Loses old now frame after halted turns) = turned base server after old (ended old) server.core Halted holds turns refl holds.serial (λ ran. Ran-none server.core.base.shape _ refl refl refl)
+moves_keep base server _ _ ordered holds (Loses old now frame after halted turns) = turned base server after old (ended old) server.core Halted holds turns refl holds.serial (λ ran. Ran-none server.core.base.shape _ refl refl refl refl)
 moves_keep base server _ _ ordered holds (AnswersAsk x core frame on asks) = asked base server core server.power holds (outcomes_keep server.core x core _ asks)
 moves_keep base server _ _ ordered holds (HaltsInAsk x core told running asks) = asked base server core Halted holds (outcomes_keep server.core x core told asks)
 moves_keep base server _ _ ordered holds (Reaps front back sess split) = record { is = holds.is; serial = holds.serial; ran = AllRan-without server.core.base.shape front back sess (subst (AllRan server.core.base.shape) split holds.ran) }

@@ -21,7 +21,8 @@ use Rattle.ltxid_book.specs.declared.verdict.Verdict.TheVariants as verdict
 use Rattle.server_model.specs.Core.{Core, committed}
 use Rattle.server_model.specs.Sessions.{Sess, with_work}
 use Rattle.svc_values.specs.Identifiers.{session_of}
-use Rattle.server_model.specs.Draws.{kind_of, Draws, Gives, Reserves, DrawsAll, HaltsAt, BlockLost, BlockStands}
+use Rattle.stmt_meaning.specs.Asked.{kind_drawn}
+use Rattle.server_model.specs.Draws.{Draws, Gives, Reserves, DrawsAll, HaltsAt, BlockLost, BlockStands}
 use Rattle.server_model.specs.Outcomes.{Told, Silent, Says, Stopped, Outcomes, IsTold, BlockStops, if_blocks}
 use Rattle.server_model.specs.Serve.{Commits, InReplay, Blocks, Conflicts, Stores, StopsBefore, StopsAfter, Works, Answers, Reaches, HaltsInDraw, Calls, IsWork, IsSet, IsAlter, AlterStops, AlterMarked, IsDisable, IsRollback, Serve, Connects, Begins, Ends, Closes, Asks, Runs, Refuses, with_opening, if_told}
 use Rattle.server_model.specs.Laws.{StaysIn}
@@ -76,7 +77,7 @@ one-stays kept asked now _ _ _ _ (Reserves before between after name upto same g
 
 pub all-stays : (now : ℕ) (draws : List Draw) (before : Opening) (kept : List Draw) (after : Opening) (left : List Draw) → DrawsAll now before kept draws after left → after.incarnation ≡ before.incarnation
 all-stays now [] before kept after left drew = ap (λ (o : Opening). o.incarnation) drew.0
-all-stays now (given ∷ more) before kept after left drew = all-stays now more drew.0 drew.1 after left drew.2.1 ∙ one-stays kept (kind_of given) now before given drew.0 drew.1 drew.2.0
+all-stays now (given ∷ more) before kept after left drew = all-stays now more drew.0 drew.1 after left drew.2.1 ∙ one-stays kept (kind_drawn given) now before given drew.0 drew.1 drew.2.0
 
 halt-stays : (now : ℕ) (kept : List Draw) (before after : Opening) → HaltsAt now kept before after → after.incarnation ≡ before.incarnation
 halt-stays now kept before _ (BlockLost name upto is) = refl

@@ -1,9 +1,9 @@
 -- The values that a call draws, one after the other.
 use Rattle.std.specs.Prelude.{◌≡◌, ℕ, ℤ, Bool, List, [], ◌∷◌, Some, if◌then◌else◌}
 use Rattle.svc_values.specs.declared.draw.Draw.{Draw}
-use Rattle.svc_values.specs.declared.draw.Draw.TheVariants as draw
 use Rattle.svc_values.specs.declared.draw.DrawKind.{DrawKind}
 use Rattle.svc_values.specs.declared.draw.DrawKind.TheVariants as kind
+use Rattle.stmt_meaning.specs.Asked.{kind_drawn}
 use Rattle.mutable_values.specs.declared.source.Drawn.TheVariants as drawn
 use Rattle.mutable_values.specs.declared.grants.Grants.{Grants}
 use Rattle.mutable_values.specs.Granting.{granted_of}
@@ -12,11 +12,6 @@ use Rattle.mutable_values.specs.Sources.{Opening, draw_of, reserved_to}
 -- the kept draws that a frame brings: with the mark those that are granted, without it none
 abbrev pub brought : Grants → Opening → Bool → List Draw → List Draw
 brought grants opening replay kept = if replay then granted_of grants opening.sequences kept else []
-
-abbrev pub kind_of : Draw → DrawKind
-kind_of (draw.Seq name value) = kind.Seq name
-kind_of (draw.Clock tick) = kind.Clock
-kind_of (draw.Id id) = kind.Id
 
 -- A value is drawn. Where a block has to be set aside first, it is stored, and the same draw then
 -- gives the value.
@@ -33,7 +28,7 @@ pub data Draws (kept : List Draw) (asked : DrawKind) (now : ℕ) : Opening → D
 abbrev pub DrawsAll : ℕ → Opening → List Draw → List Draw → Opening → List Draw → Type 0
 DrawsAll now before kept [] after left = (after ≡ before) × (left ≡ kept)
 DrawsAll now before kept (given ∷ more) after left =
-    (between : Opening) × (rest : List Draw) × (Draws kept (kind_of given) now before given between rest × DrawsAll now between rest more after left)
+    (between : Opening) × (rest : List Draw) × (Draws kept (kind_drawn given) now before given between rest × DrawsAll now between rest more after left)
 
 -- The store stopped at the block of a sequence that is past its last one. The block stands or not,
 -- and nothing is drawn of it.

@@ -23,7 +23,8 @@ use Rattle.server_model.specs.Base.{Base}
 use Rattle.svc_values.specs.declared.entry.SessionId.{SessionId}
 use Rattle.stmt_meaning.specs.Reads.{Read}
 use Rattle.server_model.specs.Items.{Thing, Called, MetBlock, CallStopped, Item, Did, AskTold, AskStopped}
-use Rattle.server_model.specs.NewValues.{kept_by, drawn_by, asked_of, meets_with}
+use Rattle.stmt_meaning.specs.Asked.{asked_by_call}
+use Rattle.server_model.specs.NewValues.{kept_by, drawn_by, meets_with}
 use Rattle.server_model.specs.Walk.{Transaction, Walk, walk_of, next_of, Performed, Deed, Nothing, Meaningless, Ran, meaning, deed_of, with_call, entered, after}
 
 -- ---- answers
@@ -88,7 +89,7 @@ means_commit (Some meant) = is_nil meant.rest && ends_committed meant.answers
 abbrev pub may_be_blocked : Base → Walk → ℕ → SessionId → Bool → Call → Bool
 may_be_blocked base walk now session replay called =
     let x = next_of walk session in
-    has_commit called && (not replay && ((is_blocked walk.blocked x || is_blocked walk.perhaps x) && meets_with (λ draws. means_commit (meaning base walk session called draws)) now (asked_of called) walk.numbers))
+    has_commit called && (not replay && ((is_blocked walk.blocked x || is_blocked walk.perhaps x) && meets_with (λ draws. means_commit (meaning base walk session called draws)) now (asked_by_call called) walk.numbers))
 
 -- ---- an item
 

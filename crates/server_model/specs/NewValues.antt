@@ -1,20 +1,14 @@
 -- Which values are drawn anew, told from what was served alone.
-use Rattle.std.specs.Prelude.{ℕ, zero, suc, ◌+◌, ◌==◌, ℤ, pos, ◌+ℤ◌, int_le, Bool, true, false, List, [], ◌∷◌, ◌++◌, map, filter, length, Option, Some, None, if◌then◌else◌}
-use Rattle.std.specs.List.{list_any, flat_map}
+use Rattle.std.specs.Prelude.{ℕ, zero, suc, ◌+◌, ◌==◌, ℤ, pos, ◌+ℤ◌, int_le, Bool, true, false, List, [], ◌∷◌, map, filter, length, Option, Some, None, if◌then◌else◌}
+use Rattle.std.specs.List.{list_any}
 use Rattle.std.specs.Ordering.{int_eq}
 use Rattle.std.specs.Str.{bytes_eq}
-use Rattle.svc_values.specs.declared.statement.Operand.{Operand}
-use Rattle.svc_values.specs.declared.statement.Operand.TheVariants as operand
-use Rattle.svc_values.specs.declared.statement.Change.{Change}
-use Rattle.svc_values.specs.declared.statement.Change.TheVariants as change
-use Rattle.svc_values.specs.declared.statement.Statement.{Statement}
-use Rattle.svc_values.specs.declared.statement.Statement.TheVariants as statement
 use Rattle.svc_values.specs.declared.draw.Draw.{Draw}
 use Rattle.svc_values.specs.declared.draw.Draw.TheVariants as draw
 use Rattle.svc_values.specs.declared.draw.DrawKind.{DrawKind}
 use Rattle.svc_values.specs.declared.draw.DrawKind.TheVariants as kind
 use Rattle.svc_values.specs.declared.call.Call.{Call}
-use Rattle.svc_values.specs.declared.call.Call.TheVariants as call
+use Rattle.stmt_meaning.specs.Asked.{asked_by_call}
 use Rattle.mutable_values.specs.Sources.{identifier}
 use Rattle.mutable_values.specs.Granting.{is_granted}
 use Rattle.server_model.specs.Base.{Sequence, Base}
@@ -177,29 +171,6 @@ new_among kept (given ∷ more) = let origin = origin_of given kept in if_new or
 
 -- ---- values that are drawn and not told
 
-abbrev pub asked_in : Operand → List DrawKind
-asked_in (operand.Draw asked) = asked ∷ []
-asked_in _ = []
-
-abbrev pub asked_change : Change → List DrawKind
-asked_change (change.To operand) = asked_in operand
-asked_change (change.Plus operand) = asked_in operand
-
--- what a statement draws that is not refused
-abbrev pub asked_by : Statement → List DrawKind
-asked_by (statement.Insert table operands) = flat_map asked_in operands
-asked_by (statement.Update table key column change) = asked_in key ++ asked_change change
-asked_by (statement.Delete table key) = asked_in key
-asked_by (statement.Get table key) = asked_in key
-asked_by (statement.Select table column test operand) = asked_in operand
-asked_by (statement.Count table) = []
-asked_by (statement.Sum table column) = []
-asked_by (statement.Show operand) = asked_in operand
-
-abbrev pub asked_of : Call → List DrawKind
-asked_of (call.Work statements commit) = flat_map asked_by statements
-asked_of _ = []
-
 abbrev pub is_of_sequence : List ℕ → DrawKind → Bool
 is_of_sequence name (kind.Seq other) = bytes_eq other name
 is_of_sequence name kind.Clock = false
@@ -207,7 +178,7 @@ is_of_sequence name kind.Id = false
 
 -- how often a call asks for a value of the sequence, at most
 abbrev pub asks_for : Call → List ℕ → ℕ
-asks_for called name = length (filter (is_of_sequence name) (asked_of called))
+asks_for called name = length (filter (is_of_sequence name) (asked_by_call called))
 
 -- how many blocks are set aside for so many values
 abbrev pub blocks_for : ℕ → ℤ → ℤ → ℕ
@@ -233,7 +204,7 @@ is_identifier kind.Id = true
 -- A call that drew all that it asks for, told to nobody.
 abbrev pub unseen_in : Call → Numbers → Numbers
 unseen_in called numbers = record numbers {
-  identifiers = numbers.identifiers + length (filter is_identifier (asked_of called));
+  identifiers = numbers.identifiers + length (filter is_identifier (asked_by_call called));
   counts = map (λ count. gave_often (asks_for called count.name) count) numbers.counts;
 }
 

@@ -19,7 +19,8 @@ use Rattle.stmt_meaning.specs.Meaning.{Meant, mean}
 use Rattle.ltxid_book.specs.Journal.{is_blocked}
 use Rattle.mutable_values.specs.Sources.{Opening}
 use Rattle.server_model.specs.Core.{Core, committed, all_blocked}
-use Rattle.server_model.specs.Sessions.{Life, New, Idle, Begun, Ended, Sess, begun_with, dropped, ended, with_piece, with_work, ReadsStand, Differs, raised, entry_of}
+use Rattle.stmt_meaning.specs.Reads.{ReadsStand, ReadsDiffer}
+use Rattle.server_model.specs.Sessions.{Life, New, Idle, Begun, Ended, Sess, begun_with, dropped, ended, with_piece, with_work, raised, entry_of}
 use Rattle.server_model.specs.Draws.{brought, DrawsAll, HaltsAt}
 use Rattle.server_model.specs.Outcomes.{Told, Silent, Says, Stopped, Outcomes}
 
@@ -54,7 +55,7 @@ pub record MayStore (core : Core) (sess : Sess) (replay : Bool) : Type 0 where
 pub data Commits (core : Core) (sess : Sess) (replay : Bool) (called : Call) (answers : List Answer) (draws : List Draw) : Core → Sess → Told → Type 0 where
   InReplay : IsTrue replay → Commits core sess replay called answers draws core (dropped sess) (reply (with_last answers answer.CommitInReplay) draws sess)
   Blocks : IsTrue (not replay) → IsTrue (is_blocked (all_blocked core) sess.ltxid) → Commits core sess replay called answers draws core (ended sess) (Says down.Blocked)
-  Conflicts : IsTrue (not replay) → IsTrue (not (is_blocked (all_blocked core) sess.ltxid)) → Differs sess.reads (committed core)
+  Conflicts : IsTrue (not replay) → IsTrue (not (is_blocked (all_blocked core) sess.ltxid)) → ReadsDiffer sess.reads (committed core)
       → Commits core sess replay called answers draws core (dropped sess) (reply (with_last answers answer.Conflict) draws sess)
   Stores : MayStore core sess replay
       → Commits core sess replay called answers draws (with_entry core (entry_of sess called answers draws)) (dropped (raised sess)) (reply answers draws (raised sess))

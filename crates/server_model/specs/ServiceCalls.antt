@@ -1,8 +1,6 @@
 -- What each call of a service does to what is seen of it.
-use Rattle.std.specs.Prelude.{◌≡◌, ◌≢◌, ◌⊎◌, ◌+◌, ◌*◌, ◌%◌, ◌<◌, ◌≤◌, ℕ, Bool, true, false, List, [], ◌∷◌, ◌++◌, length, filter, Option, Some, None, All, nat_lt, max, if◌then◌else◌}
+use Rattle.std.specs.Prelude.{◌≡◌, ◌≢◌, ◌⊎◌, ◌+◌, ◌*◌, ◌%◌, ◌<◌, ◌≤◌, ℕ, Bool, true, false, List, [], ◌∷◌, ◌++◌, length, Option, Some, None, All, nat_lt, max, if◌then◌else◌}
 use Rattle.svc_values.specs.declared.draw.Draw.{Draw}
-use Rattle.svc_values.specs.declared.draw.DrawKind.{DrawKind}
-use Rattle.svc_values.specs.declared.draw.DrawKind.TheVariants as kind
 use Rattle.svc_values.specs.declared.call.Call.{Call}
 use Rattle.svc_values.specs.declared.answer.Answer.{Answer}
 use Rattle.svc_values.specs.declared.entry.Entry.{Entry}
@@ -14,10 +12,10 @@ use Rattle.ltxid_book.specs.declared.verdict.Verdict.{Verdict}
 use Rattle.ltxid_book.specs.declared.verdict.Verdict.TheVariants as verdict
 use Rattle.ltxid_book.specs.Outcomes.{verdict_of}
 use Rattle.svc_values.specs.declared.entry.SessionId.{SessionId}
+use Rattle.svc_values.specs.Calls.{sequences_in}
 use Rattle.svc_values.specs.Identifiers.{ltxid_of}
 use Rattle.server_model.specs.Outcomes.{Told, Silent, Says, Stopped, down_of}
 use Rattle.server_model.specs.Runs.{Happened, Served, Asked}
-use Rattle.server_model.specs.NewValues.{asked_of}
 use Rattle.server_model.specs.Seen.{Store, book_in, Living, Seen, connection_in, without_connection, with_session, Rose, Keeps, KeepsStore}
 
 -- ---- connect, reap, stop_after
@@ -42,16 +40,6 @@ abbrev pub with_stop : Seen → Option ℕ → Seen
 with_stop old stop = record old { stop = stop; calls = old.calls + 1 }
 
 -- ---- stops
-
-abbrev pub is_of_sequence : DrawKind → Bool
-is_of_sequence (kind.Seq name) = true
-is_of_sequence kind.Clock = false
-is_of_sequence kind.Id = false
-
--- the sequence operands of the frame's call
-abbrev pub sequence_operands : Up → ℕ
-sequence_operands (up.Call replay kept called) = length (filter is_of_sequence (asked_of called))
-sequence_operands _ = 0
 
 -- the frame may make a device call
 abbrev pub may_store : Up → Bool
@@ -128,8 +116,8 @@ pub record ServedOne (old : Seen) (connection now : ℕ) (frame : Up) (told : To
   pub is_up : new.is_up ≡ is_up_after told
   pub kept : new.kept ≡ old.stop
   pub outcome : TellsByTable old.store frame told
-  pub adds : Adds old.store new.store 1 (1 + sequence_operands frame)
-  pub cause : StopCause old new (1 + sequence_operands frame) told
+  pub adds : Adds old.store new.store 1 (1 + sequences_in frame)
+  pub cause : StopCause old new (1 + sequences_in frame) told
   -- a frame that stores nothing is never stopped
   pub silent : may_store frame ≡ false → (told ≢ Stopped) × (new.faults ≡ old.faults) × (new.store ≡ old.store)
 

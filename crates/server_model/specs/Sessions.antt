@@ -1,5 +1,5 @@
 -- A session with its open transaction.
-use Rattle.std.specs.Prelude.{◌≡◌, ◌≢◌, ◌⊎◌, ◌+◌, ℕ, List, [], ◌∷◌, ◌++◌}
+use Rattle.std.specs.Prelude.{◌+◌, ℕ, List, [], ◌∷◌, ◌++◌}
 use Rattle.svc_values.specs.declared.value.Value.{Value}
 use Rattle.svc_values.specs.declared.draw.Draw.{Draw}
 use Rattle.svc_values.specs.declared.call.Call.{Call}
@@ -10,7 +10,6 @@ use Rattle.svc_values.specs.declared.entry.Write.{Write}
 use Rattle.svc_values.specs.declared.entry.Entry.{Entry}
 use Rattle.svc_values.specs.Calls.{is_lone_commit}
 use Rattle.svc_values.specs.declared.tables.PlainRow.{PlainRow}
-use Rattle.svc_values.specs.Tables.{rows_at}
 use Rattle.svc_values.specs.Identifiers.{session_of, ltxid_of}
 use Rattle.svc_values.specs.declared.entry.SessionId.{SessionId}
 use Rattle.stmt_meaning.specs.Meaning.{Meant}
@@ -59,16 +58,6 @@ with_piece sess call answers draws = record sess { pieces = sess.pieces ++ piece
 -- what a call read and wrote joins the transaction
 abbrev pub with_work : Sess → List PlainRow → Meant → Sess
 with_work sess committed meant = record sess { reads = sess.reads ++ reads_at committed meant.reads; writes = sess.writes ++ meant.writes }
-
--- each place that was read has the same committed rows now
-abbrev pub ReadsStand : List Read → List PlainRow → Type 0
-ReadsStand [] now = Unit {0}
-ReadsStand (read ∷ reads) now = (rows_at now read.at ≡ read.found) × ReadsStand reads now
-
--- some place that was read has other committed rows now
-abbrev pub Differs : List Read → List PlainRow → Type 0
-Differs [] now = ⊥
-Differs (read ∷ reads) now = (rows_at now read.at ≢ read.found) ⊎ Differs reads now
 
 -- the session after a commit
 abbrev pub raised : Sess → Sess

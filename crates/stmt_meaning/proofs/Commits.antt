@@ -14,7 +14,7 @@ use Rattle.stmt_meaning.specs.Laws.{closed_by}
 use Rattle.svc_values.specs.SettingsList.{NamedValues}
 
 -- the answers tell whether a statement was refused
-abbrev Tells : Option AllDone → Type 0
+abbrev pub Tells : Option AllDone → Type 0
 Tells None = Unit {0}
 Tells (Some done) = done.refused ≡ ends_refused done.answers
 
@@ -34,7 +34,7 @@ tells_on : (first : Option OneDone) (next : OneDone → Option AllDone) → ((on
 tells_on None next k = tt
 tells_on (Some one) next k = tells_by one (is_refusal one.answer) refl (next one) (k one)
 
-tells : (shape : Shape) (tables : List PlainRow) (settings : NamedValues) (statements : List Statement) (draws : List Draw) → Tells (statements_done shape tables settings statements draws)
+pub tells : (shape : Shape) (tables : List PlainRow) (settings : NamedValues) (statements : List Statement) (draws : List Draw) → Tells (statements_done shape tables settings statements draws)
 tells shape tables settings [] draws = refl
 tells shape tables settings (first ∷ rest) draws =
     tells_on (mean1 shape tables settings first draws) (λ one. statements_done shape (with_writes tables one.writes) settings rest one.rest)

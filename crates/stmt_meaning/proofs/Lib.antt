@@ -1,6 +1,7 @@
 mod Adjacent
 mod Asking
 mod Commits
+mod DrawOrder
 mod Drawn
 mod InOrder
 mod MeanLocal

@@ -1,5 +1,5 @@
 -- A call means the same on tables that agree at the places that it reads.
-use Rattle.std.proofs.Common.{◌≡◌, Bool, true, false, cond, List, [], ◌∷◌, ◌++◌, map, refl, sym, ap, ◌∙◌, subst}
+use Rattle.std.proofs.Common.{◌≡◌, Bool, true, false, cond, List, [], ◌∷◌, ◌++◌, map, length, ◌≤◌, arith, refl, sym, ap, ◌∙◌, subst}
 use Rattle.std.specs.Prelude.{Option, Some, None, Ok, Err, option_map, option_to_list}
 use Rattle.svc_values.specs.declared.value.Value.{Value}
 use Rattle.svc_values.specs.declared.schema.Shape.{Shape}
@@ -61,6 +61,28 @@ drawn_same a b (Some (Ok asked, left)) = refl
 -- the draws that a statement takes depend on no row
 pub mean1-draws : (shape : Shape) (a b : List PlainRow) (settings : NamedValues) (asked : Statement) (draws : List Draw) → option_map (λ one. one.rest) (mean1 shape a settings asked draws) ≡ option_map (λ one. one.rest) (mean1 shape b settings asked draws)
 mean1-draws shape a b settings asked draws = drawn_same a b (plan_of shape settings asked draws)
+
+-- nor does the place that it reads
+placed_same : (a b : List PlainRow) (read : Reading Plan) → option_map (λ one. one.reads) (done_at a read) ≡ option_map (λ one. one.reads) (done_at b read)
+placed_same a b None = refl
+placed_same a b (Some (Err refusal, left)) = refl
+placed_same a b (Some (Ok asked, left)) = refl
+
+pub mean1-places : (shape : Shape) (a b : List PlainRow) (settings : NamedValues) (asked : Statement) (draws : List Draw) → option_map (λ one. one.reads) (mean1 shape a settings asked draws) ≡ option_map (λ one. one.reads) (mean1 shape b settings asked draws)
+mean1-places shape a b settings asked draws = placed_same a b (plan_of shape settings asked draws)
+
+at_most_one : (at : Option Place) → length (option_to_list at) ≤ 1
+at_most_one None = omega arith
+at_most_one (Some at) = omega arith
+
+reads_few : (tables : List PlainRow) (read : Reading Plan) (one : OneDone) → done_at tables read ≡ Some one → length one.reads ≤ 1
+reads_few tables None one is = cc
+reads_few tables (Some (Err refusal, left)) one is = let reads : one.reads ≡ [] = cc in subst (λ places. length places ≤ 1) (sym reads) (omega arith)
+reads_few tables (Some (Ok asked, left)) one is = let reads : one.reads ≡ option_to_list (place_of asked) = cc in subst (λ places. length places ≤ 1) (sym reads) (at_most_one (place_of asked))
+
+-- a statement reads one place, or none
+pub mean1-place : (shape : Shape) (tables : List PlainRow) (settings : NamedValues) (asked : Statement) (draws : List Draw) (one : OneDone) → mean1 shape tables settings asked draws ≡ Some one → length one.reads ≤ 1
+mean1-place shape tables settings asked draws one is = reads_few tables (plan_of shape settings asked draws) one is
 
 -- ---- statements
 

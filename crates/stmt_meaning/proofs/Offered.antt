@@ -10,10 +10,14 @@ pub use Rattle.stmt_meaning.proofs.Running.{RanSoFar, left_is, ran_none, ran_end
 pub use Rattle.stmt_meaning.proofs.Drawn.{ends_as}
 -- a commit behind statements is answered last
 pub use Rattle.stmt_meaning.proofs.Commits.{commits_last}
+-- a statement and a call do the same where the rows at their places are the same
+pub use Rattle.stmt_meaning.proofs.MeanLocal.{mean1-same, mean-same}
+-- a call takes the draws that its operands ask for, in order
+pub use Rattle.stmt_meaning.proofs.DrawOrder.{mean-uses, sequences-counted, sequences-few}
 -- a call leaves its tables with its writes, which fit what is declared
 pub use Rattle.stmt_meaning.proofs.MeanLocal.{mean-tables}
 pub use Rattle.stmt_meaning.proofs.TablesFit.{mean-fits}
--- a transaction whose reads are unchanged is one of a serial run now
-pub use Rattle.stmt_meaning.proofs.Reruns.{rerun-transaction}
+-- a transaction goes on by one call, and where its reads stand it is one of a serial run now
+pub use Rattle.stmt_meaning.proofs.Reruns.{RanAt-more, reads-more, rerun-transaction}
 -- a piece means one thing, and a serial run goes on by one entry
 pub use Rattle.stmt_meaning.proofs.SerialSteps.{Replays-once, Serial-next}

@@ -1,3 +1,4 @@
+pub mod Asked
 pub mod Drawing
 pub mod Effects
 pub mod Laws
@@ -9,6 +10,7 @@ pub mod Plans
 pub mod Reads
 pub mod Rerun
 pub mod Serial
+pub mod SerialLaws
 pub mod SerialTest
 pub mod InnerAnswers
 pub mod InnerReading

@@ -1,11 +1,12 @@
 -- Transactions that were run call by call, each call on what was committed at its moment.
-use Rattle.std.specs.Prelude.{◌≡◌, List, [], ◌∷◌, ◌++◌}
+use Rattle.std.specs.Prelude.{◌≡◌, List, [], ◌∷◌, ◌++◌, Option, Some, None}
 use Rattle.svc_values.specs.declared.schema.Shape.{Shape}
 use Rattle.svc_values.specs.declared.entry.Piece.{Piece}
 use Rattle.svc_values.specs.declared.entry.Write.{Write}
 use Rattle.svc_values.specs.declared.tables.PlainRow.{PlainRow}
-use Rattle.svc_values.specs.Tables.{with_writes, AreTables, AgreeAt}
-use Rattle.stmt_meaning.specs.Meaning.{Meant}
+use Rattle.svc_values.specs.Tables.{with_writes, AreTables}
+use Rattle.stmt_meaning.specs.Meaning.{Meant, mean}
+use Rattle.stmt_meaning.specs.Reads.{Read, reads_at}
 use Rattle.stmt_meaning.specs.Serial.{Replays}
 use Rattle.svc_values.specs.SettingsList.{NamedValues}
 
@@ -21,12 +22,16 @@ RanAt shape settings own [] settings_after own_after = (settings_after ≡ setti
 RanAt shape settings own (moment ∷ moments) settings_after own_after =
     (meant : Meant) × (Replays shape (with_writes moment.committed own) settings moment.piece meant × RanAt shape meant.settings (own ++ meant.writes) moments settings_after own_after)
 
--- Each place that a call read has on the tables of now the value that was committed at the call's moment.
-abbrev pub Unchanged : Shape → NamedValues → List Write → List Moment → List PlainRow → Type 0
-Unchanged shape settings own [] now = Unit {0}
-Unchanged shape settings own (moment ∷ moments) now =
-    (meant : Meant) → Replays shape (with_writes moment.committed own) settings moment.piece meant →
-    AgreeAt moment.committed now meant.reads × Unchanged shape meant.settings (own ++ meant.writes) moments now
+-- what a call read at its moment, and what those behind it read
+abbrev pub reads_then : List PlainRow → (Meant → List Read) → Option Meant → List Read
+reads_then committed behind None = []
+reads_then committed behind (Some meant) = reads_at committed meant.reads ++ behind meant
+
+-- What the calls read, in order: each place with what was committed there at its call's moment, whatever the transaction's own writes say.
+abbrev pub reads_of : Shape → NamedValues → List Write → List Moment → List Read
+reads_of shape settings own [] = []
+reads_of shape settings own (moment ∷ moments) =
+    reads_then moment.committed (λ meant. reads_of shape meant.settings (own ++ meant.writes) moments) (mean shape (with_writes moment.committed own) settings moment.piece.call moment.piece.draws)
 
 -- all at one moment
 abbrev pub at_once : List PlainRow → List Moment → List Moment

@@ -1,10 +1,27 @@
 //! Laws of the definitions. Each function does nothing, and its contract is the law.
-ghost use Rattle.svc_values.specs.TableLaws.{WritesAreLocal, WritesKeepOrder, WritesStand, WritesTouchNoOther, WritesGoOn};
-ghost use Rattle.stmt_meaning.specs.Laws.{DrawsLookAtNoRow, CallsLeaveWrites, CallsKeepTables, CommitsComeLast, SerialGoesOn, SerialLeavesOne, SerialIsTested, UnchangedRunSame, UnchangedRunWhole, UnchangedIsSerial};
+ghost use Rattle.stmt_meaning.specs.Laws.{DrawsLookAtNoRow, PlacesLookAtNoRow, StatementsReadOnePlace, StatementsAreLocal, CallsAreLocal, CallsDrawInOrder, SequencesAreCounted, CallsDrawFewSequences, CallsLeaveWrites, CallsKeepTables, CommitsComeLast};
+ghost use Rattle.stmt_meaning.specs.SerialLaws.{SerialGoesOn, SerialLeavesOne, SerialIsTested, RunsGoOn, UnchangedRunSame, UnchangedRunWhole, UnchangedIsSerial};
 
-/// Which draws a statement asks for depends on no row.
+/// Which draws a statement asks for, and which place it reads, depends on no row.
 pub fn draws_look_at_no_row()
-    ensures { DrawsLookAtNoRow }
+    ensures draws { DrawsLookAtNoRow }
+    ensures places { PlacesLookAtNoRow }
+{}
+
+/// A statement depends on the rows at its one place alone, and a call on those at the places of its
+/// statements: where other tables have the same rows there, it does the same.
+pub fn statements_are_local()
+    ensures one_place { StatementsReadOnePlace }
+    ensures statements { StatementsAreLocal }
+    ensures calls { CallsAreLocal }
+{}
+
+/// A call takes the draws that its operands ask for, in order, up to the statement that is refused,
+/// if one is. So it takes no more values of sequences than its frame names.
+pub fn calls_draw_in_order()
+    ensures in_order { CallsDrawInOrder }
+    ensures counted { SequencesAreCounted }
+    ensures few { CallsDrawFewSequences }
 {}
 
 /// A call leaves the tables with its writes, in order and fitting what is declared of them.
@@ -25,8 +42,14 @@ pub fn serial_goes_on()
     ensures tested { SerialIsTested }
 {}
 
-/// Where no place that a transaction read has another value now, running its pieces now gives the same
-/// answers and leaves the tables of now with its writes: it may commit as if it ran now.
+/// A transaction goes on by one call, with its writes and its reads behind those before.
+pub fn runs_go_on()
+    ensures { RunsGoOn }
+{}
+
+/// Where each place that a transaction read has the rows now that were found there, running its
+/// pieces now gives the same answers and leaves the tables of now with its writes: it may commit as
+/// if it ran now.
 pub fn unchanged_runs_same()
     ensures same { UnchangedRunSame }
     ensures whole { UnchangedRunWhole }
