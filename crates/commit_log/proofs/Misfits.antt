@@ -4,7 +4,7 @@ use Rattle.std.specs.Prelude.{Result, Ok, Err, OnOk, IfSome, IfNone}
 use Rattle.redo_store.specs.declared.fault.RedoFault.{RedoFault}
 use Rattle.redo_store.specs.declared.fault.RedoFault.TheVariants as redo_fault
 use Rattle.redo_store.specs.declared.redo.Redo.{Redo}
-use Rattle.redo_store.specs.Redo.{CanAppend, GoesOn as StoreGoesOn}
+use Rattle.redo_store.specs.Redo.{CanAppend, StoreGoesOn}
 use Rattle.disk_model.specs.Disk.{DiskState}
 use Rattle.commit_log.specs.declared.log.Log.{Log}
 use Rattle.commit_log.specs.Logs.{CanLog, GoesOn}

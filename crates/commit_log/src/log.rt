@@ -2,7 +2,7 @@
 ghost use Rattle.std.specs.Prelude.{◌≡◌, ◌+◌, ◌<◌, ◌^◌, ◌⊎◌, [], ◌∷◌, ℕ, List, OnOk, IfOk, IsErrOf, Ok, Err};
 ghost use Rattle.disk_model.specs.Disk.{Meanwhile, IsSettled, SameBytes, Lowers, Caused, OnlyReads};
 ghost use Rattle.redo_store.specs.Records.{records_of};
-ghost use Rattle.redo_store.specs.Redo.{CanAppend, GoesOn as StoreGoesOn};
+ghost use Rattle.redo_store.specs.Redo.{CanAppend, StoreGoesOn};
 ghost use Rattle.svc_values.specs.Identifiers.{IsLtxid};
 ghost use Rattle.canon_bytes.specs.Entries.{IsMadeEntry};
 ghost use Rattle.commit_log.specs.declared.journal.Journal.{Journal as Held};

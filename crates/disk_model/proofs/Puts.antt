@@ -3,7 +3,7 @@ use Rattle.std.proofs.Common.{◌≡◌, ◌⊎◌, ℕ, ◌+◌, ◌-◌, ◌�
 use Rattle.std.proofs.lemmas.List.{take_at, drop_at, take_all, drop_all, append-nil, drop-drop, length-take-le}
 use Rattle.std.proofs.lemmas.Bool.{cases_lt}
 use Rattle.disk_model.specs.Moment.{with_bytes}
-use Rattle.disk_model.specs.declared.written.Written.{Written}
+use Rattle.disk_model.specs.declared.kept.KeptWrite.{KeptWrite}
 use Rattle.disk_model.specs.InnerLog.{Logged}
 use Rattle.disk_model.proofs.Writes.{length-with_bytes}
 
@@ -33,7 +33,7 @@ module _ (at overlap : ℕ) (new old : List ℕ) (within : at ≤ length old) (i
       ∙ take-append-drop at old
 
 -- a write that is kept
-pub logged : (at overlap : ℕ) (bytes old new : List ℕ) (log later : List Written) (entry : Written) → at ≤ length old → overlap ≡ min (length bytes) (length old - at) → new ≡ with_bytes at bytes old → later ≡ log ++ entry ∷ [] → entry.at ≡ at → entry.len ≡ length bytes → entry.synced ≡ false → entry.covered.items ≡ take overlap (drop at old) → Logged at (length bytes) old new log later
+pub logged : (at overlap : ℕ) (bytes old new : List ℕ) (log later : List KeptWrite) (entry : KeptWrite) → at ≤ length old → overlap ≡ min (length bytes) (length old - at) → new ≡ with_bytes at bytes old → later ≡ log ++ entry ∷ [] → entry.at ≡ at → entry.len ≡ length bytes → entry.synced ≡ false → entry.covered.items ≡ take overlap (drop at old) → Logged at (length bytes) old new log later
 logged at overlap bytes old new log later entry within is e more offset size pending kept =
     let long = length-with_bytes at bytes old within in
     let count : length entry.covered.items ≡ overlap = ap length kept ∙ length-take-le overlap (drop at old) (omega (arith, is, length-drop at old)) in

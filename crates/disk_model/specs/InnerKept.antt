@@ -3,7 +3,7 @@ use Rattle.std.proofs.Common.{◌≡◌, ℕ, ◌+◌, ◌<◌, ◌≤◌, Bool,
 use Rattle.std.specs.Prelude.{if◌then◌else◌}
 use Rattle.std.proofs.lemmas.Grind.{common_steps}
 use Rattle.std.proofs.lemmas.Bool.{cases_lt}
-use Rattle.disk_model.specs.declared.written.Written.{Written}
+use Rattle.disk_model.specs.declared.kept.KeptWrite.{KeptWrite}
 use Rattle.disk_model.specs.Moment.{MayLeave, Torn}
 use Rattle.disk_model.specs.Log.{bytes_before, first_bytes, synced_of, ranges_of, now_of}
 use Rattle.disk_model.specs.InnerLog.{Covers, IsLog}
@@ -22,7 +22,7 @@ cases_outside at n k out =
     ⊎_elim (λ lt. inl lt) (λ ge. ⊎_elim (λ l. absurd (out (ge, l))) (λ g. inr g) (cases_lt k (at + n))) (cases_lt k at)
 
 -- a write changes its range alone
-pub torn_step : (w : Written) (after : List ℕ) → Covers w after → Torn w.at w.len (bytes_before w after) after
+pub torn_step : (w : KeptWrite) (after : List ℕ) → Covers w after → Torn w.at w.len (bytes_before w after) after
 torn_step w after c =
     let long = length-bytes_before w.at w.len w.covered.items after c.within in
     record {
@@ -41,7 +41,7 @@ one_write synced ranges at n before after held torn = record {
   same = λ k lt out. torn.same k (omega (arith, lt, held.no_shorter)) (λ w. out (inl w)) ∙ held.same k lt (λ w. out (inr w));
 }
 
-reads_from : (synced : List ℕ) (ranges : List (ℕ × ℕ)) (log : List Written) (bytes : List ℕ) → MayLeave record { seen = first_bytes log bytes; synced = synced; written = ranges } (first_bytes log bytes) → IsLog log bytes → MayLeave record { seen = bytes; synced = synced_of synced log bytes; written = ranges_of ranges log } bytes
+reads_from : (synced : List ℕ) (ranges : List (ℕ × ℕ)) (log : List KeptWrite) (bytes : List ℕ) → MayLeave record { seen = first_bytes log bytes; synced = synced; written = ranges } (first_bytes log bytes) → IsLog log bytes → MayLeave record { seen = bytes; synced = synced_of synced log bytes; written = ranges_of ranges log } bytes
 reads_from synced ranges [] bytes held fits = held
 reads_from synced ranges (w ∷ log) bytes held fits = reads_from (if w.synced then first_bytes log bytes else synced) (if w.synced then [] else (w.at, w.len) ∷ ranges) log bytes (either w.synced) fits.1
   where
@@ -49,5 +49,5 @@ reads_from synced ranges (w ∷ log) bytes held fits = reads_from (if w.synced t
     either true = record { no_shorter = omega arith; no_longer = omega arith; same = λ k lt out. refl }
     either false = one_write synced ranges w.at w.len (bytes_before w (first_bytes log bytes)) (first_bytes log bytes) held (torn_step w (first_bytes log bytes) fits.0)
 
-pub reads_now_of : (log : List Written) (bytes : List ℕ) → IsLog log bytes → MayLeave (now_of log bytes) bytes
+pub reads_now_of : (log : List KeptWrite) (bytes : List ℕ) → IsLog log bytes → MayLeave (now_of log bytes) bytes
 reads_now_of log bytes fits = reads_from (first_bytes log bytes) [] log bytes record { no_shorter = omega arith; no_longer = omega arith; same = λ k lt out. refl } fits

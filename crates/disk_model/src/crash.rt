@@ -5,10 +5,10 @@ ghost use Rattle.disk_model.specs.Log.{now_of};
 ghost use Rattle.disk_model.specs.InnerLog.{IsLog};
 ghost use Rattle.disk_model.specs.Picks.{IsHalfNew, IsOnes, IsPicked};
 
-use crate::written::{Written, fill_ones, undo, undo_odd};
+use crate::kept::{KeptWrite, fill_ones, undo, undo_odd};
 
 // Leaves the image that the pick names, and no write to be undone.
-pub fn tear(bytes: &mut Vec<u8>, log: &mut Vec<Written>, pick: u8)
+pub fn tear(bytes: &mut Vec<u8>, log: &mut Vec<KeptWrite>, pick: u8)
     requires pick { pick < 4 }
     requires fits { IsLog log.old.items bytes.old.items }
     ensures left { MayLeave (now_of log.old.items bytes.old.items) bytes.new.items }
@@ -25,7 +25,7 @@ pub fn tear(bytes: &mut Vec<u8>, log: &mut Vec<Written>, pick: u8)
 }
 
 // What a read gave at the last sync.
-fn back_to_sync(bytes: &mut Vec<u8>, log: &mut Vec<Written>)
+fn back_to_sync(bytes: &mut Vec<u8>, log: &mut Vec<KeptWrite>)
     requires { IsLog log.old.items bytes.old.items }
     ensures { bytes.new.items ≡ (now_of log.old.items bytes.old.items).synced }
 {
@@ -38,7 +38,7 @@ fn back_to_sync(bytes: &mut Vec<u8>, log: &mut Vec<Written>)
 }
 
 // The size now; at odd offsets what a read gave at the last sync, or 0.
-fn half_back(bytes: &mut Vec<u8>, log: &mut Vec<Written>)
+fn half_back(bytes: &mut Vec<u8>, log: &mut Vec<KeptWrite>)
     requires { IsLog log.old.items bytes.old.items }
     ensures { IsHalfNew (now_of log.old.items bytes.old.items) bytes.new.items }
 {
@@ -51,7 +51,7 @@ fn half_back(bytes: &mut Vec<u8>, log: &mut Vec<Written>)
 }
 
 // The size now; 255 wherever a write stands that no sync followed.
-fn all_ones(bytes: &mut Vec<u8>, log: &mut Vec<Written>)
+fn all_ones(bytes: &mut Vec<u8>, log: &mut Vec<KeptWrite>)
     requires { IsLog log.old.items bytes.old.items }
     ensures { IsOnes (now_of log.old.items bytes.old.items) bytes.new.items }
 {

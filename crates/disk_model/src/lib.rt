@@ -7,9 +7,9 @@
 
 mod crash;
 mod disk;
+mod kept;
 pub mod laws;
 mod mem;
-mod written;
 
 pub use disk::{Disk, DiskFault, StopDisk};
 pub use mem::MemDisk;

@@ -8,7 +8,7 @@ ghost use Rattle.disk_model.specs.Picks.{IsPicked};
 
 use crate::crash::tear;
 use crate::disk::{Disk, DiskFault, StopDisk};
-use crate::written::{Written, mark, put};
+use crate::kept::{KeptWrite, mark, put};
 use std::alloc::{AllocError, Global};
 
 const MAX_SIZE: usize = 1 << 62;
@@ -21,7 +21,7 @@ const MAX_SIZE: usize = 1 << 62;
 pub struct MemDisk {
     alloc: Global,
     bytes: Vec<u8>,
-    log: Vec<Written>,
+    log: Vec<KeptWrite>,
     failing: Vec<u64>,
     calls: u64,
     faults: u64,

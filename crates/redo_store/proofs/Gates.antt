@@ -6,7 +6,7 @@ use Rattle.std.proofs.lemmas.List.Elements.{All-push}
 use Rattle.std.proofs.lemmas.Bool.{cases_eq}
 use Rattle.disk_model.specs.Moment.{Torn, with_bytes}
 use Rattle.disk_model.proofs.Offered.{torn_before, torn_behind, torn_with_bytes, length-with_bytes}
-use Rattle.redo_store.specs.Records.{magic, length_bytes, records_of, spelling_of, with_last, number_of}
+use Rattle.redo_store.specs.Records.{magic, length_bytes, records_of, spelling_of, with_last, record_count}
 use Rattle.redo_store.specs.Store.{IsStore, IsOldOrNew}
 use Rattle.redo_store.proofs.Grammar.{length-length_bytes, read_image}
 
@@ -27,15 +27,15 @@ few_spelled [] = omega arith
 few_spelled (payload ∷ records) = omega (arith, few_spelled records, length-append (1 ∷ length_bytes (length payload) ++ payload) (spelling_of records))
 
 -- a store has fewer records than bytes
-pub few_records : (tail : ℕ) (image : List ℕ) → IsStore tail image → number_of (records_of image) < tail
-few_records tail image w = omega (arith, ap number_of (reads tail image w), few_spelled w.records, w.at_tail)
+pub few_records : (tail : ℕ) (image : List ℕ) → IsStore tail image → record_count (records_of image) < tail
+few_records tail image w = omega (arith, ap record_count (reads tail image w), few_spelled w.records, w.at_tail)
 
 -- one record more
-pub one_more : (tail : ℕ) (image : List ℕ) (w : IsStore tail image) (payload : List ℕ) → number_of (with_last payload (records_of image)) ≡ number_of (records_of image) + 1
+pub one_more : (tail : ℕ) (image : List ℕ) (w : IsStore tail image) (payload : List ℕ) → record_count (with_last payload (records_of image)) ≡ record_count (records_of image) + 1
 one_more tail image w payload =
-    ap (λ (r : Result (List (List ℕ)) ℕ). number_of (with_last payload r)) (reads tail image w)
+    ap (λ (r : Result (List (List ℕ)) ℕ). record_count (with_last payload r)) (reads tail image w)
     ∙ length-append w.records (payload ∷ [])
-    ∙ sym (ap (λ (r : Result (List (List ℕ)) ℕ). number_of r + 1) (reads tail image w))
+    ∙ sym (ap (λ (r : Result (List (List ℕ)) ℕ). record_count r + 1) (reads tail image w))
 
 module _ (tail : ℕ) (old : List ℕ) (w : IsStore tail old) where
   -- the bytes in front of the gate

@@ -62,6 +62,6 @@ with_last payload (Ok records) = Ok (records ++ payload ∷ [])
 with_last payload (Err place) = Err place
 
 -- how many records there are, and none where the image is damaged
-abbrev pub number_of : Result (List (List ℕ)) ℕ → ℕ
-number_of (Ok records) = length records
-number_of (Err place) = 0
+abbrev pub record_count : Result (List (List ℕ)) ℕ → ℕ
+record_count (Ok records) = length records
+record_count (Err place) = 0

@@ -4,7 +4,7 @@ use Rattle.disk_model.specs.Disk.{DiskState, IsSettled}
 use Rattle.redo_store.specs.declared.fault.RedoFault.{RedoFault}
 use Rattle.redo_store.specs.declared.fault.RedoFault.TheVariants.{NoMemory, Stopped, Damaged}
 use Rattle.redo_store.specs.declared.redo.Redo.{Redo}
-use Rattle.redo_store.specs.Records.{records_of, number_of}
+use Rattle.redo_store.specs.Records.{records_of, record_count}
 use Rattle.redo_store.specs.Store.{IsStore}
 
 -- it may be added to, as far as it knows
@@ -20,13 +20,13 @@ count_of redo = redo.count
 pub record CanAppend (redo : Redo) (disk : DiskState) : Type 0 where
   pub live : IsTrue (is_live redo)
   pub store : IsStore redo.tail disk.now.seen
-  pub counted : count_of redo ≡ number_of (records_of disk.now.seen)
+  pub counted : count_of redo ≡ record_count (records_of disk.now.seen)
   pub settled : IsSettled disk
 
 -- After an answer the store goes on with its disk. But after Stopped it is not live, and counts as before; and no damage
 -- is told.
-abbrev pub GoesOn : Result (Unit {0}) RedoFault → Redo → Redo → DiskState → Type 0
-GoesOn (Ok done) old new disk = CanAppend new disk
-GoesOn (Err NoMemory) old new disk = CanAppend new disk
-GoesOn (Err Stopped) old new disk = IsFalse (is_live new) × (count_of new ≡ count_of old)
-GoesOn (Err (Damaged place)) old new disk = ⊥
+abbrev pub StoreGoesOn : Result (Unit {0}) RedoFault → Redo → Redo → DiskState → Type 0
+StoreGoesOn (Ok done) old new disk = CanAppend new disk
+StoreGoesOn (Err NoMemory) old new disk = CanAppend new disk
+StoreGoesOn (Err Stopped) old new disk = IsFalse (is_live new) × (count_of new ≡ count_of old)
+StoreGoesOn (Err (Damaged place)) old new disk = ⊥

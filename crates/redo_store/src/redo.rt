@@ -21,7 +21,7 @@ pub struct Redo {
 }
 
 impl Redo {
-    ghost use Rattle.redo_store.specs.Redo.{is_live, count_of, CanAppend, GoesOn};
+    ghost use Rattle.redo_store.specs.Redo.{is_live, count_of, CanAppend, StoreGoesOn};
 
     /// Whether a record may be added. After `Stopped` it may not, and the store is to be opened again.
     pub fn is_live(&self) -> bool
@@ -104,7 +104,7 @@ impl Redo {
         ensures any_moment { Meanwhile (D.state disk.old) (D.state disk.new) (IsOldOrNew (D.state disk.old).now.seen payload.now) }
 
         // After Ok and NoMemory it goes on with its disk, where nothing is pending; after Stopped it is to be opened again.
-        ensures goes_on { GoesOn result self.old self.new (D.state disk.new) }
+        ensures goes_on { StoreGoesOn result self.old self.new (D.state disk.new) }
 
         // It succeeds only with no stop or one of at least four; with either a quiet disk has no fault.
         ensures stop { Lowers 4 result (D.state disk.old).stop (D.state disk.new).stop }

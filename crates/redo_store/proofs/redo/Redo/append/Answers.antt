@@ -3,9 +3,9 @@ use Rattle.std.specs.Prelude.{IsTrue}
 use Rattle.disk_model.specs.Moment.{with_bytes}
 use Rattle.disk_model.specs.Disk.{DiskState, IsSettled}
 use Rattle.disk_model.specs.declared.disk.DiskFault.{DiskFault}
-use Rattle.redo_store.specs.Records.{records_of, number_of}
+use Rattle.redo_store.specs.Records.{records_of, record_count}
 use Rattle.redo_store.specs.Store.{IsStore}
-use Rattle.redo_store.specs.Redo.{GoesOn}
+use Rattle.redo_store.specs.Redo.{StoreGoesOn}
 use Rattle.redo_store.proofs.Gates.{tail_within, few_records, one_more, gate_open, added}
 use Rattle.redo_store.proofs.Appending.{fault_cases, body_written, kept, still_store, gate_written}
 use Rattle.redo_store.proofs.redo.Redo.append.Goals as goal
@@ -36,13 +36,13 @@ returns-in-Err-write_durably-clause-goes_on g c =
     let still = still_store s t tail c.requires.store c.args.payload.now c.deref.result.now c.in_default.ensures.written in
     let same_records = kept s t tail c.requires.store c.args.payload.now c.deref.result.now c.in_default.ensures.written in
     ⊎_elim
-    (λ failed. subst (λ f. GoesOn (Err f) old new u) (sym (r.stopped failed).0) ((r.stopped failed).1, r.count))
+    (λ failed. subst (λ f. StoreGoesOn (Err f) old new u) (sym (r.stopped failed).0) ((r.stopped failed).1, r.count))
     (λ no.
     let same : t ≡ u = sym (c.write_durably-2.ensures.refused (c.in-Err-write_durably.is ∙ ap (λ (f : DiskFault). Err f) no)) in
-    subst (λ f. GoesOn (Err f) old new u) (sym (r.no_memory no).0) record {
+    subst (λ f. StoreGoesOn (Err f) old new u) (sym (r.no_memory no).0) record {
       live = subst (λ b. IsTrue b) (sym (r.no_memory no).1) c.requires.live;
       store = subst (λ n. IsStore n u.now.seen) (sym r.tail) (subst (λ (d : DiskState). IsStore tail d.now.seen) same still);
-      counted = r.count ∙ c.requires.counted ∙ ap number_of (sym same_records) ∙ ap (λ (d : DiskState). number_of (records_of d.now.seen)) same;
+      counted = r.count ∙ c.requires.counted ∙ ap record_count (sym same_records) ∙ ap (λ (d : DiskState). record_count (records_of d.now.seen)) same;
       settled = subst IsSettled same c.in_default.ensures.durable;
     })
     (fault_cases c.in-Err-write_durably.fault)
@@ -75,7 +75,7 @@ returns-clause-goes_on g c =
     let store = gate_open tail s.now.seen c.requires.store payload body c.in_ok-body.ensures.short (c.deref.ensures.value ∙ c.in_ok-body.ensures.body) u.now.seen
     (c.in_default-write_durably.ensures.written ∙ ap (with_bytes tail (1 ∷ [])) c.in_default.ensures.written) in
     let longer : tail + length body ≡ tail + c.len.result = ap (λ n. tail + n) (sym (c.len.ensures ∙ sym c.deref.ensures.len)) in
-    let one : number_of (records_of u.now.seen) ≡ number_of (records_of s.now.seen) + 1 = ap number_of (returns-clause-added g c) ∙ one_more tail s.now.seen c.requires.store payload in
+    let one : record_count (records_of u.now.seen) ≡ record_count (records_of s.now.seen) + 1 = ap record_count (returns-clause-added g c) ∙ one_more tail s.now.seen c.requires.store payload in
     record {
       live = c.requires.live;
       store = subst (λ n. IsStore n u.now.seen) longer store;

@@ -9,7 +9,7 @@ use std::cmp::min;
 
 /// A write of `len` bytes at the offset `at`.
 #[derive(Drop)]
-pub struct Written {
+pub struct KeptWrite {
     pub at: usize,
     pub len: usize,
     /// What stood there before, fewer bytes than `len` where the write went past the end.
@@ -22,7 +22,7 @@ pub struct Written {
 pub fn put(
     alloc: Global,
     bytes: &mut Vec<u8>,
-    log: &mut Vec<Written>,
+    log: &mut Vec<KeptWrite>,
     at: usize,
     new: &[u8],
 ) -> Result<(), AllocError>
@@ -37,7 +37,7 @@ pub fn put(
     let overlap = min(new.len(), size - at);
     let covered = bytes[at..at + overlap].to_vec(alloc)?;
     bytes.extend_from_slice(&new[overlap..])?;
-    let entry = Written {
+    let entry = KeptWrite {
         at,
         len: new.len(),
         covered,
@@ -52,7 +52,7 @@ pub fn put(
 }
 
 // Notes that a sync followed the last write.
-pub fn mark(log: &mut Vec<Written>)
+pub fn mark(log: &mut Vec<KeptWrite>)
     ensures { log.new.items ≡ with_sync log.old.items }
 {
     let count = log.len();
@@ -62,7 +62,7 @@ pub fn mark(log: &mut Vec<Written>)
 }
 
 // Puts the bytes back that a write covered.
-pub fn undo(bytes: &mut Vec<u8>, write: &Written)
+pub fn undo(bytes: &mut Vec<u8>, write: &KeptWrite)
     requires { Covers write.now bytes.old.items }
     ensures { bytes.new.items ≡ bytes_before write.now bytes.old.items }
 {
@@ -73,7 +73,7 @@ pub fn undo(bytes: &mut Vec<u8>, write: &Written)
 }
 
 // Puts the bytes back that a write covered, but at odd offsets alone, and 0 where it covered none.
-pub fn undo_odd(bytes: &mut Vec<u8>, write: &Written)
+pub fn undo_odd(bytes: &mut Vec<u8>, write: &KeptWrite)
     requires { write.now.at + write.now.len ≤ length bytes.old.items }
     ensures long { length bytes.new.items ≡ length bytes.old.items }
     ensures inside { (k : ℕ) → write.now.at ≤ k → k < write.now.at + write.now.len → k % 2 ≡ 1 → slice_index bytes.new.items k ≡ slice_index write.now.covered.items (k - write.now.at) }
@@ -91,7 +91,7 @@ pub fn undo_odd(bytes: &mut Vec<u8>, write: &Written)
 }
 
 // Makes each byte of a write 255.
-pub fn fill_ones(bytes: &mut Vec<u8>, write: &Written)
+pub fn fill_ones(bytes: &mut Vec<u8>, write: &KeptWrite)
     requires { write.now.at + write.now.len ≤ length bytes.old.items }
     ensures long { length bytes.new.items ≡ length bytes.old.items }
     ensures inside { (k : ℕ) → write.now.at ≤ k → k < write.now.at + write.now.len → slice_index bytes.new.items k ≡ 255 }
