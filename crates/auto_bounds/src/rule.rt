@@ -11,11 +11,7 @@ use svc_values::{Answer, Call};
 pub struct AutoRule;
 
 impl BoundRule for AutoRule {
-    ghost submit = { λ _. auto_rules.submit };
-
-    ghost reply = { λ _. auto_rules.reply };
-
-    ghost keeps = { λ _. auto_rules.keeps };
+    ghost rules = { λ _. auto_rules };
 
     ghost lawful = { λ _. auto_lawful };
 

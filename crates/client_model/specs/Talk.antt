@@ -59,13 +59,21 @@ sending frames = record quiet { send = frames }
 abbrev pub if_alive : Bool → List Up → List Up
 if_alive alive frames = if alive then frames else []
 
+-- the connection is closed
+abbrev pub closing : Bool → Option Shown → Failed → Act
+closing alive shown failed = record { send = if_alive alive (up.Close ∷ []); shown = shown; failed = Some failed; hold = Drop }
+
 -- The request fails: it closes its connection and gives up its slot.
 abbrev pub fails : Talk → Bool → Option Shown → Failed → Step
-fails talk alive shown failed = (stands talk Idle, record { send = if_alive alive (up.Close ∷ []); shown = shown; failed = Some failed; hold = Drop })
+fails talk alive shown failed = (stands talk Idle, closing alive shown failed)
 
--- The request is through: it ends on its connection and gives it back, if there is one to give.
+-- the request ends on its connection, which is given back if it is there
+abbrev pub ending : Bool → Option Shown → Act
+ending alive shown = record { send = if_alive alive (up.End ∷ []); shown = shown; failed = None; hold = if alive then GiveBack else Drop }
+
+-- The request is through.
 abbrev pub ends : Talk → Bool → Option Shown → Step
-ends talk alive shown = (stands talk Idle, record { send = if_alive alive (up.End ∷ []); shown = shown; failed = None; hold = if alive then GiveBack else Drop })
+ends talk alive shown = (stands talk Idle, ending alive shown)
 
 -- SETTINGS ----------------------------------------------------------------------------------------
 

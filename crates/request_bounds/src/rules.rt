@@ -41,11 +41,7 @@ fn stopped_at(call: &Call, index: u64) -> Option<Why>
 }
 
 impl BoundRule for OffRule {
-    ghost submit = { λ _. off_rules.submit };
-
-    ghost reply = { λ _. off_rules.reply };
-
-    ghost keeps = { λ _. off_rules.keeps };
+    ghost rules = { λ _. off_rules };
 
     ghost lawful = { λ _. off_lawful };
 
@@ -63,11 +59,7 @@ impl BoundRule for OffRule {
 }
 
 impl BoundRule for StaticRule {
-    ghost submit = { λ _. static_rules.submit };
-
-    ghost reply = { λ _. static_rules.reply };
-
-    ghost keeps = { λ _. static_rules.keeps };
+    ghost rules = { λ _. static_rules };
 
     ghost lawful = { λ _. static_lawful };
 
@@ -92,11 +84,7 @@ impl BoundRule for StaticRule {
 }
 
 impl BoundRule for DynamicRule {
-    ghost submit = { λ _. dynamic_rules.submit };
-
-    ghost reply = { λ _. dynamic_rules.reply };
-
-    ghost keeps = { λ _. dynamic_rules.keeps };
+    ghost rules = { λ _. dynamic_rules };
 
     ghost lawful = { λ _. dynamic_lawful };
 
