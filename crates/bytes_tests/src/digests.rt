@@ -1,3 +1,5 @@
+//! Digests of no answer and of one row, whose bytes are told by the format.
+
 use result_digest::{Digesting, digest_of};
 use sha2::Digest;
 use std::alloc::Global;

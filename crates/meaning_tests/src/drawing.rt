@@ -160,3 +160,14 @@ fn granted_values_come_first(rt: HostRuntime) {
         }
     }
 }
+
+#[test]
+fn identifier_values_are_counted(rt: HostRuntime) {
+    let alloc = rt.alloc();
+    let mut source = source_of(&rt, alloc, 1, 0);
+    for last in [1, 2] {
+        let drawn = source.value(alloc, &DrawKind::Id);
+        let wanted = [0, 0, 0, 0, 0, 0, 0, 2, 0, 0, 0, 0, 0, 0, 0, last];
+        assert!(rt; matches!(drawn, Some(Draw::Id { id }) if id == wanted));
+    }
+}

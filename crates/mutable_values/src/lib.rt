@@ -11,8 +11,6 @@ mod grants;
 mod kept;
 mod laws;
 mod source;
-#[cfg(test)]
-mod tests;
 
 pub use grants::Grants;
 pub use kept::Kept;
