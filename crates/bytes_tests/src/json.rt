@@ -2,7 +2,7 @@
 
 use json_form::{
     DocCode, DocFault, Flag, Integer, ObjectWriter, Reader, Whole, Written, array_at, fixed,
-    head_from, item, json_from, object_with, octets_from, optional, required,
+    head_from, json_from, object_with, octets_in,
 };
 use serde_json::Value;
 
@@ -65,8 +65,9 @@ fn whole_numbers_are_told_apart(rt: HostRuntime) {
     ];
     for (bytes, as_few, as_integer) in cases {
         let value = json_from(alloc, bytes, 256).expect(&rt, "JSON");
-        assert_eq!(rt; told(&few.read(alloc, &value)).0, as_few);
-        assert_eq!(rt; told(&Integer.read(alloc, &value)).0, as_integer);
+        assert_eq!(rt; told(&few.read(alloc, value)).0, as_few);
+        let value = json_from(alloc, bytes, 256).expect(&rt, "JSON");
+        assert_eq!(rt; told(&Integer.read(alloc, value)).0, as_integer);
     }
 }
 
@@ -92,13 +93,18 @@ fn pointers_escape_names(rt: HostRuntime) {
 #[test]
 fn members_are_asked_for(rt: HostRuntime) {
     let alloc = rt.alloc();
-    let value = json_from(alloc, b"{\"m~n\":true,\"a/b\":[5,6,70]}", 256).expect(&rt, "JSON");
-    assert_eq!(rt; told(&object_with(alloc, &value, &["m~n"])), (5, "/a~1b"));
-    assert_eq!(rt; told(&required(alloc, &value, "c")), (4, "/c"));
-    assert!(rt; optional(alloc, &value, "m~n", &Flag, false).expect(&rt, "a flag"));
-    let list = required(alloc, &value, "a/b").expect(&rt, "a list");
-    assert_eq!(rt; told(&fixed(alloc, list, 2)), (3, ""));
-    let few = Whole { low: 0, high: 9 };
+    let text = b"{\"m~n\":true,\"a/b\":[5,6,70]}";
+    let value = json_from(alloc, text, 256).expect(&rt, "JSON");
+    assert_eq!(rt; told(&object_with(alloc, value, &["m~n"])), (5, "/a~1b"));
+    let value = json_from(alloc, text, 256).expect(&rt, "JSON");
+    let mut members = object_with(alloc, value, &["m~n", "a/b", "c"]).expect(&rt, "an object");
+    assert_eq!(rt; told(&members.required(alloc, "c")), (4, "/c"));
+    let flag = members.optional(alloc, "m~n", &Flag, false);
+    assert!(rt; flag.expect(&rt, "a flag"));
+    let flag = members.optional(alloc, "m~n", &Flag, false);
+    assert!(rt; !flag.expect(&rt, "no second flag"));
+    let list = members.required(alloc, "a/b").expect(&rt, "a list");
+    let few = Whole::new(0, 9);
     assert_eq!(rt;
         told(&array_at(alloc, "a/b", list, 0, 9, &few)),
         (6, "/a~1b/2")
@@ -106,14 +112,27 @@ fn members_are_asked_for(rt: HostRuntime) {
 }
 
 #[test]
-fn words_and_octets(rt: HostRuntime) {
+fn items_stand_at_positions(rt: HostRuntime) {
     let alloc = rt.alloc();
-    let value = json_from(alloc, b"[\"int\",\"0aFF\"]", 256).expect(&rt, "JSON");
-    assert_eq!(rt; head_from(alloc, &value).expect(&rt, "a word"), "int");
-    let first = item(alloc, &value, 0).expect(&rt, "an item");
-    assert_eq!(rt; told(&octets_from(alloc, first)), (9, ""));
-    let second = item(alloc, &value, 1).expect(&rt, "an item");
-    let octets = octets_from(alloc, second).expect(&rt, "octets");
+    let text = b"[\"int\",\"0aFF\",7]";
+    let value = json_from(alloc, text, 256).expect(&rt, "JSON");
+    assert_eq!(rt; told(&fixed(alloc, value, 2)), (3, ""));
+    let value = json_from(alloc, text, 256).expect(&rt, "JSON");
+    let words = [("text", 1u8), ("int", 2)];
+    assert_eq!(rt; head_from(alloc, &value, &words).expect(&rt, "a word"), 2);
+    assert_eq!(rt; told(&head_from(alloc, &value, &[("text", 1u8)])), (5, ""));
+    let mut parts = fixed(alloc, value, 3).expect(&rt, "three items");
+    assert_eq!(rt; told(&parts.read(alloc, 1, &Flag)), (3, "/1"));
+    assert_eq!(rt; told(&parts.read(alloc, 2, &Whole::new(0, 6))), (6, "/2"));
+}
+
+#[test]
+fn octets_are_pairs_of_digits(rt: HostRuntime) {
+    let alloc = rt.alloc();
+    for (text, number) in [("int", 9), ("0aF", 9), ("0aFF", 0), ("", 0)] {
+        assert_eq!(rt; told(&octets_in(alloc, text)).0, number);
+    }
+    let octets = octets_in(alloc, "0aFF").expect(&rt, "octets");
     assert_eq!(rt; octets.as_slice(), [10, 255].as_slice());
 }
 

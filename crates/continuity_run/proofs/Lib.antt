@@ -1,7 +1,5 @@
 pub mod CallItems
 mod Moves
-pub mod Readings
-pub mod DistinctKeys
 pub mod ReadTables
 pub mod ReadCalls
 pub mod ReadDocuments

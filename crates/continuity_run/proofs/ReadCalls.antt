@@ -20,7 +20,7 @@ use Rattle.continuity_run.specs.declared.document.Client.{Client}
 use Rattle.continuity_run.specs.CallForm.{item_read, work_of, call_of_items, call_of}
 use Rattle.continuity_run.specs.DocumentForm.{is_built, if_built, built_call_of, request_of, client_of}
 use Rattle.continuity_run.specs.Documents.{is_script_call, is_request, is_client}
-use Rattle.continuity_run.proofs.Readings.{after, ok_is, given, within_ok, passed, each_long, read_array, both_true, all_read}
+use Rattle.json_form.proofs.Offered.{after, ok_is, given, within_ok, passed, each_long, read_array, both_true, all_read}
 
 made_work : (statements : List Statement) (commit : Bool) → 1 ≤ work_length statements commit → work_length statements commit ≤ 8 → is_made (call.Work statements commit) ≡ true
 made_work statements commit some few = both_true _ _ (le-leb 1 (work_length statements commit) some) (le-leb (work_length statements commit) 8 few)
@@ -85,8 +85,8 @@ made_request calls all few = both_true _ _ all (le-leb (length calls) 1024 few)
 request_read : (d : Data) (one : Request) → request_of d ≡ Ok one → is_request one ≡ true
 unfolding request_of
 request_read d one h =
-    let a = after (object_with (codes "calls" ∷ []) d) (λ _. required (codes "calls") d >>= with_calls) one h in
-    let b = after (required (codes "calls") d) with_calls one a.2 in
+    let a = after (object_with (codes "calls" ∷ []) d) (λ ms. required (codes "calls") ms >>= with_calls) one h in
+    let b = after (required (codes "calls") a.0) with_calls one a.2 in
     let c = after (within (codes "calls") (array_of 1 1024 (each_of built_call_of) b.0)) (λ cs. Ok (record { calls = cs })) one b.2 in
     let e = read_array 1 1024 (each_of built_call_of) b.0 c.0 (within_ok (escaped (codes "calls")) _ c.0 c.1) in
     let long = each_long (λ before. built_call_of) [] e.items c.0 e.gave in
@@ -104,8 +104,8 @@ made_client requests all few = both_true _ _ all (le-leb (length requests) 1 few
 pub client_read : (d : Data) (one : Client) → client_of d ≡ Ok one → is_client one ≡ true
 unfolding client_of
 client_read d one h =
-    let a = after (object_with (codes "requests" ∷ []) d) (λ _. required (codes "requests") d >>= with_requests) one h in
-    let b = after (required (codes "requests") d) with_requests one a.2 in
+    let a = after (object_with (codes "requests" ∷ []) d) (λ ms. required (codes "requests") ms >>= with_requests) one h in
+    let b = after (required (codes "requests") a.0) with_requests one a.2 in
     let c = after (within (codes "requests") (array_of 0 1 (each_of request_of) b.0)) (λ rs. Ok (record { requests = rs })) one b.2 in
     let e = read_array 0 1 (each_of request_of) b.0 c.0 (within_ok (escaped (codes "requests")) _ c.0 c.1) in
     let long = each_long (λ before. request_of) [] e.items c.0 e.gave in

@@ -1,16 +1,15 @@
 -- What tables that were read keep to.
 use Rattle.std.proofs.Common.{◌≡◌, ◌≤◌, ℕ, ◌&&◌, List, [], ◌∷◌, ◌++◌, length, Bool, true, false, cond, Option, Some, None, Result, Ok, Err, codes, refl, sym, ap, ◌∙◌, decimal, arith, subst}
-use Rattle.std.specs.Prelude.{⊤, not}
+use Rattle.std.specs.Prelude.{not}
 use Rattle.std.specs.List.{list_all}
 use Rattle.std.specs.Str.{bytes_eq}
 use Rattle.std.proofs.lemmas.Bool.{le-leb}
 use Rattle.serde_json.specs.Data.{Data}
-use Rattle.serde_json.specs.Find.{get}
-use Rattle.json_form.specs.declared.fault.DocCode.TheVariants.{Duplicate, WrongKind}
+use Rattle.json_form.specs.declared.fault.DocCode.TheVariants.{WrongKind}
 use Rattle.json_form.specs.Faults.{Fault, ◌>>=◌, here, within, within_item}
 use Rattle.json_form.specs.Pointers.{escaped}
-use Rattle.json_form.specs.Objects.{object_with, required, optional, read_or}
-use Rattle.json_form.specs.Arrays.{each_after, fresh, fixed, distinct, item_of}
+use Rattle.json_form.specs.Objects.{Named, object_with, required, optional}
+use Rattle.json_form.specs.Arrays.{Placed, each_after, fixed, distinct, exact_of, part, have_distinct_keys}
 use Rattle.json_form.specs.Texts.{word_of}
 use Rattle.svc_values.specs.declared.value.Value.{Value}
 use Rattle.svc_values.specs.declared.schema.Column.{Column}
@@ -19,37 +18,21 @@ use Rattle.svc_values.specs.Same.{same_value}
 use Rattle.svc_values.specs.Schemas.{key_of}
 use Rattle.continuity_run.specs.declared.document.DocTable.{DocTable}
 use Rattle.continuity_run.specs.ValueForm.{name_of, value_of}
-use Rattle.continuity_run.specs.CallForm.{part}
-use Rattle.continuity_run.specs.DocumentForm.{kind_words, new_name, column_of, field_of, fitting, fixed_items, row_of, rows_of, columns_of, table_of}
-use Rattle.continuity_run.specs.Documents.{have_distinct_keys, is_table}
-use Rattle.continuity_run.proofs.Readings.{after, ok_is, within_ok, passed, each_keeps, each_long, read_array, both_true}
-use Rattle.continuity_run.proofs.DistinctKeys.{distinct_read, distinct_all}
+use Rattle.continuity_run.specs.DocumentForm.{kind_words, new_name, column_of, field_of, fitting, row_of, rows_of, columns_of, table_of}
+use Rattle.continuity_run.specs.Documents.{is_table}
+use Rattle.json_form.proofs.Offered.{after, ok_is, within_ok, passed, each_keeps, each_long, read_array, both_true, part_read, new_key, optional_keeps}
+use Rattle.json_form.proofs.Offered.{distinct_read, distinct_all}
 
-not_taken : (b : Bool) (u : ⊤) → cond b (Err (here Duplicate)) (Ok tt) ≡ Ok u → b ≡ false
-not_taken true u h = absurd (cc)
-not_taken false u h = refl
-
--- a key that was tested is new
-new_key : {K : Type 0} (read : Result K Fault) (taken : K → Bool) (key : K) → (read >>= λ k. fresh taken k >>= λ _. Ok k) ≡ Ok key → taken key ≡ false
-new_key read taken key h =
-    let a = after read (λ k. fresh taken k >>= λ _. Ok k) key h in
-    let b = after (fresh taken a.0) (λ _. Ok a.0) key a.2 in
-    let same : key ≡ a.0 = cc in ap taken same ∙ not_taken (taken a.0) b.0 b.1
-
-part_read : {A : Type 0} (i : ℕ) (read : Data → Result A Fault) (d : Data) (x : A) → part i read d ≡ Ok x → (inner : Data) × (read inner ≡ Ok x)
-part_read i read d x h =
-    let a = after (item_of i d) (λ inner. within_item i (read inner)) x h in (a.0, within_ok (decimal i) (read a.0) x a.2)
-
-abbrev with_kind : Data → List ℕ → Result Column Fault
-with_kind d name = part 1 (word_of kind_words) d >>= λ k. Ok (record { name = name; kind = k })
+abbrev with_kind : Placed → List ℕ → Result Column Fault
+with_kind ds name = part 1 (word_of kind_words) ds >>= λ k. Ok (record { name = name; kind = k })
 
 column_new : (taken : List ℕ → Bool) (d : Data) (column : Column) → column_of taken d ≡ Ok column → taken column.name ≡ false
 unfolding column_of
 column_new taken d column h =
-    let a = after (fixed 2 d) (λ _. part 0 (new_name taken) d >>= with_kind d) column h in
-    let b = after (part 0 (new_name taken) d) (with_kind d) column a.2 in
-    let c = after (part 1 (word_of kind_words) d) (λ k. Ok (record { name = b.0; kind = k })) column b.2 in
-    let p = part_read 0 (new_name taken) d b.0 b.1 in
+    let a = after (fixed 2 d) (λ ds. part 0 (new_name taken) ds >>= with_kind ds) column h in
+    let b = after (part 0 (new_name taken) a.0) (with_kind a.0) column a.2 in
+    let c = after (part 1 (word_of kind_words) a.0) (λ k. Ok (record { name = b.0; kind = k })) column b.2 in
+    let p = part_read 0 (new_name taken) a.0 b.0 b.1 in
     let same : column.name ≡ b.0 = ap (λ (r : Column). r.name) (sym (ok_is _ column c.2)) in ap taken same ∙ new_key (name_of p.0) taken b.0 p.1
 
 names_are_keys : (columns : List Column) → have_distinct_names columns ≡ have_distinct_keys bytes_eq (λ column. column.name) columns
@@ -84,7 +67,7 @@ row_key taken (column ∷ columns) (key ∷ rest) some fits new = new
 row_read : (columns : List Column) (taken : Value → Bool) (d : Data) (row : List Value) → row_of columns taken d ≡ Ok row → (row_fits columns row ≡ true) × KeyIsNew taken row
 unfolding row_of
 row_read columns taken d row h =
-    let a = after (fixed_items (length columns) d) (λ ds. each_after (field_of taken) [] ds >>= fitting columns) row h in
+    let a = after (exact_of (length columns) d) (λ ds. each_after (field_of taken) [] ds >>= fitting columns) row h in
     let b = after (each_after (field_of taken) [] a.0) (fitting columns) row a.2 in
     let c = passed (row_fits columns b.0) (Ok b.0) (here WrongKind) row b.2 in
     let same : b.0 ≡ row = cc in
@@ -108,21 +91,17 @@ rows_read columns d rows some h =
 no_rows : (columns : List Column) → AreRows columns []
 no_rows columns = record { fit = refl; apart = refl; few = omega arith }
 
-rows_if_any : (columns : List Column) (o : Option Data) (rows : List (List Value)) → 1 ≤ length columns → read_or (codes "rows") [] (rows_of columns) o ≡ Ok rows → AreRows columns rows
-rows_if_any columns None rows some h = let same : [] ≡ rows = cc in subst (AreRows columns) same (no_rows columns)
-rows_if_any columns (Some d) rows some h = rows_read columns d rows some (within_ok (escaped (codes "rows")) (rows_of columns d) rows h)
+abbrev with_rows : Named → List ℕ → List Column → Result DocTable Fault
+with_rows ms n cs = optional (codes "rows") [] (rows_of cs) ms >>= λ rows. Ok (record { name = n; columns = cs; rows = rows })
 
-abbrev with_rows : Data → List ℕ → List Column → Result DocTable Fault
-with_rows d n cs = optional (codes "rows") [] (rows_of cs) d >>= λ rows. Ok (record { name = n; columns = cs; rows = rows })
+abbrev with_columns : Named → Data → List ℕ → Result DocTable Fault
+with_columns ms columns n = within (codes "columns") (columns_of columns) >>= with_rows ms n
 
-abbrev with_columns : Data → Data → List ℕ → Result DocTable Fault
-with_columns d columns n = within (codes "columns") (columns_of columns) >>= with_rows d n
+abbrev with_name : (List ℕ → Bool) → Named → Data → Data → Result DocTable Fault
+with_name taken ms name columns = within (codes "name") (new_name taken name) >>= with_columns ms columns
 
-abbrev with_name : (List ℕ → Bool) → Data → Data → Data → Result DocTable Fault
-with_name taken d name columns = within (codes "name") (new_name taken name) >>= with_columns d columns
-
-abbrev from_name : (List ℕ → Bool) → Data → Data → Result DocTable Fault
-from_name taken d name = required (codes "columns") d >>= with_name taken d name
+abbrev from_name : (List ℕ → Bool) → Named → Data → Result DocTable Fault
+from_name taken ms name = required (codes "columns") ms >>= with_name taken ms name
 
 pub record ReadTable (taken : List ℕ → Bool) (table : DocTable) : Type 0 where
   pub new : taken table.name ≡ false
@@ -137,14 +116,15 @@ built_table n cs rows columns are =
 pub table_read : (taken : List ℕ → Bool) (d : Data) (table : DocTable) → table_of taken d ≡ Ok table → ReadTable taken table
 unfolding table_of
 table_read taken d table h =
-    let a = after (object_with (codes "name" ∷ codes "columns" ∷ codes "rows" ∷ []) d) (λ _. required (codes "name") d >>= from_name taken d) table h in
-    let b = after (required (codes "name") d) (from_name taken d) table a.2 in
-    let c = after (required (codes "columns") d) (with_name taken d b.0) table b.2 in
-    let n = after (within (codes "name") (new_name taken b.0)) (with_columns d c.0) table c.2 in
-    let cs = after (within (codes "columns") (columns_of c.0)) (with_rows d n.0) table n.2 in
-    let rows = after (optional (codes "rows") [] (rows_of cs.0) d) (λ rs. Ok (record { name = n.0; columns = cs.0; rows = rs })) table cs.2 in
+    let a = after (object_with (codes "name" ∷ codes "columns" ∷ codes "rows" ∷ []) d) (λ ms. required (codes "name") ms >>= from_name taken ms) table h in
+    let ms = a.0 in
+    let b = after (required (codes "name") ms) (from_name taken ms) table a.2 in
+    let c = after (required (codes "columns") ms) (with_name taken ms b.0) table b.2 in
+    let n = after (within (codes "name") (new_name taken b.0)) (with_columns ms c.0) table c.2 in
+    let cs = after (within (codes "columns") (columns_of c.0)) (with_rows ms n.0) table n.2 in
+    let rows = after (optional (codes "rows") [] (rows_of cs.0) ms) (λ rs. Ok (record { name = n.0; columns = cs.0; rows = rs })) table cs.2 in
     let columns = columns_read c.0 cs.0 (within_ok (escaped (codes "columns")) (columns_of c.0) cs.0 cs.1) in
-    let are = rows_if_any cs.0 (get (codes "rows") d) rows.0 columns.0 rows.1 in
+    let are = optional_keeps (AreRows cs.0) (codes "rows") [] (rows_of cs.0) ms rows.0 (no_rows cs.0) (λ inner found one. rows_read cs.0 inner found columns.0 one) rows.1 in
     let new = new_key (name_of b.0) taken n.0 (within_ok (escaped (codes "name")) (new_name taken b.0) n.0 n.1) in
     let made : DocTable = record { name = n.0; columns = cs.0; rows = rows.0 } in
     let same : made ≡ table = ok_is made table rows.2 in subst (ReadTable taken) {x = made} same (record { new = new; keeps = built_table n.0 cs.0 rows.0 columns are })

@@ -19,9 +19,10 @@ use Rattle.svc_values.specs.Tables.{is_at, rows_at}
 use Rattle.svc_values.specs.Fitting.{is_row_of, tables_fit}
 use Rattle.table_store.specs.Stored.{AreApart}
 use Rattle.continuity_run.specs.declared.document.DocTable.{DocTable}
-use Rattle.continuity_run.specs.Documents.{is_table, have_distinct_keys}
+use Rattle.continuity_run.specs.Documents.{is_table}
+use Rattle.json_form.specs.Arrays.{have_distinct_keys}
 use Rattle.continuity_run.specs.Start.{schema_in, plain_row, rows_of_table}
-use Rattle.continuity_run.proofs.Readings.{first_true, second_true, both_true}
+use Rattle.json_form.proofs.Offered.{first_true, second_true, both_true}
 
 same_bytes : (a : List ℕ) → bytes_eq a a ≡ true
 same_bytes a = (bytes_eq-Decides a a).1 refl

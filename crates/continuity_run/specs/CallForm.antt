@@ -1,11 +1,9 @@
 -- How calls stand in a document: an array of items, each an array that begins with a word.
-use Rattle.std.specs.Prelude.{ℕ, List, [], ◌∷◌, ◌++◌, true, false, Result, Ok, Err, codes, if◌then◌else◌}
-use Rattle.std.specs.Str.{bytes_eq}
+use Rattle.std.specs.Prelude.{ℕ, List, [], ◌∷◌, ◌++◌, true, false, Result, Ok, Err, codes}
 use Rattle.serde_json.specs.Data.{Data}
-use Rattle.json_form.specs.declared.fault.DocCode.TheVariants.{Unknown, Rule}
-use Rattle.json_form.specs.Faults.{Fault, ◌>>=◌, here, within_item}
-use Rattle.json_form.specs.Values.{text_of}
-use Rattle.json_form.specs.Arrays.{array_of, each_of, fixed, item_of}
+use Rattle.json_form.specs.declared.fault.DocCode.TheVariants.{Rule}
+use Rattle.json_form.specs.Faults.{Fault, ◌>>=◌, here}
+use Rattle.json_form.specs.Arrays.{array_of, each_of, fixed, part}
 use Rattle.json_form.specs.Texts.{head_of, word_of}
 use Rattle.svc_values.specs.declared.statement.Operand.{Operand}
 use Rattle.svc_values.specs.declared.statement.Change.{Change}
@@ -20,11 +18,9 @@ use Rattle.continuity_run.specs.declared.item.Item.{Item}
 use Rattle.continuity_run.specs.declared.item.Item.TheVariants as item
 use Rattle.continuity_run.specs.declared.item.ChangeWord.{ChangeWord}
 use Rattle.continuity_run.specs.declared.item.ChangeWord.TheVariants as changeword
-use Rattle.continuity_run.specs.ValueForm.{name_of, value_of, operand_of, short}
-
--- the item at a position of an array, read; a fault is placed there
-abbrev pub part : {A : Type 0} → ℕ → (Data → Result A Fault) → Data → Result A Fault
-part at read d = item_of at d >>= λ inner. within_item at (read inner)
+use Rattle.continuity_run.specs.declared.item.ItemWord.{ItemWord}
+use Rattle.continuity_run.specs.declared.item.ItemWord.TheVariants as word
+use Rattle.continuity_run.specs.ValueForm.{name_of, value_of, operand_of, line_of}
 
 abbrev pub test_words : List (List ℕ × Test)
 test_words = (codes "eq", test.Eq) ∷ (codes "lt", test.Lt) ∷ (codes "ge", test.Ge) ∷ []
@@ -38,72 +34,72 @@ changed_by changeword.Plus operand = change.Plus operand
 
 -- ["insert",table,[operand,...]] with 1 to 8 operands
 unfoldable pub insert_of : Data → Result Item Fault
-insert_of d = fixed 3 d >>= λ _. part 1 name_of d >>= λ table. part 2 (array_of 1 8 (each_of operand_of)) d >>= λ values. Ok (item.Statement (statement.Insert table values))
+insert_of d = fixed 3 d >>= λ ds. part 1 name_of ds >>= λ table. part 2 (array_of 1 8 (each_of operand_of)) ds >>= λ values. Ok (item.Statement (statement.Insert table values))
 
 -- ["update",table,operand,column,"to" or "plus",operand]
 unfoldable pub update_of : Data → Result Item Fault
 update_of d =
-    fixed 6 d >>= λ _. part 1 name_of d >>= λ table. part 2 operand_of d >>= λ key. part 3 name_of d >>= λ column.
-    part 4 (word_of change_words) d >>= λ word. part 5 operand_of d >>= λ operand. Ok (item.Statement (statement.Update table key column (changed_by word operand)))
+    fixed 6 d >>= λ ds. part 1 name_of ds >>= λ table. part 2 operand_of ds >>= λ key. part 3 name_of ds >>= λ column.
+    part 4 (word_of change_words) ds >>= λ word. part 5 operand_of ds >>= λ operand. Ok (item.Statement (statement.Update table key column (changed_by word operand)))
 
 -- ["delete",table,operand] and ["get",table,operand]
 unfoldable pub delete_of : Data → Result Item Fault
-delete_of d = fixed 3 d >>= λ _. part 1 name_of d >>= λ table. part 2 operand_of d >>= λ key. Ok (item.Statement (statement.Delete table key))
+delete_of d = fixed 3 d >>= λ ds. part 1 name_of ds >>= λ table. part 2 operand_of ds >>= λ key. Ok (item.Statement (statement.Delete table key))
 
 unfoldable pub get_of : Data → Result Item Fault
-get_of d = fixed 3 d >>= λ _. part 1 name_of d >>= λ table. part 2 operand_of d >>= λ key. Ok (item.Statement (statement.Get table key))
+get_of d = fixed 3 d >>= λ ds. part 1 name_of ds >>= λ table. part 2 operand_of ds >>= λ key. Ok (item.Statement (statement.Get table key))
 
 -- ["select",table,column,"eq" or "lt" or "ge",operand]
 unfoldable pub select_of : Data → Result Item Fault
 select_of d =
-    fixed 5 d >>= λ _. part 1 name_of d >>= λ table. part 2 name_of d >>= λ column. part 3 (word_of test_words) d >>= λ compared. part 4 operand_of d >>= λ operand.
+    fixed 5 d >>= λ ds. part 1 name_of ds >>= λ table. part 2 name_of ds >>= λ column. part 3 (word_of test_words) ds >>= λ compared. part 4 operand_of ds >>= λ operand.
     Ok (item.Statement (statement.Select table column compared operand))
 
 -- ["count",table], ["sum",table,column] and ["show",operand]
 unfoldable pub count_of : Data → Result Item Fault
-count_of d = fixed 2 d >>= λ _. part 1 name_of d >>= λ table. Ok (item.Statement (statement.Count table))
+count_of d = fixed 2 d >>= λ ds. part 1 name_of ds >>= λ table. Ok (item.Statement (statement.Count table))
 
 unfoldable pub sum_of : Data → Result Item Fault
-sum_of d = fixed 3 d >>= λ _. part 1 name_of d >>= λ table. part 2 name_of d >>= λ column. Ok (item.Statement (statement.Sum table column))
+sum_of d = fixed 3 d >>= λ ds. part 1 name_of ds >>= λ table. part 2 name_of ds >>= λ column. Ok (item.Statement (statement.Sum table column))
 
 unfoldable pub show_of : Data → Result Item Fault
-show_of d = fixed 2 d >>= λ _. part 1 operand_of d >>= λ operand. Ok (item.Statement (statement.Show operand))
+show_of d = fixed 2 d >>= λ ds. part 1 operand_of ds >>= λ operand. Ok (item.Statement (statement.Show operand))
 
 -- ["set",name,value]
 unfoldable pub set_of : Data → Result Item Fault
-set_of d = fixed 3 d >>= λ _. part 1 name_of d >>= λ name. part 2 value_of d >>= λ x. Ok (item.Set name x)
-
--- a line of at most 64 bytes
-abbrev pub line_of : Data → Result (List ℕ) Fault
-line_of d = text_of d >>= short (λ line. line)
+set_of d = fixed 3 d >>= λ ds. part 1 name_of ds >>= λ name. part 2 value_of ds >>= λ x. Ok (item.Set name x)
 
 -- ["alter",text]
 unfoldable pub alter_of : Data → Result Item Fault
-alter_of d = fixed 2 d >>= λ _. part 1 line_of d >>= λ line. Ok (item.Alter line)
+alter_of d = fixed 2 d >>= λ ds. part 1 line_of ds >>= λ line. Ok (item.Alter line)
 
 -- ["disable"], ["rollback"] and ["commit"]
 abbrev pub alone_of : Item → Data → Result Item Fault
 alone_of one d = fixed 1 d >>= λ _. Ok one
 
--- by its first word; a word that is none of these names nothing
-abbrev pub item_by : Data → List ℕ → Result Item Fault
-item_by d word =
-    if bytes_eq word (codes "insert") then insert_of d else (
-    if bytes_eq word (codes "update") then update_of d else (
-    if bytes_eq word (codes "delete") then delete_of d else (
-    if bytes_eq word (codes "get") then get_of d else (
-    if bytes_eq word (codes "select") then select_of d else (
-    if bytes_eq word (codes "count") then count_of d else (
-    if bytes_eq word (codes "sum") then sum_of d else (
-    if bytes_eq word (codes "show") then show_of d else (
-    if bytes_eq word (codes "set") then set_of d else (
-    if bytes_eq word (codes "alter") then alter_of d else (
-    if bytes_eq word (codes "disable") then alone_of item.Disable d else (
-    if bytes_eq word (codes "rollback") then alone_of item.Rollback d else (
-    if bytes_eq word (codes "commit") then alone_of item.Commit d else Err (here Unknown)))))))))))))
+abbrev pub item_words : List (List ℕ × ItemWord)
+item_words =
+    (codes "insert", word.Insert) ∷ (codes "update", word.Update) ∷ (codes "delete", word.Delete) ∷ (codes "get", word.Get) ∷ (codes "select", word.Select) ∷ (codes "count", word.Count) ∷ (codes "sum", word.Sum) ∷ (codes "show", word.Show)
+    ∷ (codes "set", word.Set) ∷ (codes "alter", word.Alter) ∷ (codes "disable", word.Disable) ∷ (codes "rollback", word.Rollback) ∷ (codes "commit", word.Commit) ∷ []
+
+-- by the word that it begins with
+abbrev pub item_by : ItemWord → Data → Result Item Fault
+item_by word.Insert = insert_of
+item_by word.Update = update_of
+item_by word.Delete = delete_of
+item_by word.Get = get_of
+item_by word.Select = select_of
+item_by word.Count = count_of
+item_by word.Sum = sum_of
+item_by word.Show = show_of
+item_by word.Set = set_of
+item_by word.Alter = alter_of
+item_by word.Disable = alone_of item.Disable
+item_by word.Rollback = alone_of item.Rollback
+item_by word.Commit = alone_of item.Commit
 
 unfoldable pub item_read : Data → Result Item Fault
-item_read d = head_of d >>= item_by d
+item_read d = head_of item_words d >>= λ w. item_by w d
 
 -- statements, and then a commit or not; `before` are the statements so far
 abbrev pub work_of : List Statement → List Item → Result Call Fault

@@ -8,7 +8,7 @@ use Rattle.json_form.specs.declared.fault.DocCode.TheVariants.{TooLong, NotJson,
 use Rattle.json_form.specs.Faults.{Fault, ◌>>=◌, here, within}
 use Rattle.json_form.specs.Values.{items_of}
 use Rattle.json_form.specs.Objects.{object_with, required, optional}
-use Rattle.json_form.specs.Arrays.{each_after, each_of, array_of, distinct, fresh, fixed}
+use Rattle.json_form.specs.Arrays.{each_after, each_of, array_of, distinct, fresh, fixed, exact_of, part}
 use Rattle.json_form.specs.Texts.{word_of, json_at}
 use Rattle.svc_values.specs.declared.value.Value.{Value}
 use Rattle.svc_values.specs.declared.value.Kind.{Kind}
@@ -28,7 +28,7 @@ use Rattle.continuity_run.specs.declared.document.Client.{Client}
 use Rattle.continuity_run.specs.declared.document.DocTable.{DocTable}
 use Rattle.continuity_run.specs.declared.document.Document.{Document}
 use Rattle.continuity_run.specs.ValueForm.{name_of, value_of}
-use Rattle.continuity_run.specs.CallForm.{part, call_of}
+use Rattle.continuity_run.specs.CallForm.{call_of}
 
 abbrev pub kind_words : List (List ℕ × Kind)
 kind_words = (codes "int", kind.Int) ∷ (codes "text", kind.Text) ∷ (codes "bytes", kind.Bytes) ∷ []
@@ -39,7 +39,7 @@ new_name taken d = name_of d >>= λ name. fresh taken name >>= λ _. Ok name
 
 -- a pair of a new name and a kind
 unfoldable pub column_of : (List ℕ → Bool) → Data → Result Column Fault
-column_of taken d = fixed 2 d >>= λ _. part 0 (new_name taken) d >>= λ name. part 1 (word_of kind_words) d >>= λ k. Ok (record { name = name; kind = k })
+column_of taken d = fixed 2 d >>= λ ds. part 0 (new_name taken) ds >>= λ name. part 1 (word_of kind_words) ds >>= λ k. Ok (record { name = name; kind = k })
 
 -- a value of a row: the first one is the key, which is new
 abbrev pub field_of : (Value → Bool) → List Value → Data → Result Value Fault
@@ -49,13 +49,9 @@ field_of taken (first ∷ before) d = value_of d
 abbrev pub fitting : List Column → List Value → Result (List Value) Fault
 fitting columns row = if row_fits columns row then Ok row else Err (here WrongKind)
 
--- the items of an array of exactly n
-abbrev pub fixed_items : ℕ → Data → Result Items Fault
-fixed_items n d = fixed n d >>= λ _. items_of d
-
 -- as many values as there are columns, in order, and then their kinds
 unfoldable pub row_of : List Column → (Value → Bool) → Data → Result (List Value) Fault
-row_of columns taken d = fixed_items (length columns) d >>= λ ds. each_after (field_of taken) [] ds >>= fitting columns
+row_of columns taken d = exact_of (length columns) d >>= λ ds. each_after (field_of taken) [] ds >>= fitting columns
 
 abbrev pub rows_of : List Column → Data → Result (List (List Value)) Fault
 rows_of columns d = array_of 0 10000 (distinct same_value key_of (row_of columns)) d
@@ -65,10 +61,10 @@ columns_of d = array_of 1 8 (distinct bytes_eq (λ column. column.name) column_o
 
 unfoldable pub table_of : (List ℕ → Bool) → Data → Result DocTable Fault
 table_of taken d =
-    object_with (codes "name" ∷ codes "columns" ∷ codes "rows" ∷ []) d >>= λ _.
-    required (codes "name") d >>= λ name. required (codes "columns") d >>= λ columns.
+    object_with (codes "name" ∷ codes "columns" ∷ codes "rows" ∷ []) d >>= λ ms.
+    required (codes "name") ms >>= λ name. required (codes "columns") ms >>= λ columns.
     within (codes "name") (new_name taken name) >>= λ n. within (codes "columns") (columns_of columns) >>= λ cs.
-    optional (codes "rows") [] (rows_of cs) d >>= λ rows. Ok (record { name = n; columns = cs; rows = rows })
+    optional (codes "rows") [] (rows_of cs) ms >>= λ rows. Ok (record { name = n; columns = cs; rows = rows })
 
 abbrev pub tables_of : Data → Result (List DocTable) Fault
 tables_of d = array_of 0 32 (distinct bytes_eq (λ table. table.name) table_of) d
@@ -94,13 +90,13 @@ built_call_of d = call_of d >>= if_built
 
 unfoldable pub request_of : Data → Result Request Fault
 request_of d =
-    object_with (codes "calls" ∷ []) d >>= λ _. required (codes "calls") d >>= λ calls.
+    object_with (codes "calls" ∷ []) d >>= λ ms. required (codes "calls") ms >>= λ calls.
     within (codes "calls") (array_of 1 1024 (each_of built_call_of) calls) >>= λ cs. Ok (record { calls = cs })
 
 -- at most one request, and at most one client
 unfoldable pub client_of : Data → Result Client Fault
 client_of d =
-    object_with (codes "requests" ∷ []) d >>= λ _. required (codes "requests") d >>= λ requests.
+    object_with (codes "requests" ∷ []) d >>= λ ms. required (codes "requests") ms >>= λ requests.
     within (codes "requests") (array_of 0 1 (each_of request_of) requests) >>= λ rs. Ok (record { requests = rs })
 
 -- no event is built
@@ -112,9 +108,9 @@ no_event d = array_of 0 100000 (each_of event_of) d >>= λ events. Ok tt
 
 unfoldable pub document_of : Data → Result Document Fault
 document_of d =
-    object_with (codes "tables" ∷ codes "clients" ∷ codes "schedule" ∷ []) d >>= λ _. required (codes "clients") d >>= λ clients.
-    optional (codes "tables") [] tables_of d >>= λ ts. within (codes "clients") (array_of 0 1 (each_of client_of) clients) >>= λ cs.
-    optional (codes "schedule") tt no_event d >>= λ _. Ok (record { tables = ts; clients = cs })
+    object_with (codes "tables" ∷ codes "clients" ∷ codes "schedule" ∷ []) d >>= λ ms. required (codes "clients") ms >>= λ clients.
+    optional (codes "tables") [] tables_of ms >>= λ ts. within (codes "clients") (array_of 0 1 (each_of client_of) clients) >>= λ cs.
+    optional (codes "schedule") tt no_event ms >>= λ _. Ok (record { tables = ts; clients = cs })
 
 -- 8 MiB
 abbrev pub limit : ℕ

@@ -1,7 +1,8 @@
 -- What a document that was read keeps to.
-use Rattle.std.specs.Prelude.{◌≤◌, Bool, true, not, ◌&&◌, nat_le, IsTrue, List, [], ◌∷◌, length}
-use Rattle.std.specs.List.{list_all, list_any}
+use Rattle.std.specs.Prelude.{◌≤◌, Bool, ◌&&◌, nat_le, IsTrue, length}
+use Rattle.std.specs.List.{list_all}
 use Rattle.std.specs.Str.{bytes_eq}
+use Rattle.json_form.specs.Arrays.{have_distinct_keys}
 use Rattle.svc_values.specs.Kinds.{row_fits}
 use Rattle.svc_values.specs.Same.{same_value}
 use Rattle.svc_values.specs.Schemas.{is_declared, key_of}
@@ -13,11 +14,6 @@ use Rattle.continuity_run.specs.declared.document.DocTable.{DocTable}
 use Rattle.continuity_run.specs.declared.document.Document.{Document}
 use Rattle.continuity_run.specs.DocumentForm.{is_built}
 use Rattle.continuity_run.specs.Start.{schema_in}
-
--- no key stands twice
-abbrev pub have_distinct_keys : {A K : Type 0} → (K → K → Bool) → (A → K) → List A → Bool
-have_distinct_keys same key [] = true
-have_distinct_keys same key (x ∷ xs) = not (list_any (λ y. same (key y) (key x)) xs) && have_distinct_keys same key xs
 
 -- declared with columns of different names, and each row fits them and has a key of its own
 unfoldable pub is_table : DocTable → Bool

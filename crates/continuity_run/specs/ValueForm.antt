@@ -27,12 +27,16 @@ name_of d = text_of d >>= λ text. in_limits (is_name text) text
 abbrev pub short : {A : Type 0} → (List ℕ → A) → List ℕ → Result A Fault
 short make bytes = in_limits (nat_le (length bytes) 64) (make bytes)
 
+-- a text of at most 64 bytes
+abbrev pub line_of : Data → Result (List ℕ) Fault
+line_of d = text_of d >>= short (λ text. text)
+
 abbrev pub bytes_value : Data → Result Value Fault
 bytes_value d = octets_of d >>= short value.Bytes
 
 -- bytes stand as an object with the one member `hex`
 unfoldable pub bytes_object : Data → Result Value Fault
-bytes_object d = object_with (codes "hex" ∷ []) d >>= λ _. required (codes "hex") d >>= λ hex. within (codes "hex") (bytes_value hex)
+bytes_object d = object_with (codes "hex" ∷ []) d >>= λ ms. required (codes "hex") ms >>= λ hex. within (codes "hex") (bytes_value hex)
 
 abbrev pub number_or_bytes : Data → Option Num → Result Value Fault
 number_or_bytes d None = bytes_object d
@@ -40,7 +44,7 @@ number_or_bytes d (Some n) = integer_of d >>= λ z. Ok (value.Int z)
 
 abbrev pub text_or_other : Data → Option (List ℕ) → Result Value Fault
 text_or_other d None = number_or_bytes d (as_number d)
-text_or_other d (Some text) = short value.Text text
+text_or_other d (Some text) = line_of d >>= λ line. Ok (value.Text line)
 
 -- a number is an integer, a text a text, and an object bytes
 unfoldable pub value_of : Data → Result Value Fault
@@ -54,16 +58,17 @@ only_member _ = Err (here Unknown)
 abbrev pub draw_words : List (List ℕ × DrawKind)
 draw_words = (codes "clock", kind.Clock) ∷ (codes "id", kind.Id) ∷ []
 
-abbrev pub operand_named : Data → Data → List ℕ → Result Operand Fault
-operand_named d inner name =
-    if bytes_eq name (codes "hex") then (bytes_object d >>= λ x. Ok (operand.Lit x)) else (
+-- what the member of this name says
+abbrev pub operand_named : List ℕ → Data → Result Operand Fault
+operand_named name inner =
+    if bytes_eq name (codes "hex") then (within name (bytes_value inner) >>= λ x. Ok (operand.Lit x)) else (
     if bytes_eq name (codes "var") then (within name (name_of inner) >>= λ n. Ok (operand.Var n)) else (
     if bytes_eq name (codes "seq") then (within name (name_of inner) >>= λ n. Ok (operand.Draw (kind.Seq n))) else (
     if bytes_eq name (codes "draw") then (within name (word_of draw_words inner) >>= λ k. Ok (operand.Draw k)) else Err (here Unknown))))
 
 abbrev pub literal_or_named : Data → Option Members → Result Operand Fault
 literal_or_named d None = value_of d >>= λ x. Ok (operand.Lit x)
-literal_or_named d (Some ms) = only_member ms >>= λ only. operand_named d only.1 only.0
+literal_or_named d (Some ms) = only_member ms >>= λ only. operand_named only.0 only.1
 
 -- a value, or an object with one member that says where the value comes from
 unfoldable pub operand_of : Data → Result Operand Fault

@@ -13,6 +13,24 @@ pub enum Item {
     Commit,
 }
 
+/// The word that an item begins with.
+#[derive(Clone, Copy, Debug, PartialEq, Eq)]
+pub enum ItemWord {
+    Insert,
+    Update,
+    Delete,
+    Get,
+    Select,
+    Count,
+    Sum,
+    Show,
+    Set,
+    Alter,
+    Disable,
+    Rollback,
+    Commit,
+}
+
 /// How an update's operand changes its column.
 #[derive(Clone, Copy, Debug, PartialEq, Eq)]
 pub enum ChangeWord {

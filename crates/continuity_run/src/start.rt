@@ -3,7 +3,8 @@ ghost use Rattle.std.specs.Prelude.{◌≡◌, ◌++◌, ◌≤◌, IfOk, OnOk, 
 ghost use Rattle.std.specs.List.{list_all};
 ghost use Rattle.std.specs.Str.{bytes_eq};
 ghost use Rattle.table_store.specs.Given.{plain};
-ghost use Rattle.continuity_run.specs.Documents.{is_table, have_distinct_keys};
+ghost use Rattle.continuity_run.specs.Documents.{is_table};
+ghost use Rattle.json_form.specs.Arrays.{have_distinct_keys};
 ghost use Rattle.continuity_run.specs.Headline.{table_at as table_at_def};
 ghost use Rattle.continuity_run.specs.Start.{plain_row, schema_in, rows_of, start_of as start_def};
 

@@ -9,7 +9,7 @@ use Rattle.serde_json.proofs.Views.{items_len-items_view}
 use Rattle.json_form.specs.declared.fault.DocCode.TheVariants.{WrongKind, Limit}
 use Rattle.json_form.specs.Faults.{Fault, ◌>>=◌, here}
 use Rattle.json_form.specs.Values.{items_of}
-use Rattle.json_form.specs.Arrays.{in_count, counted_of, fixed}
+use Rattle.json_form.specs.Arrays.{in_count, counted_of, exactly, exact_of}
 
 -- the count is that of the values
 counted_is : (low high : ℕ) (d : Data) (vs : List Value) → items_of d ≡ Ok (items_view vs)
@@ -28,12 +28,12 @@ pub is_too_many : (low high : ℕ) (d : Data) (vs : List Value) → items_of d �
 is_too_many low high d vs e enough many =
     rw (counted_is low high d vs e, le-leb low (length vs) enough, lt-leb (length vs) high many) refl
 
-fixed_is : (n : ℕ) (d : Data) (vs : List Value) → items_of d ≡ Ok (items_view vs) → fixed n d ≡ cond (eqb (length vs) n) (Ok tt) (Err (here WrongKind))
-fixed_is n d vs e =
-    ap (λ (r : Result Items Fault). r >>= λ ds. cond (eqb (items_len ds) n) (Ok tt) (Err (here WrongKind))) e ∙ ap (λ len. cond (eqb len n) (Ok tt) (Err (here WrongKind))) (items_len-items_view vs)
+exact_is : (n : ℕ) (d : Data) (vs : List Value) → items_of d ≡ Ok (items_view vs) → exact_of n d ≡ cond (eqb (length vs) n) (Ok (items_view vs)) (Err (here WrongKind))
+exact_is n d vs e =
+    ap (λ (r : Result Items Fault). r >>= exactly n) e ∙ ap (λ len. cond (eqb len n) (Ok (items_view vs)) (Err (here WrongKind))) (items_len-items_view vs)
 
-pub is_fixed : (n : ℕ) (d : Data) (vs : List Value) → items_of d ≡ Ok (items_view vs) → length vs ≡ n → fixed n d ≡ Ok tt
-is_fixed n d vs e same = rw (fixed_is n d vs e, eq-eqb (length vs) n same) refl
+pub is_exact : (n : ℕ) (d : Data) (vs : List Value) → items_of d ≡ Ok (items_view vs) → length vs ≡ n → exact_of n d ≡ Ok (items_view vs)
+is_exact n d vs e same = rw (exact_is n d vs e, eq-eqb (length vs) n same) refl
 
-pub is_not_fixed : (n : ℕ) (d : Data) (vs : List Value) → items_of d ≡ Ok (items_view vs) → (length vs ≡ n → ⊥) → fixed n d ≡ Err (here WrongKind)
-is_not_fixed n d vs e other = rw (fixed_is n d vs e, ne_eqb (length vs) n other) refl
+pub is_not_exact : (n : ℕ) (d : Data) (vs : List Value) → items_of d ≡ Ok (items_view vs) → (length vs ≡ n → ⊥) → exact_of n d ≡ Err (here WrongKind)
+is_not_exact n d vs e other = rw (exact_is n d vs e, ne_eqb (length vs) n other) refl

@@ -1,9 +1,11 @@
 pub mod Counts
-pub mod Each
+pub mod DistinctKeys
 pub mod Failures
 pub mod Keys
 pub mod Known
 pub mod NoFloats
 pub mod Offered
+pub mod Readings
+pub mod TakenOut
 pub mod Utf8
 pub mod WrittenItems

@@ -1,6 +1,15 @@
 -- Lemmas on this crate's words that the crates above cite.
-
--- an array has the number of items that is asked for where its values have it, and else is of the wrong kind
-pub use Rattle.json_form.proofs.Counts.{is_fixed, is_not_fixed}
+use Rattle.json_form.proofs.TakenOut.{has_after, required_after, optional_after, part_after}
 -- items without a float, and one more behind them without one
 pub use Rattle.json_form.proofs.NoFloats.{none_with_item}
+-- what a reading did that gave a value, one step after the other
+pub use Rattle.json_form.proofs.Readings.{after, given, ok_is, within_ok, passed, part_read, optional_keeps, new_key}
+-- the items of an array that was read: how many, and what they keep to
+pub use Rattle.json_form.proofs.Readings.{each_keeps, each_long, ReadArray, read_array, all_push, all_read}
+-- items whose keys were new at their turns have different keys, and keep to what each of them does
+pub use Rattle.json_form.proofs.DistinctKeys.{distinct_read, distinct_all}
+-- both sides of a conjunction of tests
+pub use Rattle.json_form.proofs.Readings.{first_true, second_true, both_true}
+
+-- a member or an item that was taken out changes nothing for the others
+pub ruleset others_stay = (has_after, required_after, optional_after, part_after)

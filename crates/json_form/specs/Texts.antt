@@ -2,7 +2,7 @@
 use Rattle.std.specs.Prelude.{ℕ, List, [], ◌∷◌, length, nat_lt, if◌then◌else◌, Option, Some, None, option_and_then, Result, Ok, Err}
 use Rattle.std.specs.Str.{bytes_eq, is_utf8}
 use Rattle.serde_json.specs.Data.{Data}
-use Rattle.serde_json.specs.Find.{at, as_str}
+use Rattle.serde_json.specs.Find.{get_item, as_str}
 use Rattle.serde_json.specs.Read.{read}
 use Rattle.hex.specs.Hex.{decode_of}
 use Rattle.hex.specs.declared.error.FromHexError.{FromHexError}
@@ -19,23 +19,27 @@ chosen (pair ∷ pairs) word = if bytes_eq pair.0 word then Ok pair.1 else chose
 abbrev pub word_of : {A : Type 0} → List (List ℕ × A) → Data → Result A Fault
 word_of pairs d = text_of d >>= chosen pairs
 
--- the word, if there is one
-abbrev pub named : Option (List ℕ) → Result (List ℕ) Fault
-named None = Err (here Unknown)
-named (Some word) = Ok word
+-- what the word stands for, if there is one
+abbrev pub named : {A : Type 0} → List (List ℕ × A) → Option (List ℕ) → Result A Fault
+named pairs None = Err (here Unknown)
+named pairs (Some word) = chosen pairs word
 
--- the text that an array begins with
-abbrev pub head_of : Data → Result (List ℕ) Fault
-head_of d = items_of d >>= λ _. named (option_and_then as_str (at 0 d))
+-- what the text that an array begins with stands for
+abbrev pub head_of : {A : Type 0} → List (List ℕ × A) → Data → Result A Fault
+head_of pairs d = items_of d >>= λ ds. named pairs (option_and_then as_str (get_item 0 ds))
 
 -- what the digits spell
 abbrev pub octets_or_fault : Result (List ℕ) FromHexError → Result (List ℕ) Fault
 octets_or_fault (Ok bytes) = Ok bytes
 octets_or_fault (Err e) = Err (here BadImage)
 
--- a text of pairs of hexadecimal digits, in either case
+-- the octets that pairs of hexadecimal digits spell, in either case
+abbrev pub octets_in : List ℕ → Result (List ℕ) Fault
+octets_in text = octets_or_fault (decode_of text)
+
+-- a text of pairs of hexadecimal digits
 abbrev pub octets_of : Data → Result (List ℕ) Fault
-octets_of d = text_of d >>= λ text. octets_or_fault (decode_of text)
+octets_of d = text_of d >>= octets_in
 
 -- a reading as JSON, if there is one
 abbrev pub json_or_fault : Option Data → Result Data Fault

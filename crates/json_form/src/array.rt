@@ -1,10 +1,9 @@
-//! Arrays whose items are read each by itself, and arrays of a fixed form.
-ghost use Rattle.std.specs.Prelude.{◌≡◌, ◌≤◌, Result, List, [], length, IfOk};
+//! Arrays whose items are read each by itself.
+ghost use Rattle.std.specs.Prelude.{◌≡◌, ◌≤◌, Result, List, length, IfOk};
 ghost use Rattle.serde_json.specs.View.{view, items_view};
 ghost use Rattle.json_form.specs.Faults.{Fault, GivesBy, within};
 ghost use Rattle.json_form.specs.Values.{items_of};
-ghost use Rattle.json_form.specs.Objects.{optional};
-ghost use Rattle.json_form.specs.Arrays.{each_of, counted_of, array_of, fixed as fixed_def, item_of};
+ghost use Rattle.json_form.specs.Arrays.{each_of, counted_of, exact_of, array_of, list_of};
 
 use crate::fault::{DocCode, DocFault};
 use crate::reader::Reader;
@@ -12,25 +11,26 @@ use crate::step::within_item;
 use serde_json::Value;
 use std::alloc::Global;
 
-pub(crate) fn items_from(alloc: Global, value: &Value) -> Result<&[Value], DocFault>
-    ensures { GivesBy (λ s. items_view s.now) result (items_of (view value.now)) }
+pub(crate) fn items_from(alloc: Global, value: Value) -> Result<Vec<Value>, DocFault>
+    ensures { GivesBy (λ v. items_view v.items) result (items_of (view value)) }
 {
-    match value.as_array() {
-        Some(items) => Ok(items.as_slice()),
-        None => Err(DocFault::here(alloc, DocCode::WrongKind)),
+    match value {
+        Value::Array(items) => Ok(items),
+        Value::Null | Value::Bool(_) | Value::Number(_) | Value::String(_) | Value::Object(_) => {
+            Err(DocFault::here(alloc, DocCode::WrongKind))
+        }
     }
 }
 
 /// The items of an array that has `low` to `high` of them.
 pub(crate) fn counted(
     alloc: Global,
-    value: &Value,
+    value: Value,
     low: usize,
     high: usize,
-) -> Result<&[Value], DocFault>
-    ensures read { GivesBy (λ s. items_view s.now) result
-        (counted_of low high (view value.now)) }
-    ensures count { IfOk result (λ s. length s.now ≤ high) }
+) -> Result<Vec<Value>, DocFault>
+    ensures read { GivesBy (λ v. items_view v.items) result (counted_of low high (view value)) }
+    ensures count { IfOk result (λ v. length v.items ≤ high) }
 {
     let items = items_from(alloc, value)?;
     if items.len() < low || high < items.len() {
@@ -39,16 +39,28 @@ pub(crate) fn counted(
     Ok(items)
 }
 
+/// The items of an array that has exactly `count` of them.
+pub fn exact_from(alloc: Global, value: Value, count: usize) -> Result<Vec<Value>, DocFault>
+    ensures read { GivesBy (λ v. items_view v.items) result (exact_of count (view value)) }
+    ensures count { IfOk result (λ v. length v.items ≡ count) }
+{
+    let items = items_from(alloc, value)?;
+    if items.len() != count {
+        return Err(DocFault::here(alloc, DocCode::WrongKind));
+    }
+    Ok(items)
+}
+
 fn each<T: Drop, R: Reader<T>>(
     alloc: Global,
-    values: &[Value],
+    values: Vec<Value>,
     reader: &R,
 ) -> Result<Vec<T>, DocFault>
     ensures read { GivesBy (λ v. v.items) result
-        (each_of (R.Reader.reads reader.now) (items_view values.now)) }
-    ensures count { IfOk result (λ v. length v.items ≡ length values.now) }
+        (each_of (R.Reader.reads reader.now) (items_view values.items)) }
+    ensures count { IfOk result (λ v. length v.items ≡ length values.items) }
 {
-    let mut found = Vec::new(alloc);
+    let mut found = Vec::with_capacity(alloc, values.len())?;
     for value in values {
         let item = within_item(alloc, found.len(), reader.read(alloc, value))?;
         found.push(item)?;
@@ -59,16 +71,28 @@ fn each<T: Drop, R: Reader<T>>(
 /// The items of an array of `low` to `high`, in order.
 pub fn array_from<T: Drop, R: Reader<T>>(
     alloc: Global,
-    value: &Value,
+    value: Value,
     low: usize,
     high: usize,
     reader: &R,
 ) -> Result<Vec<T>, DocFault>
     ensures read { GivesBy (λ v. v.items) result
-        (array_of low high (each_of (R.Reader.reads reader.now)) (view value.now)) }
+        (array_of low high (each_of (R.Reader.reads reader.now)) (view value)) }
     ensures count { IfOk result (λ v. length v.items ≤ high) }
 {
     let values = counted(alloc, value, low, high)?;
+    each(alloc, values, reader)
+}
+
+/// The items of an array of any number, in order.
+pub fn list_from<T: Drop, R: Reader<T>>(
+    alloc: Global,
+    value: Value,
+    reader: &R,
+) -> Result<Vec<T>, DocFault>
+    ensures { GivesBy (λ v. v.items) result (list_of (each_of (R.Reader.reads reader.now)) (view value)) }
+{
+    let values = items_from(alloc, value)?;
     each(alloc, values, reader)
 }
 
@@ -92,53 +116,27 @@ pub(crate) fn list_within<T>(
 pub fn array_at<T: Drop, R: Reader<T>>(
     alloc: Global,
     name: &str,
-    member: &Value,
+    member: Value,
     low: usize,
     high: usize,
     reader: &R,
 ) -> Result<Vec<T>, DocFault>
     ensures read { GivesBy (λ v. v.items) result (within name.now
-        (array_of low high (each_of (R.Reader.reads reader.now)) (view member.now))) }
+        (array_of low high (each_of (R.Reader.reads reader.now)) (view member))) }
     ensures count { IfOk result (λ v. length v.items ≤ high) }
 {
     list_within(alloc, name, array_from(alloc, member, low, high, reader))
 }
 
-/// The items of an array in a member that may be missing: none where it is.
-pub fn array_or_none<T: Drop, R: Reader<T>>(
+/// The items of an array in a member with this name, as `list_from` reads them.
+pub fn list_at<T: Drop, R: Reader<T>>(
     alloc: Global,
-    value: &Value,
     name: &str,
-    low: usize,
-    high: usize,
+    member: Value,
     reader: &R,
 ) -> Result<Vec<T>, DocFault>
-    ensures read { GivesBy (λ v. v.items) result (optional name.now []
-        (array_of low high (each_of (R.Reader.reads reader.now))) (view value.now)) }
-    ensures count { IfOk result (λ v. length v.items ≤ high) }
+    ensures { GivesBy (λ v. v.items) result
+        (within name.now (list_of (each_of (R.Reader.reads reader.now)) (view member))) }
 {
-    match value.get(name) {
-        Some(member) => array_at(alloc, name, member, low, high, reader),
-        None => Ok(Vec::new(alloc)),
-    }
-}
-
-/// The value is an array of exactly `count` items.
-pub fn fixed(alloc: Global, value: &Value, count: usize) -> Result<(), DocFault>
-    ensures { GivesBy (λ _. tt) result (fixed_def count (view value.now)) }
-{
-    if items_from(alloc, value)?.len() != count {
-        return Err(DocFault::here(alloc, DocCode::WrongKind));
-    }
-    Ok(())
-}
-
-/// The item at a position of an array.
-pub fn item(alloc: Global, value: &Value, at: usize) -> Result<&Value, DocFault>
-    ensures { GivesBy (λ v. view v.now) result (item_of at (view value.now)) }
-{
-    match value.get(at) {
-        Some(found) => Ok(found),
-        None => Err(DocFault::here(alloc, DocCode::WrongKind)),
-    }
+    list_within(alloc, name, list_from(alloc, member, reader))
 }

@@ -2,10 +2,9 @@
 ghost use Rattle.std.specs.Prelude.{◌≡◌, map, ◌≤◌, Result, List, length, IfOk, IfErr, OnOk, OnErr, [], ◌||◌, false};
 ghost use Rattle.serde_json.specs.View.{view, items_view};
 ghost use Rattle.json_form.specs.Faults.{Fault, Gives, GivesBy, within, within_item as within_item_def};
-ghost use Rattle.json_form.specs.Objects.{optional};
-ghost use Rattle.json_form.specs.Arrays.{distinct, array_of, is_key};
+ghost use Rattle.json_form.specs.Arrays.{distinct, array_of, list_of, is_key};
 
-use crate::array::{counted, list_within};
+use crate::array::{counted, items_from, list_within};
 use crate::fault::{DocCode, DocFault};
 use crate::step::within_item;
 use serde_json::Value;
@@ -75,36 +74,36 @@ pub trait KeyedReader<T> {
         ensures refused { IfErr result (λ e. e ≡ NoMemory) };
 
     /// What the value is read as after items with these keys, or the first fault.
-    fn read(&self, alloc: Global, taken: &Taken<Self::Key>, value: &Value) -> Result<T, DocFault>
+    fn read(&self, alloc: Global, taken: &Taken<Self::Key>, value: Value) -> Result<T, DocFault>
         ensures { Gives result
-            (reads self.now (is_key Self.Key.eq taken.now) (view value.now)) };
+            (reads self.now (is_key Self.Key.eq taken.now) (view value)) };
 }
 
 /// What the value is read as after the items found.
 fn next_distinct<T, R: KeyedReader<T>>(
     alloc: Global,
-    value: &Value,
+    value: Value,
     reader: &R,
     found: &[T],
     taken: &Taken<R::Key>,
 ) -> Result<T, DocFault>
     requires { (k : R.Key) → is_key R.Key.eq taken.now k ≡ is_key R.Key.eq (map R.KeyedReader.key_of found.now) k }
     ensures { Gives result (within_item_def (length found.now)
-        (R.KeyedReader.reads reader.now (is_key R.Key.eq (map R.KeyedReader.key_of found.now)) (view value.now))) }
+        (R.KeyedReader.reads reader.now (is_key R.Key.eq (map R.KeyedReader.key_of found.now)) (view value))) }
 {
     within_item(alloc, found.len(), reader.read(alloc, taken, value))
 }
 
 fn each_distinct<T: Drop, R: KeyedReader<T>>(
     alloc: Global,
-    values: &[Value],
+    values: Vec<Value>,
     reader: &R,
 ) -> Result<Vec<T>, DocFault>
     ensures read { GivesBy (λ v. v.items) result
-        (distinct R.Key.eq R.KeyedReader.key_of (R.KeyedReader.reads reader.now) (items_view values.now)) }
-    ensures count { IfOk result (λ v. length v.items ≡ length values.now) }
+        (distinct R.Key.eq R.KeyedReader.key_of (R.KeyedReader.reads reader.now) (items_view values.items)) }
+    ensures count { IfOk result (λ v. length v.items ≡ length values.items) }
 {
-    let mut found = Vec::new(alloc);
+    let mut found = Vec::with_capacity(alloc, values.len())?;
     let mut taken = Taken::new(alloc);
     for value in values {
         let item = next_distinct(alloc, value, reader, found.as_slice(), &taken)?;
@@ -118,13 +117,13 @@ fn each_distinct<T: Drop, R: KeyedReader<T>>(
 /// items the cost is n log n comparisons of keys and a key for each item.
 pub fn distinct_from<T: Drop, R: KeyedReader<T>>(
     alloc: Global,
-    value: &Value,
+    value: Value,
     low: usize,
     high: usize,
     reader: &R,
 ) -> Result<Vec<T>, DocFault>
     ensures read { GivesBy (λ v. v.items) result
-        (array_of low high (distinct R.Key.eq R.KeyedReader.key_of (R.KeyedReader.reads reader.now)) (view value.now)) }
+        (array_of low high (distinct R.Key.eq R.KeyedReader.key_of (R.KeyedReader.reads reader.now)) (view value)) }
     ensures count { IfOk result (λ v. length v.items ≤ high) }
 {
     let values = counted(alloc, value, low, high)?;
@@ -135,33 +134,27 @@ pub fn distinct_from<T: Drop, R: KeyedReader<T>>(
 pub fn distinct_at<T: Drop, R: KeyedReader<T>>(
     alloc: Global,
     name: &str,
-    member: &Value,
+    member: Value,
     low: usize,
     high: usize,
     reader: &R,
 ) -> Result<Vec<T>, DocFault>
     ensures read { GivesBy (λ v. v.items) result (within name.now (array_of low high
-        (distinct R.Key.eq R.KeyedReader.key_of (R.KeyedReader.reads reader.now)) (view member.now))) }
+        (distinct R.Key.eq R.KeyedReader.key_of (R.KeyedReader.reads reader.now)) (view member))) }
     ensures count { IfOk result (λ v. length v.items ≤ high) }
 {
     list_within(alloc, name, distinct_from(alloc, member, low, high, reader))
 }
 
-/// The items of an array in a member that may be missing: none where it is.
-pub fn distinct_or_none<T: Drop, R: KeyedReader<T>>(
+/// The items of an array of any number, as `distinct_from` reads them.
+pub fn distinct_list<T: Drop, R: KeyedReader<T>>(
     alloc: Global,
-    value: &Value,
-    name: &str,
-    low: usize,
-    high: usize,
+    value: Value,
     reader: &R,
 ) -> Result<Vec<T>, DocFault>
-    ensures read { GivesBy (λ v. v.items) result (optional name.now [] (array_of low high
-        (distinct R.Key.eq R.KeyedReader.key_of (R.KeyedReader.reads reader.now))) (view value.now)) }
-    ensures count { IfOk result (λ v. length v.items ≤ high) }
+    ensures { GivesBy (λ v. v.items) result
+        (list_of (distinct R.Key.eq R.KeyedReader.key_of (R.KeyedReader.reads reader.now)) (view value)) }
 {
-    match value.get(name) {
-        Some(member) => distinct_at(alloc, name, member, low, high, reader),
-        None => Ok(Vec::new(alloc)),
-    }
+    let values = items_from(alloc, value)?;
+    each_distinct(alloc, values, reader)
 }

@@ -5,7 +5,7 @@ ghost use Rattle.std.specs.Str.{bytes_eq};
 ghost use Rattle.serde_json.specs.View.{view, members_view};
 ghost use Rattle.json_form.specs.Faults.{Gives, GivesBy};
 ghost use Rattle.json_form.specs.Values.{members_of};
-ghost use Rattle.json_form.specs.Objects.{known as known_def, object_with as object_with_def, required as required_def, optional as optional_def};
+ghost use Rattle.json_form.specs.Objects.{known as known_def, object_with as object_with_def, members_at};
 
 use crate::fault::{DocCode, DocFault};
 use crate::reader::Reader;
@@ -13,12 +13,20 @@ use crate::step::within;
 use serde_json::{Map, Value};
 use std::alloc::Global;
 
-fn members_from(alloc: Global, value: &Value) -> Result<&Map<String, Value>, DocFault>
-    ensures { GivesBy (λ m. members_view m.now.entries) result (members_of (view value.now)) }
+/// The members of an object, each of which is taken out once. Clauses see what stands at each name.
+#[derive(Drop)]
+pub struct Members {
+    pub map: Map<String, Value>,
+}
+
+fn members_from(alloc: Global, value: Value) -> Result<Map<String, Value>, DocFault>
+    ensures { GivesBy (λ m. members_view m.entries) result (members_of (view value)) }
 {
-    match value.as_object() {
-        Some(members) => Ok(members),
-        None => Err(DocFault::here(alloc, DocCode::WrongKind)),
+    match value {
+        Value::Object(members) => Ok(members),
+        Value::Null | Value::Bool(_) | Value::Number(_) | Value::String(_) | Value::Array(_) => {
+            Err(DocFault::here(alloc, DocCode::WrongKind))
+        }
     }
 }
 
@@ -41,39 +49,64 @@ fn known(alloc: Global, members: &Map<String, Value>, names: &[&str]) -> Result<
     Ok(())
 }
 
-/// The value is an object, and each of its members is one of those named. The cost is the number of
-/// members times the number of names.
-pub fn object_with(alloc: Global, value: &Value, names: &[&str]) -> Result<(), DocFault>
-    ensures { GivesBy (λ _. tt) result
-        (object_with_def (map (λ n. n.now) names.now) (view value.now)) }
+/// The members of an object that has none but those named. The cost is the number of members times the
+/// number of names.
+pub fn object_with(alloc: Global, value: Value, names: &[&str]) -> Result<Members, DocFault>
+    ensures { GivesBy members_at result (object_with_def (map (λ n. n.now) names.now) (view value)) }
 {
-    let members = members_from(alloc, value)?;
-    known(alloc, members, names)
+    let map = members_from(alloc, value)?;
+    known(alloc, &map, names)?;
+    Ok(Members { map })
 }
 
-/// A member that has to be there. An array or a text has no member.
-pub fn required<'v>(alloc: Global, value: &'v Value, name: &str) -> Result<&'v Value, DocFault>
-    ensures { GivesBy (λ v. view v.now) result (required_def name.now (view value.now)) }
-{
-    match value.get(name) {
-        Some(member) => Ok(member),
-        None => Err(DocFault::at_member(alloc, name, DocCode::Missing)),
+impl Members {
+    ghost use Rattle.std.specs.Prelude.{option_map};
+    ghost use Rattle.json_form.specs.Objects.{has as has_def, without, required as required_def, optional as optional_def};
+
+    /// Whether there is a member with this name.
+    #[tactic(auto, unfolding(crate::specs::Objects::has))]
+    pub fn has(&self, name: &str) -> bool
+        ensures { result ≡ has_def name.now (members_at self.now) }
+    {
+        self.map.get(name).is_some()
     }
-}
 
-/// A member that may be missing, which then stands for `otherwise`.
-pub fn optional<T: Drop, R: Reader<T>>(
-    alloc: Global,
-    value: &Value,
-    name: &str,
-    reader: &R,
-    otherwise: T,
-) -> Result<T, DocFault>
-    ensures { Gives result
-        (optional_def name.now otherwise (R.Reader.reads reader.now) (view value.now)) }
-{
-    match value.get(name) {
-        Some(member) => within(alloc, name, reader.read(alloc, member)),
-        None => Ok(otherwise),
+    /// The member with this name, which is not there from then on.
+    pub fn take(&mut self, name: &str) -> Option<Value>
+        ensures taken { option_map view result ≡ members_at self.old name.now }
+        ensures left { members_at self.new ≡ without name.now (members_at self.old) }
+    {
+        self.map.remove(name)
+    }
+
+    /// A member that has to be there, taken out.
+    #[tactic(auto, unfolding(crate::specs::Objects::required))]
+    pub fn required(&mut self, alloc: Global, name: &str) -> Result<Value, DocFault>
+        ensures read { GivesBy view result (required_def name.now (members_at self.old)) }
+        ensures left { members_at self.new ≡ without name.now (members_at self.old) }
+    {
+        match self.take(name) {
+            Some(member) => Ok(member),
+            None => Err(DocFault::at_member(alloc, name, DocCode::Missing)),
+        }
+    }
+
+    /// A member that may be missing, taken out and read. Where it is missing, `otherwise` stands for it.
+    #[tactic(auto, unfolding(crate::specs::Objects::optional))]
+    pub fn optional<T: Drop, R: Reader<T>>(
+        &mut self,
+        alloc: Global,
+        name: &str,
+        reader: &R,
+        otherwise: T,
+    ) -> Result<T, DocFault>
+        ensures read { Gives result
+            (optional_def name.now otherwise (R.Reader.reads reader.now) (members_at self.old)) }
+        ensures left { members_at self.new ≡ without name.now (members_at self.old) }
+    {
+        match self.take(name) {
+            Some(member) => within(alloc, name, reader.read(alloc, member)),
+            None => Ok(otherwise),
+        }
     }
 }

@@ -1,5 +1,5 @@
 //! Readers of values, and those of numbers and bools.
-ghost use Rattle.std.specs.Prelude.{◌≡◌, Result};
+ghost use Rattle.std.specs.Prelude.{◌≡◌, ◌≤◌, Result, IfOk};
 ghost use Rattle.serde_json.specs.Data.{Data};
 ghost use Rattle.serde_json.specs.View.{view};
 ghost use Rattle.json_form.specs.Faults.{Fault, Gives};
@@ -9,13 +9,14 @@ use crate::fault::{DocCode, DocFault};
 use serde_json::{Number, Value};
 use std::alloc::Global;
 
-/// Reads a `T` from a JSON value. The reader is a unit struct, or holds a setting.
+/// Reads a `T` from a JSON value, whose texts are moved into it. The reader is a unit struct, or holds
+/// a setting.
 pub trait Reader<T> {
     ghost reads: { Self → Data → Result T Fault };
 
     /// What the value is read as, or the first fault.
-    fn read(&self, alloc: Global, value: &Value) -> Result<T, DocFault>
-        ensures { Gives result (reads self.now (view value.now)) };
+    fn read(&self, alloc: Global, value: Value) -> Result<T, DocFault>
+        ensures { Gives result (reads self.now (view value)) };
 }
 
 /// Reads a whole number from `low` to `high`.
@@ -25,11 +26,22 @@ pub struct Whole {
     pub high: u64,
 }
 
+impl Whole {
+    pub fn new(low: u64, high: u64) -> Whole
+        ensures { result ≡ record { low = low; high = high } }
+    {
+        Whole { low, high }
+    }
+}
+
 impl Reader<u64> for Whole {
     ghost reads = { λ s. whole_of s.low s.high };
 
     #[tactic(auto, unfolding(crate::specs::Values::whole_of))]
-    fn read(&self, alloc: Global, value: &Value) -> Result<u64, DocFault> {
+    fn read(&self, alloc: Global, value: Value) -> Result<u64, DocFault>
+        ensures read { Gives result (whole_of self.now.low self.now.high (view value)) }
+        ensures most { IfOk result (λ number. number ≤ self.now.high) }
+    {
         let Whole { low, high } = *self;
         let Some(number) = value.as_number().and_then(Number::as_i128) else {
             return Err(DocFault::here(alloc, DocCode::WrongKind));
@@ -55,7 +67,7 @@ impl Reader<i64> for Integer {
     ghost reads = { λ s. integer_of };
 
     #[tactic(auto, unfolding(crate::specs::Values::integer_of))]
-    fn read(&self, alloc: Global, value: &Value) -> Result<i64, DocFault> {
+    fn read(&self, alloc: Global, value: Value) -> Result<i64, DocFault> {
         let Some(number) = value.as_number().and_then(Number::as_i128) else {
             return Err(DocFault::here(alloc, DocCode::WrongKind));
         };
@@ -73,7 +85,7 @@ pub struct Flag;
 impl Reader<bool> for Flag {
     ghost reads = { λ s. bool_of };
 
-    fn read(&self, alloc: Global, value: &Value) -> Result<bool, DocFault> {
+    fn read(&self, alloc: Global, value: Value) -> Result<bool, DocFault> {
         match value.as_bool() {
             Some(flag) => Ok(flag),
             None => Err(DocFault::here(alloc, DocCode::WrongKind)),

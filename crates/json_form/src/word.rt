@@ -1,22 +1,23 @@
 //! Texts and fixed words.
-ghost use Rattle.std.specs.Prelude.{◌≡◌, map};
+ghost use Rattle.std.specs.Prelude.{◌≡◌, map, string_bytes};
 ghost use Rattle.serde_json.specs.View.{view};
 ghost use Rattle.json_form.specs.Faults.{Gives, GivesBy};
 ghost use Rattle.json_form.specs.Values.{text_of};
 ghost use Rattle.json_form.specs.Texts.{chosen as chosen_def, word_of, head_of};
 
-use crate::array::items_from;
 use crate::fault::{DocCode, DocFault};
 use serde_json::Value;
 use std::alloc::Global;
 
 /// A text.
-pub fn text_from(alloc: Global, value: &Value) -> Result<&str, DocFault>
-    ensures { GivesBy (λ s. s.now) result (text_of (view value.now)) }
+pub fn text_from(alloc: Global, value: Value) -> Result<String, DocFault>
+    ensures { GivesBy string_bytes result (text_of (view value)) }
 {
-    match value.as_str() {
-        Some(text) => Ok(text),
-        None => Err(DocFault::here(alloc, DocCode::WrongKind)),
+    match value {
+        Value::String(text) => Ok(text),
+        Value::Null | Value::Bool(_) | Value::Number(_) | Value::Array(_) | Value::Object(_) => {
+            Err(DocFault::here(alloc, DocCode::WrongKind))
+        }
     }
 }
 
@@ -33,21 +34,24 @@ pub fn chosen<T: Copy>(alloc: Global, word: &str, table: &[(&str, T)]) -> Result
 }
 
 /// What a text stands for that is one of the words of a table.
-pub fn word_from<T: Copy>(alloc: Global, value: &Value, table: &[(&str, T)]) -> Result<T, DocFault>
-    ensures { Gives result
-        (word_of (map (λ pair. (pair.0.now, pair.1)) table.now) (view value.now)) }
+pub fn word_from<T: Copy>(alloc: Global, value: Value, table: &[(&str, T)]) -> Result<T, DocFault>
+    ensures { Gives result (word_of (map (λ pair. (pair.0.now, pair.1)) table.now) (view value)) }
 {
     let word = text_from(alloc, value)?;
-    chosen(alloc, word, table)
+    chosen(alloc, word.as_str(), table)
 }
 
-/// The text that an array begins with. An array that begins with none names nothing.
-pub fn head_from(alloc: Global, value: &Value) -> Result<&str, DocFault>
-    ensures { GivesBy (λ s. s.now) result (head_of (view value.now)) }
+/// What the text that an array begins with stands for in a table. An array that begins with none names
+/// nothing.
+pub fn head_from<T: Copy>(alloc: Global, value: &Value, table: &[(&str, T)]) -> Result<T, DocFault>
+    ensures { Gives result
+        (head_of (map (λ pair. (pair.0.now, pair.1)) table.now) (view value.now)) }
 {
-    items_from(alloc, value)?;
-    match value.get(0usize).and_then(Value::as_str) {
-        Some(word) => Ok(word),
+    let Some(items) = value.as_array() else {
+        return Err(DocFault::here(alloc, DocCode::WrongKind));
+    };
+    match items.first().and_then(Value::as_str) {
+        Some(word) => chosen(alloc, word, table),
         None => Err(DocFault::here(alloc, DocCode::Unknown)),
     }
 }

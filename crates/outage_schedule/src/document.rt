@@ -3,7 +3,7 @@ ghost use Rattle.std.specs.Prelude.{◌≡◌, IfOk};
 
 use crate::event::{Calls, Events};
 use std::alloc::Global;
-use svc_values::{Columns, Listed, Name, Names, NoMemory, Row, Settings, TryCopy};
+use svc_values::{Columns, Listed, Name, NoMemory, Row, Settings, TryCopy};
 
 /// What a driver does at an outage: it replays by the boundaries that the consistency gives, or
 /// nothing, or it replays by boundaries that it finds itself.
@@ -60,13 +60,16 @@ pub struct ServiceOf {
 /// Rows of a table, without a limit.
 pub type DocRows = Listed<Row>;
 
+/// Columns by which the rows of a table are indexed, without a limit.
+pub type IndexColumns = Listed<Name>;
+
 /// A table with the rows that it begins with, and the columns by which its rows are indexed.
 #[derive(Drop)]
 pub struct DocTable {
     pub name: Name,
     pub columns: Columns,
     pub rows: DocRows,
-    pub index: Names,
+    pub index: IndexColumns,
 }
 
 /// Tables in the order of the document, without a limit.

@@ -11,7 +11,7 @@ mod request;
 
 pub use document::{
     Client, Clients, Consistency, DocRows, DocSequence, DocSequences, DocTable, DocTables,
-    Document, Failover, Image, KeepOf, PoolOf, Request, Requests, ServiceOf,
+    Document, Failover, Image, IndexColumns, KeepOf, PoolOf, Request, Requests, ServiceOf,
 };
 pub use event::{Calls, Event, Events};
 pub use failure::{Failure, Reason};

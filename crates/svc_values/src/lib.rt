@@ -28,7 +28,8 @@ pub use frame::{Ahead, Down, Up};
 pub use list::{Limited, ListFault, Listed, copies};
 pub use memory::{NoMemory, TryCopy};
 pub use schema::{
-    Column, Columns, Names, Schema, SchemaFault, Schemas, Shape, has_name, schema_of, values_fit,
+    Column, Columns, Names, Schema, SchemaFault, Schemas, Shape, has_column, has_name, schema_of,
+    values_fit,
 };
 pub use settings::Settings;
 pub use statement::{Change, Operand, Operands, Statement, Statements, Test, value_meets};

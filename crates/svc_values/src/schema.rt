@@ -51,8 +51,8 @@ pub enum SchemaFault {
     SameName,
 }
 
-/// Whether a column has this name.
-fn has_column(columns: &[Column], name: &Name) -> bool
+/// Whether a column has this name. Linear in the columns.
+pub fn has_column(columns: &[Column], name: &Name) -> bool
     ensures { result ≡ has_column_def columns.now name.now }
 {
     columns.iter().any(|column| column.name == *name)

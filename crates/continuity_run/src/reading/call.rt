@@ -75,8 +75,8 @@ fn call_of_items(alloc: Global, mut items: Vec<Item>) -> Result<Call, DocFault>
 }
 
 #[tactic(auto, unfolding(crate::specs::CallForm::call_of))]
-fn call_from(alloc: Global, value: &Json) -> Result<Call, DocFault>
-    ensures { Gives result (call_of (view value.now)) }
+fn call_from(alloc: Global, value: Json) -> Result<Call, DocFault>
+    ensures { Gives result (call_of (view value)) }
 {
     let items = array_from(alloc, value, 1, 8, &ItemReader)?;
     call_of_items(alloc, items)
@@ -135,7 +135,7 @@ impl Reader<Call> for CallReader {
     ghost reads = { λ s. built_call_of };
 
     #[tactic(auto, unfolding(crate::specs::DocumentForm::built_call_of))]
-    fn read(&self, alloc: Global, value: &Json) -> Result<Call, DocFault> {
+    fn read(&self, alloc: Global, value: Json) -> Result<Call, DocFault> {
         let call = call_from(alloc, value)?;
         if !is_built(&call) {
             return Err(DocFault::here(alloc, DocCode::NotBuilt));

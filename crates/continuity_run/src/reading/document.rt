@@ -2,16 +2,13 @@
 ghost use Rattle.std.specs.Prelude.{◌≡◌, IfOk};
 ghost use Rattle.serde_json.specs.View.{view};
 ghost use Rattle.json_form.specs.Faults.{Gives};
-ghost use Rattle.continuity_run.specs.DocumentForm.{tables_of, request_of, client_of, event_of, no_event, document_of, narrowed_code as narrowed_code_def, placed_document_at, document_at};
+ghost use Rattle.continuity_run.specs.DocumentForm.{request_of, client_of, event_of, no_event, document_of, narrowed_code as narrowed_code_def, placed_document_at, document_at};
 ghost use Rattle.continuity_run.specs.Documents.{IsDocument};
 
-use crate::document::{Client, DocTables, Document, Request};
+use crate::document::{Client, Document, Request};
 use crate::reading::call::CallReader;
-use crate::reading::table::TableReader;
-use json_form::{
-    DocCode, DocFault, Reader, array_at, array_from, distinct_or_none, json_from, object_with,
-    optional, required,
-};
+use crate::reading::table::TablesReader;
+use json_form::{DocCode, DocFault, Reader, array_at, array_from, json_from, object_with};
 use serde_json::Value as Json;
 use std::alloc::Global;
 use svc_values::Listed;
@@ -25,9 +22,9 @@ impl Reader<Request> for RequestReader {
     ghost reads = { λ s. request_of };
 
     #[tactic(auto, unfolding(crate::specs::DocumentForm::request_of))]
-    fn read(&self, alloc: Global, value: &Json) -> Result<Request, DocFault> {
-        object_with(alloc, value, &["calls"])?;
-        let calls = required(alloc, value, "calls")?;
+    fn read(&self, alloc: Global, value: Json) -> Result<Request, DocFault> {
+        let mut members = object_with(alloc, value, &["calls"])?;
+        let calls = members.required(alloc, "calls")?;
         let calls = array_at(alloc, "calls", calls, 1, 1024, &CallReader)?;
         Ok(Request {
             calls: Listed::from_vec(calls),
@@ -41,9 +38,9 @@ impl Reader<Client> for ClientReader {
     ghost reads = { λ s. client_of };
 
     #[tactic(auto, unfolding(crate::specs::DocumentForm::client_of))]
-    fn read(&self, alloc: Global, value: &Json) -> Result<Client, DocFault> {
-        object_with(alloc, value, &["requests"])?;
-        let requests = required(alloc, value, "requests")?;
+    fn read(&self, alloc: Global, value: Json) -> Result<Client, DocFault> {
+        let mut members = object_with(alloc, value, &["requests"])?;
+        let requests = members.required(alloc, "requests")?;
         let requests = array_at(alloc, "requests", requests, 0, 1, &RequestReader)?;
         Ok(Client {
             requests: Listed::from_vec(requests),
@@ -57,7 +54,7 @@ struct EventReader;
 impl Reader<()> for EventReader {
     ghost reads = { λ s. event_of };
 
-    fn read(&self, alloc: Global, _value: &Json) -> Result<(), DocFault> {
+    fn read(&self, alloc: Global, _value: Json) -> Result<(), DocFault> {
         Err(DocFault::here(alloc, DocCode::NotBuilt))
     }
 }
@@ -69,23 +66,23 @@ struct ScheduleReader;
 impl Reader<()> for ScheduleReader {
     ghost reads = { λ s. no_event };
 
-    fn read(&self, alloc: Global, value: &Json) -> Result<(), DocFault> {
+    fn read(&self, alloc: Global, value: Json) -> Result<(), DocFault> {
         array_from(alloc, value, 0, 100_000, &EventReader)?;
         Ok(())
     }
 }
 
-#[tactic(auto, unfolding(crate::specs::DocumentForm::document_of))]
-fn document_from(alloc: Global, value: &Json) -> Result<Document, DocFault>
-    ensures { Gives result (document_of (view value.now)) }
+#[tactic(auto, unfolding(crate::specs::DocumentForm::document_of), using(json_form::proofs::Offered::others_stay))]
+fn document_from(alloc: Global, value: Json) -> Result<Document, DocFault>
+    ensures { Gives result (document_of (view value)) }
 {
-    object_with(alloc, value, &["tables", "clients", "schedule"])?;
-    let clients = required(alloc, value, "clients")?;
-    let tables = distinct_or_none(alloc, value, "tables", 0, 32, &TableReader)?;
+    let mut members = object_with(alloc, value, &["tables", "clients", "schedule"])?;
+    let clients = members.required(alloc, "clients")?;
+    let tables = members.optional(alloc, "tables", &TablesReader, Listed::new(alloc))?;
     let clients = array_at(alloc, "clients", clients, 0, 1, &ClientReader)?;
-    optional(alloc, value, "schedule", &ScheduleReader, ())?;
+    members.optional(alloc, "schedule", &ScheduleReader, ())?;
     Ok(Document {
-        tables: Listed::from_vec(tables),
+        tables,
         clients: Listed::from_vec(clients),
     })
 }
@@ -95,7 +92,7 @@ fn document_or_fault(alloc: Global, bytes: &[u8]) -> Result<Document, DocFault>
     ensures { Gives result (placed_document_at bytes.now) }
 {
     let value = json_from(alloc, bytes, DOCUMENT_LIMIT)?;
-    document_from(alloc, &value)
+    document_from(alloc, value)
 }
 
 /// The document that the bytes spell as JSON (RFC 8259), of at most 8 MiB. A fault that is no want of

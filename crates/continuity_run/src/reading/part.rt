@@ -1,27 +1,10 @@
-//! Items at fixed places of an array, and copies of keys.
+//! Copies of keys.
 ghost use Rattle.std.specs.Prelude.{◌≡◌, IfOk, IfErr};
-ghost use Rattle.serde_json.specs.View.{view};
-ghost use Rattle.json_form.specs.Faults.{Gives};
 ghost use Rattle.json_form.specs.declared.fault.DocFault.TheVariants.{NoMemory};
-ghost use Rattle.continuity_run.specs.CallForm.{part as part_def};
 
-use json_form::{DocFault, Reader, item, within_item};
-use serde_json::Value as Json;
+use json_form::DocFault;
 use std::alloc::Global;
 use svc_values::TryCopy;
-
-/// The item at a position of an array, read. A fault is placed there.
-pub(crate) fn part<T, R: Reader<T>>(
-    alloc: Global,
-    value: &Json,
-    at: usize,
-    reader: &R,
-) -> Result<T, DocFault>
-    ensures { Gives result (part_def at (R.Reader.reads reader.now) (view value.now)) }
-{
-    let inner = item(alloc, value, at)?;
-    within_item(alloc, at, reader.read(alloc, inner))
-}
 
 /// A copy, where there is memory.
 pub(crate) fn copied<T: TryCopy>(alloc: Global, item: &T) -> Result<T, DocFault>

@@ -1,15 +1,15 @@
 //! Readers of names, values and operands.
-ghost use Rattle.std.specs.Prelude.{◌≡◌};
+ghost use Rattle.std.specs.Prelude.{◌≡◌, string_bytes};
 ghost use Rattle.serde_json.specs.View.{view, members_view};
 ghost use Rattle.json_form.specs.Faults.{Gives, GivesBy};
-ghost use Rattle.continuity_run.specs.ValueForm.{name_of, value_of, bytes_value, bytes_object, short, only_member as only_member_def, operand_named as operand_named_def, operand_of, draw_words};
+ghost use Rattle.continuity_run.specs.ValueForm.{name_of, value_of, bytes_value, bytes_object, line_of, only_member as only_member_def, operand_named as operand_named_def, operand_of, draw_words};
 
 use json_form::{
-    DocCode, DocFault, Integer, Reader, object_with, octets_from, required, text_from, within,
+    DocCode, DocFault, Integer, Reader, object_with, octets_from, text_from, within, word_from,
 };
 use serde_json::{Map, Value as Json};
 use std::alloc::Global;
-use svc_values::{DrawKind, Name, NameFault, Octets, Operand, Text, TextFault, Value};
+use svc_values::{DrawKind, Name, Octets, Operand, Text, Value};
 
 /// Reads a name.
 pub(crate) struct NameReader;
@@ -18,45 +18,47 @@ impl Reader<Name> for NameReader {
     ghost reads = { λ s. name_of };
 
     #[tactic(auto, unfolding(crate::specs::ValueForm::name_of))]
-    fn read(&self, alloc: Global, value: &Json) -> Result<Name, DocFault> {
+    fn read(&self, alloc: Global, value: Json) -> Result<Name, DocFault> {
         let text = text_from(alloc, value)?;
-        match Name::new(alloc, text) {
+        match Name::from_string(text) {
             Ok(name) => Ok(name),
-            Err(NameFault::NoMemory) => Err(DocFault::NoMemory),
-            Err(NameFault::BadName) => Err(DocFault::here(alloc, DocCode::Limit)),
+            Err(_) => Err(DocFault::here(alloc, DocCode::Limit)),
         }
     }
 }
 
-/// A text of at most 64 bytes.
-pub(crate) fn short_text(alloc: Global, text: &str) -> Result<Text, DocFault>
-    ensures { Gives result (short (λ bytes. bytes) text.now) }
-{
-    match Text::new(alloc, text) {
-        Ok(text) => Ok(text),
-        Err(TextFault::NoMemory) => Err(DocFault::NoMemory),
-        Err(TextFault::TooLong) => Err(DocFault::here(alloc, DocCode::Limit)),
+/// Reads a text of at most 64 bytes.
+pub(crate) struct LineReader;
+
+impl Reader<Text> for LineReader {
+    ghost reads = { λ s. line_of };
+
+    fn read(&self, alloc: Global, value: Json) -> Result<Text, DocFault> {
+        let text = text_from(alloc, value)?;
+        match Text::from_string(text) {
+            Ok(text) => Ok(text),
+            Err(_) => Err(DocFault::here(alloc, DocCode::Limit)),
+        }
     }
 }
 
 /// At most 64 bytes, as hexadecimal digits.
-fn bytes_from(alloc: Global, value: &Json) -> Result<Value, DocFault>
-    ensures { Gives result (bytes_value (view value.now)) }
+fn bytes_from(alloc: Global, value: Json) -> Result<Value, DocFault>
+    ensures { Gives result (bytes_value (view value)) }
 {
     let bytes = octets_from(alloc, value)?;
-    match Octets::new(alloc, bytes.as_slice()) {
+    match Octets::from_vec(bytes) {
         Ok(bytes) => Ok(Value::Bytes(bytes)),
-        Err(TextFault::NoMemory) => Err(DocFault::NoMemory),
-        Err(TextFault::TooLong) => Err(DocFault::here(alloc, DocCode::Limit)),
+        Err(_) => Err(DocFault::here(alloc, DocCode::Limit)),
     }
 }
 
 #[tactic(auto, unfolding(crate::specs::ValueForm::bytes_object))]
-fn bytes_member(alloc: Global, value: &Json) -> Result<Value, DocFault>
-    ensures { Gives result (bytes_object (view value.now)) }
+fn bytes_member(alloc: Global, value: Json) -> Result<Value, DocFault>
+    ensures { Gives result (bytes_object (view value)) }
 {
-    object_with(alloc, value, &["hex"])?;
-    let hex = required(alloc, value, "hex")?;
+    let mut members = object_with(alloc, value, &["hex"])?;
+    let hex = members.required(alloc, "hex")?;
     within(alloc, "hex", bytes_from(alloc, hex))
 }
 
@@ -67,11 +69,11 @@ impl Reader<Value> for ValueReader {
     ghost reads = { λ s. value_of };
 
     #[tactic(auto, unfolding(crate::specs::ValueForm::value_of))]
-    fn read(&self, alloc: Global, value: &Json) -> Result<Value, DocFault> {
-        if let Some(text) = value.as_str() {
-            return Ok(Value::Text(short_text(alloc, text)?));
+    fn read(&self, alloc: Global, value: Json) -> Result<Value, DocFault> {
+        if value.is_string() {
+            return Ok(Value::Text(LineReader.read(alloc, value)?));
         }
-        if value.as_number().is_some() {
+        if value.is_number() {
             return Ok(Value::Int(Integer.read(alloc, value)?));
         }
         bytes_member(alloc, value)
@@ -79,26 +81,27 @@ impl Reader<Value> for ValueReader {
 }
 
 /// The name and the value of an object's only member.
-fn only_member(alloc: Global, members: &Map<String, Json>) -> Result<(&str, &Json), DocFault>
-    ensures { GivesBy (λ only. (only.0.now, view only.1.now)) result
-        (only_member_def (members_view members.now.entries)) }
+fn only_member(alloc: Global, members: Map<String, Json>) -> Result<(String, Json), DocFault>
+    ensures { GivesBy (λ only. (string_bytes only.0, view only.1)) result
+        (only_member_def (members_view members.entries)) }
 {
-    let mut members = members.iter();
-    let Some((name, value)) = members.next() else {
+    let mut members = members.into_iter();
+    let Some(only) = members.next() else {
         return Err(DocFault::here(alloc, DocCode::Unknown));
     };
     if members.next().is_some() {
         return Err(DocFault::here(alloc, DocCode::Unknown));
     }
-    Ok((name.as_str(), value))
+    Ok(only)
 }
 
-/// The operand that an object with one member is, by the member's name.
-fn operand_named(alloc: Global, value: &Json, name: &str, inner: &Json) -> Result<Operand, DocFault>
-    ensures { Gives result (operand_named_def (view value.now) (view inner.now) name.now) }
+/// The operand that the member of this name says.
+fn operand_named(alloc: Global, name: &str, inner: Json) -> Result<Operand, DocFault>
+    ensures { Gives result (operand_named_def name.now (view inner)) }
 {
     if name == "hex" {
-        return Ok(Operand::Lit(bytes_member(alloc, value)?));
+        let bytes = within(alloc, name, bytes_from(alloc, inner))?;
+        return Ok(Operand::Lit(bytes));
     }
     if name == "var" {
         let variable = within(alloc, name, NameReader.read(alloc, inner))?;
@@ -123,8 +126,9 @@ impl Reader<DrawKind> for DrawReader {
 
     ghost reads = { λ s. word_of draw_words };
 
-    fn read(&self, alloc: Global, value: &Json) -> Result<DrawKind, DocFault> {
-        let word = text_from(alloc, value)?;
+    fn read(&self, alloc: Global, value: Json) -> Result<DrawKind, DocFault> {
+        let text = text_from(alloc, value)?;
+        let word = text.as_str();
         if word == "clock" {
             return Ok(DrawKind::Clock);
         }
@@ -142,11 +146,13 @@ impl Reader<Operand> for OperandReader {
     ghost reads = { λ s. operand_of };
 
     #[tactic(auto, unfolding(crate::specs::ValueForm::operand_of))]
-    fn read(&self, alloc: Global, value: &Json) -> Result<Operand, DocFault> {
-        let Some(members) = value.as_object() else {
-            return Ok(Operand::Lit(ValueReader.read(alloc, value)?));
-        };
-        let (name, inner) = only_member(alloc, members)?;
-        operand_named(alloc, value, name, inner)
+    fn read(&self, alloc: Global, value: Json) -> Result<Operand, DocFault> {
+        match value {
+            Json::Object(members) => {
+                let (name, inner) = only_member(alloc, members)?;
+                operand_named(alloc, name.as_str(), inner)
+            }
+            literal => Ok(Operand::Lit(ValueReader.read(alloc, literal)?)),
+        }
     }
 }

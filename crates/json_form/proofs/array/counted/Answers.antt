@@ -1,15 +1,16 @@
+use Rattle.std.proofs.Common.{arith}
 use Rattle.serde_json.specs.View.{view}
 use Rattle.json_form.proofs.Counts.{is_counted, is_too_few, is_too_many}
 use Rattle.json_form.proofs.array.counted.Goals as goal
-use Rattle.json_form.proofs.array.counted.Goals.{then-items-low-via-then-items-low, then-items-low-via-else-items-low+then-high-items}
+use Rattle.json_form.proofs.array.counted.Goals.{then-len-low-via-then-len-low, then-len-low-via-else-len-low+then-high-len}
 
-pub returns-then-items-low-clause-read : goal.returns-then-items-low-clause-read
-returns-then-items-low-clause-read c =
-    rw c.here.ensures (elim c.then-items-low.branch [
-      | then-items-low-via-then-items-low w ↦ is_too_few c.args.low c.args.high (view c.args.value.now) c.in_ok-items.items.now c.in_ok-items.ensures w.if-items-low.true
-      | then-items-low-via-else-items-low+then-high-items w ↦ is_too_many c.args.low c.args.high (view c.args.value.now) c.in_ok-items.items.now c.in_ok-items.ensures w.if-items-low.false w.if-high-items.true
+pub returns-then-len-low-clause-read : goal.returns-then-len-low-clause-read
+returns-then-len-low-clause-read c =
+    rw c.here.ensures (elim c.then-len-low.branch [
+      | then-len-low-via-then-len-low w ↦ is_too_few c.args.low c.args.high (view c.args.value) c.in_ok-items.items.items c.in_ok-items.ensures (omega (arith, c.len.ensures, w.if-len-low.true))
+      | then-len-low-via-else-len-low+then-high-len w ↦ is_too_many c.args.low c.args.high (view c.args.value) c.in_ok-items.items.items c.in_ok-items.ensures (omega (arith, c.len.ensures, w.if-len-low.false)) (omega (arith, w.if-high-len.true))
     ])
 
 pub returns-clause-read : goal.returns-clause-read
 returns-clause-read c =
-    is_counted c.args.low c.args.high (view c.args.value.now) c.in_ok-items.items.now c.in_ok-items.ensures c.if-items-low.false c.if-high-items.false
+    is_counted c.args.low c.args.high (view c.args.value) c.in_ok-items.items.items c.in_ok-items.ensures (omega (arith, c.len.ensures, c.if-len-low.false)) (omega arith)

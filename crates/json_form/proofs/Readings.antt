@@ -1,15 +1,18 @@
 -- What a reading did that gave a value.
-use Rattle.std.proofs.Common.{◌≡◌, ◌≤◌, ℕ, ◌+◌, ◌&&◌, nat_le, List, [], ◌∷◌, ◌++◌, length, Bool, true, false, cond, Result, Ok, Err, refl, subst, ap, decimal, arith, ◌∙◌}
+use Rattle.std.proofs.Common.{◌≡◌, ◌≤◌, ℕ, ◌+◌, ◌&&◌, nat_le, List, [], ◌∷◌, ◌++◌, length, Bool, true, false, cond, Option, Some, None, Result, Ok, Err, refl, subst, ap, decimal, arith, ◌∙◌}
 use Rattle.std.proofs.lemmas.Bool.{leb-true}
 use Rattle.std.proofs.lemmas.List.{length_push}
+use Rattle.std.specs.Prelude.{⊤}
 use Rattle.std.specs.List.{list_all}
 use Rattle.std.proofs.lemmas.List.Folds.{list_all-append}
 use Rattle.serde_json.specs.Data.{Data, Items, no_items, item}
 use Rattle.serde_json.specs.Events.{items_len}
-use Rattle.json_form.specs.declared.fault.DocCode.TheVariants.{Limit}
+use Rattle.json_form.specs.declared.fault.DocCode.TheVariants.{Limit, Duplicate}
 use Rattle.json_form.specs.Faults.{Fault, ◌>>=◌, here, within_step, within_item}
-use Rattle.json_form.specs.Values.{items_of}
-use Rattle.json_form.specs.Arrays.{each_after, each_of, in_count, counted_of, array_of}
+use Rattle.json_form.specs.Values.{items_of, expected}
+use Rattle.json_form.specs.Arrays.{Placed, each_after, each_of, in_count, counted_of, array_of, part, fresh}
+use Rattle.json_form.specs.Objects.{Named, read_or, optional}
+use Rattle.json_form.specs.Pointers.{escaped}
 
 -- both readings gave a value
 pub after : {A B : Type 0} (r : Result A Fault) (f : A → Result B Fault) (y : B) → (r >>= f) ≡ Ok y → (x : A) × (r ≡ Ok x) × (f x ≡ Ok y)
@@ -87,3 +90,28 @@ all_push p xs x all one = list_all-append p xs (x ∷ []) ∙ both_true (list_al
 pub all_read : {A : Type 0} (p : A → Bool) (read : Data → Result A Fault) → ((d : Data) (x : A) → read d ≡ Ok x → p x ≡ true) → (ds : Items) (xs : List A) → each_of read ds ≡ Ok xs → list_all p xs ≡ true
 all_read p read pass ds xs h =
     each_keeps (λ (ys : List _). list_all p ys ≡ true) (λ before. read) (λ before d x all one. all_push p before x all (pass d x one)) [] ds xs refl h
+
+pub part_read : {A : Type 0} (i : ℕ) (read : Data → Result A Fault) (ds : Placed) (x : A) → part i read ds ≡ Ok x → (inner : Data) × (read inner ≡ Ok x)
+unfolding part
+part_read i read ds x h =
+    let a = after (expected (ds i)) (λ inner. within_item i (read inner)) x h in (a.0, within_ok (decimal i) (read a.0) x a.2)
+
+-- a member that may be missing keeps what its reading keeps, and what stands for it where it is missing
+read_or_keeps : {A : Type 0} (Good : A → Type 0) (name : List ℕ) (otherwise : A) (read : Data → Result A Fault) (o : Option Data) (x : A) → Good otherwise → ((d : Data) (y : A) → read d ≡ Ok y → Good y) → read_or name otherwise read o ≡ Ok x → Good x
+read_or_keeps Good name otherwise read None x good keeps h = subst Good (ok_is otherwise x h) good
+read_or_keeps Good name otherwise read (Some d) x good keeps h = keeps d x (within_ok (escaped name) (read d) x h)
+
+pub optional_keeps : {A : Type 0} (Good : A → Type 0) (name : List ℕ) (otherwise : A) (read : Data → Result A Fault) (ms : Named) (x : A) → Good otherwise → ((d : Data) (y : A) → read d ≡ Ok y → Good y) → optional name otherwise read ms ≡ Ok x → Good x
+unfolding optional
+optional_keeps Good name otherwise read ms x good keeps h = read_or_keeps Good name otherwise read (ms name) x good keeps h
+
+not_taken : (b : Bool) (u : ⊤) → cond b (Err (here Duplicate)) (Ok tt) ≡ Ok u → b ≡ false
+not_taken true u h = absurd (cc)
+not_taken false u h = refl
+
+-- a key that was tested is new
+pub new_key : {K : Type 0} (read : Result K Fault) (taken : K → Bool) (key : K) → (read >>= λ k. fresh taken k >>= λ _. Ok k) ≡ Ok key → taken key ≡ false
+new_key read taken key h =
+    let a = after read (λ k. fresh taken k >>= λ _. Ok k) key h in
+    let b = after (fresh taken a.0) (λ _. Ok a.0) key a.2 in
+    let same : key ≡ a.0 = cc in ap taken same ∙ not_taken (taken a.0) b.0 b.1

@@ -5,9 +5,8 @@ use Rattle.std.proofs.lemmas.Bool.{not-true, not_from_false}
 use Rattle.std.proofs.lemmas.List.Folds.{list_any-append}
 use Rattle.serde_json.specs.Data.{Data, Items}
 use Rattle.json_form.specs.Faults.{Fault}
-use Rattle.json_form.specs.Arrays.{is_key, distinct}
-use Rattle.continuity_run.specs.Documents.{have_distinct_keys}
-use Rattle.continuity_run.proofs.Readings.{each_keeps, first_true, second_true, both_true, all_push}
+use Rattle.json_form.specs.Arrays.{is_key, distinct, have_distinct_keys}
+use Rattle.json_form.proofs.Readings.{each_keeps, first_true, second_true, both_true, all_push}
 
 first_false : (a b : Bool) → (a || b) ≡ false → a ≡ false
 first_false false b h = refl

@@ -1,0 +1,61 @@
+//! Arrays of a fixed form.
+ghost use Rattle.std.specs.Prelude.{◌≡◌, IfOk, IfSome};
+ghost use Rattle.serde_json.specs.View.{view};
+ghost use Rattle.json_form.specs.Faults.{Gives, GivesBy};
+ghost use Rattle.json_form.specs.Arrays.{fixed as fixed_def, parts_at};
+
+use crate::array::exact_from;
+use crate::fault::{DocCode, DocFault};
+use crate::reader::Reader;
+use crate::step::within_item;
+use serde_json::Value;
+use std::alloc::Global;
+use std::mem;
+
+/// The items of an array of a fixed form, each of which is taken out once. Clauses see what stands at
+/// each position from 0.
+#[derive(Drop)]
+pub struct Parts {
+    pub items: Vec<Value>,
+}
+
+/// The items of an array of exactly `count`.
+pub fn fixed(alloc: Global, value: Value, count: usize) -> Result<Parts, DocFault>
+    ensures { GivesBy parts_at result (fixed_def count (view value)) }
+{
+    let items = exact_from(alloc, value, count)?;
+    Ok(Parts { items })
+}
+
+impl Parts {
+    ghost use Rattle.std.specs.Prelude.{option_map};
+    ghost use Rattle.json_form.specs.Arrays.{taken_at, part as part_def};
+
+    /// The item at a position, in whose place null stands from then on.
+    fn take(&mut self, at: usize) -> Option<Value>
+        ensures taken { option_map view result ≡ parts_at self.old at }
+        ensures left { IfSome result (λ _. parts_at self.new ≡ taken_at at (parts_at self.old)) }
+    {
+        match self.items.get_mut(at) {
+            Some(item) => Some(mem::replace(item, Value::Null)),
+            None => None,
+        }
+    }
+
+    /// The item at a position, taken out and read. A fault is placed there.
+    #[tactic(auto, unfolding(crate::specs::Arrays::part))]
+    pub fn read<T, R: Reader<T>>(
+        &mut self,
+        alloc: Global,
+        at: usize,
+        reader: &R,
+    ) -> Result<T, DocFault>
+        ensures read { Gives result (part_def at (R.Reader.reads reader.now) (parts_at self.old)) }
+        ensures left { IfOk result (λ _. parts_at self.new ≡ taken_at at (parts_at self.old)) }
+    {
+        match self.take(at) {
+            Some(value) => within_item(alloc, at, reader.read(alloc, value)),
+            None => Err(DocFault::here(alloc, DocCode::WrongKind)),
+        }
+    }
+}
