@@ -28,6 +28,12 @@ none_with_item [] v before here = neither _ _ here refl
 none_with_item (w ∷ ws) v before here =
     neither _ _ (first_not _ _ before) (none_with_item ws v (second_not _ _ before) here)
 
+-- nor after an item was put last, or was not for want of memory
+pub none_after_push : {E : Type 0} (result : Result ⊤ E) (v : Value) (old new : List Value) → OnOk result (new ≡ old ++ v ∷ []) → OnErr result (new ≡ old)
+    → items_have_float (items_view old) ≡ false → has_float (view v) ≡ false → items_have_float (items_view new) ≡ false
+none_after_push (Ok x) v old new ok err before here = ap (λ (vs : List Value). items_have_float (items_view vs)) ok ∙ none_with_item old v before here
+none_after_push (Err e) v old new ok err before here = ap (λ (vs : List Value). items_have_float (items_view vs)) err ∙ before
+
 pub none_with_member : (k : List ℕ) (d : Data) (ms : Members) → members_have_float ms ≡ false → has_float d ≡ false → members_have_float (put k d ms) ≡ false
 none_with_member k d no_members before here = neither _ _ here refl
 none_with_member k d (member l e ms) before here =

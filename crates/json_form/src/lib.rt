@@ -25,4 +25,4 @@ pub use pointer::Pointer;
 pub use reader::{Flag, Integer, Reader, Whole};
 pub use step::{within, within_item};
 pub use word::{chosen, head_from, text_from, word_from};
-pub use written::{ObjectWriter, Writer, Written};
+pub use written::{ArrayWriter, Mover, ObjectWriter, Writer, Written};

@@ -1,7 +1,7 @@
 //! Writing of JSON values.
-ghost use Rattle.std.specs.Prelude.{◌≡◌, IfOk, OnOk, OnErr, map, false};
-ghost use Rattle.serde_json.specs.View.{view, members_view};
-ghost use Rattle.serde_json.specs.Written.{has_float, members_have_float};
+ghost use Rattle.std.specs.Prelude.{◌≡◌, ◌∷◌, ◌++◌, [], IfOk, OnOk, OnErr, map, false, string_bytes};
+ghost use Rattle.serde_json.specs.View.{view, items_view, members_view};
+ghost use Rattle.serde_json.specs.Written.{has_float, items_have_float, members_have_float};
 
 use serde_json::{Map, Value, push, put};
 use std::alloc::{AllocError, Global};
@@ -23,6 +23,18 @@ pub trait Writer<T> {
     /// What the item is written as.
     fn write(&self, alloc: Global, item: &T) -> Result<Written, AllocError>
         ensures { IfOk result (λ w. view w.value ≡ writes self.now item.now) };
+}
+
+/// Writes a `T` as a JSON value and gives the `T` up, so that its texts are moved and nothing is held
+/// twice. The mover is a unit struct, or holds a setting.
+pub trait Mover<T> {
+    ghost use Rattle.serde_json.specs.Data.{Data};
+
+    ghost writes: { Self → T → Data };
+
+    /// What the item is written as.
+    fn write(&self, alloc: Global, item: T) -> Result<Written, AllocError>
+        ensures { IfOk result (λ w. view w.value ≡ writes self.now item) };
 }
 
 impl Written {
@@ -72,6 +84,15 @@ impl Written {
         Ok(Written { value })
     }
 
+    /// A text, which is moved. It takes no memory.
+    pub fn moved(text: String) -> Written
+        ensures { view result.value ≡ text_def (string_bytes text) }
+    {
+        Written {
+            value: Value::String(text),
+        }
+    }
+
     /// Octets as a text of two hexadecimal digits each, in lower case.
     pub fn octets(alloc: Global, octets: &[u8]) -> Result<Written, AllocError>
         ensures { IfOk result (λ w. view w.value ≡ text_def (encode_lower octets.now)) }
@@ -86,14 +107,11 @@ impl Written {
     pub fn array<const N: usize>(alloc: Global, values: [Written; N]) -> Result<Written, AllocError>
         ensures { IfOk result (λ w. view w.value ≡ list (map (λ one. view one.value) values.entry)) }
     {
-        let mut items = Vec::new(alloc);
+        let mut items = ArrayWriter::new(alloc);
         for one in Vec::from_array(alloc, values)? {
-            let Written { value } = one;
-            push(&mut items, value)?;
+            items.push(one)?;
         }
-        Ok(Written {
-            value: Value::Array(items),
-        })
+        Ok(items.written())
     }
 
     /// The array of what each item is written as. The cost is that of the items.
@@ -104,14 +122,26 @@ impl Written {
     ) -> Result<Written, AllocError>
         ensures { IfOk result (λ w. view w.value ≡ list_by (W.Writer.writes writer.now) items.now) }
     {
-        let mut values = Vec::new(alloc);
+        let mut values = ArrayWriter::new(alloc);
         for item in items {
-            let Written { value } = writer.write(alloc, item)?;
-            push(&mut values, value)?;
+            values.push(writer.write(alloc, item)?)?;
         }
-        Ok(Written {
-            value: Value::Array(values),
-        })
+        Ok(values.written())
+    }
+
+    /// The array of what each item is written as. Each item is given up before the next one is written.
+    pub fn array_from<T: Drop, M: Mover<T>>(
+        alloc: Global,
+        items: Vec<T>,
+        mover: &M,
+    ) -> Result<Written, AllocError>
+        ensures { IfOk result (λ w. view w.value ≡ list_by (M.Mover.writes mover.now) items.items) }
+    {
+        let mut values = ArrayWriter::new(alloc);
+        for item in items {
+            values.push(mover.write(alloc, item)?)?;
+        }
+        Ok(values.written())
     }
 
     /// The value's compact text (RFC 8259): no white space, and the members of each object in the
@@ -120,6 +150,47 @@ impl Written {
         ensures { IfOk result (λ v. v.items ≡ compact_text (view self.now.value)) }
     {
         self.value.to_vec(alloc)
+    }
+}
+
+/// An array that is being written.
+#[derive(Drop)]
+pub struct ArrayWriter {
+    pub items: Vec<Value>,
+    pub ghost no_float: { items_have_float (items_view items.items) ≡ false },
+}
+
+impl ArrayWriter {
+    ghost use Rattle.json_form.specs.Writing.{list};
+
+    /// An array without items. It takes no memory before the first one.
+    pub fn new(alloc: Global) -> ArrayWriter
+        ensures { map view result.items.items ≡ [] }
+    {
+        ArrayWriter {
+            items: Vec::new(alloc),
+        }
+    }
+
+    /// Puts an item last.
+    pub fn push(&mut self, item: Written) -> Result<(), AllocError>
+        ensures ok { OnOk result (map view self.new.items.items
+            ≡ map view self.old.items.items ++ view item.value ∷ []) }
+        ensures err { OnErr result (self.new.items.items ≡ self.old.items.items) }
+    {
+        let Written { value } = item;
+        push(&mut self.items, value)?;
+        Ok(())
+    }
+
+    /// The array of these items. It takes no memory.
+    pub fn written(self) -> Written
+        ensures { view result.value ≡ list (map view self.items.items) }
+    {
+        let ArrayWriter { items } = self;
+        Written {
+            value: Value::Array(items),
+        }
     }
 }
 

@@ -1,0 +1,10 @@
+pub mod Answers
+pub mod Calls
+pub mod Entries
+pub mod Failures
+pub mod Items
+pub mod Notes
+pub mod Parts
+pub mod Report
+pub mod Requests
+pub mod Values
