@@ -1,4 +1,6 @@
 //! What a driver is handed, and what it wants.
+ghost use Rattle.std.specs.Prelude.{◌≡◌};
+ghost use Rattle.client_model.specs.Conversation.{is_wanted};
 
 use svc_values::{Down, Ltxid};
 
@@ -36,4 +38,18 @@ pub enum Wants {
     Early,
     /// `Took` or `Gone`: the request has a connection.
     Frame,
+}
+
+impl Wants {
+    /// Whether this input is one that is wanted.
+    pub fn is_served_by(self, input: &Input) -> bool
+        ensures { result ≡ is_wanted self input.now }
+    {
+        match input {
+            Input::Start => matches!(self, Wants::Request),
+            Input::Waiting | Input::Lent { .. } => matches!(self, Wants::Slot),
+            Input::Opened { .. } | Input::TryFailed => matches!(self, Wants::Slot | Wants::Try),
+            Input::Took { .. } | Input::Gone { .. } => matches!(self, Wants::Frame),
+        }
+    }
 }

@@ -1,5 +1,5 @@
 -- What a driver holds, as it is seen.
-use Rattle.std.specs.Prelude.{ℕ, Bool, [], Option, None}
+use Rattle.std.specs.Prelude.{◌≤◌, ℕ, Bool, [], Option, None}
 use Rattle.std.specs.Option.{option_and_then}
 use Rattle.sha2.specs.Sha256.{sha256}
 use Rattle.canon_bytes.specs.AnswerBytes.{spell_answers}
@@ -40,6 +40,10 @@ pub record ArePast (talk : Talk) (now : ℕ) : Type 0 where
   pub tried : IsPast talk.last_try now
   pub queued : IsPast (queued_at talk.phase) now
   pub submitted : IsPast (option_and_then (λ track. track.first) (track_of talk.phase)) now
+
+-- and at no later tick is one
+abbrev pub StaysPast : Type 0
+StaysPast = (talk : Talk) (now later : ℕ) → ArePast talk now → now ≤ later → ArePast talk later
 
 -- each identifier that comes in is one
 abbrev pub HasLtxids : Input → Type 0

@@ -5,8 +5,8 @@ ghost use Rattle.svc_values.specs.Calls.{IsMade};
 ghost use Rattle.client_model.specs.Terms.{Idle, requested};
 ghost use Rattle.canon_bytes.specs.UpBytes.{IsMadeUp};
 ghost use Rattle.client_model.specs.Talk.{wants_of, talk_step};
-ghost use Rattle.client_model.specs.Conversation.{may_come, is_gone_next as is_gone_next_def};
-ghost use Rattle.driver_core.specs.Driving.{terms_of, ArePast, HasLtxids, unasked};
+ghost use Rattle.client_model.specs.Conversation.{may_come as may_come_def, is_gone as is_gone_def, is_gone_next as is_gone_next_def};
+ghost use Rattle.driver_core.specs.Driving.{terms_of, ArePast, StaysPast, HasLtxids, unasked};
 
 use crate::phase::Phase;
 use crate::request::Request;
@@ -101,6 +101,15 @@ impl<R: BoundRule + Copy> Driver<R> {
         }
     }
 
+    /// Whether this input may be handed in next, at this tick. It takes no memory.
+    pub fn may_come(&self, input: &Input, now: u64) -> bool
+        requires { ArePast self.now.talk now }
+        ensures { result ≡ may_come_def self.now.gone_next (wants_of (terms_of (R.rules self.now.rule) self.now.limits self.now.recorded) self.now.talk now) input.now }
+    {
+        let wanted = self.wants(now).is_served_by(input);
+        wanted && (is_gone(input) || !self.gone_next)
+    }
+
     /// Takes one step at this tick: what `wants` tells is handed in, and after a frame from a connection
     /// that has ended, where the request goes on, its `Gone`. Ticks don't fall. The act is what the
     /// caller has to do. After want of memory the driver may only be dropped.
@@ -108,7 +117,7 @@ impl<R: BoundRule + Copy> Driver<R> {
     /// Frames that go out are copies of what is kept, as the wire takes them. Nothing else is copied but
     /// what is shown, and the draws of a call that is recorded. Linear in what goes out and comes in.
     pub fn step(&mut self, input: &Input, now: u64) -> Result<Act, NoMemory>
-        requires wanted { IsTrue (may_come self.old.gone_next (wants_of (terms_of (R.rules self.old.rule) self.old.limits self.old.recorded) self.old.talk now) input.now) }
+        requires wanted { IsTrue (may_come_def self.old.gone_next (wants_of (terms_of (R.rules self.old.rule) self.old.limits self.old.recorded) self.old.talk now) input.now) }
         requires past { ArePast self.old.talk now }
         requires ltxids { HasLtxids input.now }
         ensures act { IfOk result (λ act. act ≡ (talk_step (terms_of (R.rules self.old.rule) self.old.limits self.old.recorded) self.old.talk input.now now).1) }
@@ -134,3 +143,15 @@ fn is_gone_next(input: &Input, hold: Hold) -> bool
 {
     matches!(input, Input::Took { alive: false, .. }) && matches!(hold, Hold::Keep)
 }
+
+/// Whether an input tells that the connection has ended.
+fn is_gone(input: &Input) -> bool
+    ensures { result ≡ is_gone_def input.now }
+{
+    matches!(input, Input::Gone { .. })
+}
+
+/// A law, with nothing to run: a tick that is not above one tick is not above a later one.
+pub fn stays_past()
+    ensures { StaysPast }
+{}

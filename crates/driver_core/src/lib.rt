@@ -20,4 +20,4 @@ mod terms;
 mod turn;
 
 pub use client_model::{Act, Failed, Frames, Hold, Input, Shown, Wants};
-pub use driver::Driver;
+pub use driver::{Driver, stays_past};

@@ -1,0 +1,364 @@
+//! Reasons against a replay, and settings that are kept or lost.
+use crate::conversation::Acts::{
+    Again, Asks, Begin, BeginSet, Call as Sends, Close, Connect, Drops, End, Fails, GivesBack,
+    Shows,
+};
+use crate::conversation::Came::{Hello, Outcome, Reply};
+use crate::conversation::Comes::{Frame, Gone, Last, Opened};
+use crate::conversation::{ASKED, Line, OPENED, Parts, goes};
+use crate::script::Does::{Alter, Commit, Count, Disable, Insert, Set, ShowSet};
+use crate::script::Says::{Committed, Done, Number};
+use auto_bounds::AutoRule;
+use driver_core::Failed::Disabled;
+use request_bounds::Why::{AfterCommit, Asked, Full, Off, Restricted, Settings, StateLost};
+use request_bounds::{DynamicRule, OffRule, StaticRule};
+
+/// The first call was shown, and the second is lost by event 7.
+const SECOND_IS_LOST: &[Line] = &[
+    (
+        0,
+        Frame(Reply(Done, (1, 1, 0))),
+        &[Sends(1), Shows(Done, (1, 1, 0))],
+    ),
+    (0, Gone(7), &[]),
+];
+
+const ALTER_WAS_SHOWN: Parts = &[
+    OPENED,
+    SECOND_IS_LOST,
+    ASKED,
+    &[(
+        0,
+        Frame(Outcome(false, false)),
+        &[
+            Close,
+            Fails(Disabled {
+                why: Restricted(0),
+                event: 7,
+            }),
+            Drops,
+        ],
+    )],
+];
+
+const ALTER_IS_LOST: Parts = &[
+    OPENED,
+    &[(0, Gone(6), &[])],
+    ASKED,
+    &[(
+        0,
+        Frame(Outcome(false, false)),
+        &[
+            Close,
+            Fails(Disabled {
+                why: Restricted(0),
+                event: 6,
+            }),
+            Drops,
+        ],
+    )],
+];
+
+const SET_WHERE_STATIC: Parts = &[
+    OPENED,
+    SECOND_IS_LOST,
+    ASKED,
+    &[(
+        0,
+        Frame(Outcome(false, false)),
+        &[
+            Close,
+            Fails(Disabled {
+                why: Settings(0),
+                event: 7,
+            }),
+            Drops,
+        ],
+    )],
+];
+
+const NOT_TO_BE_REPLAYED: Parts = &[
+    OPENED,
+    SECOND_IS_LOST,
+    ASKED,
+    &[(
+        0,
+        Frame(Outcome(false, false)),
+        &[
+            Close,
+            Fails(Disabled {
+                why: Asked(0),
+                event: 7,
+            }),
+            Drops,
+        ],
+    )],
+];
+
+const NO_REPLAY_AT_ALL: Parts = &[
+    OPENED,
+    SECOND_IS_LOST,
+    ASKED,
+    &[(
+        0,
+        Frame(Outcome(false, false)),
+        &[Close, Fails(Disabled { why: Off, event: 7 }), Drops],
+    )],
+];
+
+/// Committed and completed comes before every reason.
+const COMPLETED_ALL_THE_SAME: Parts = &[
+    OPENED,
+    SECOND_IS_LOST,
+    ASKED,
+    &[(
+        0,
+        Frame(Outcome(true, true)),
+        &[End, Shows(Committed, (1, 2, 0)), GivesBack],
+    )],
+];
+
+#[test]
+fn a_call_that_is_not_repeated(rt: HostRuntime) {
+    let alloc = rt.alloc();
+    assert!(rt; goes(&rt, alloc, DynamicRule, &[Alter, Count], ALTER_WAS_SHOWN));
+    assert!(rt; goes(&rt, alloc, DynamicRule, &[Alter, Count], ALTER_IS_LOST));
+    assert!(rt; goes(&rt, alloc, StaticRule, &[Set, Count], SET_WHERE_STATIC));
+    assert!(rt;
+        goes(
+            &rt,
+            alloc,
+            StaticRule,
+            &[Disable, Count],
+            NOT_TO_BE_REPLAYED
+        )
+    );
+    assert!(rt; goes(&rt, alloc, OffRule, &[Insert(1), Count], NO_REPLAY_AT_ALL));
+    assert!(rt;
+        goes(
+            &rt,
+            alloc,
+            OffRule,
+            &[Insert(1), Commit],
+            COMPLETED_ALL_THE_SAME
+        )
+    );
+}
+
+/// A commit was shown, and the call behind it is lost by event 9.
+const THIRD_IS_LOST: &[Line] = &[
+    (
+        0,
+        Frame(Reply(Done, (1, 1, 0))),
+        &[Sends(1), Shows(Done, (1, 1, 0))],
+    ),
+    (
+        0,
+        Frame(Reply(Committed, (1, 1, 1))),
+        &[Sends(2), Shows(Committed, (1, 1, 1))],
+    ),
+    (0, Gone(9), &[]),
+    (0, Opened, &[Connect]),
+    (0, Frame(Hello((1, 2, 0))), &[Asks((1, 1, 1))]),
+];
+
+const BEHIND_A_COMMIT: Parts = &[
+    OPENED,
+    THIRD_IS_LOST,
+    &[(
+        0,
+        Frame(Outcome(false, false)),
+        &[
+            Close,
+            Fails(Disabled {
+                why: AfterCommit,
+                event: 9,
+            }),
+            Drops,
+        ],
+    )],
+];
+
+/// Each transaction is replayed by itself.
+const SECOND_TRANSACTION: Parts = &[
+    OPENED,
+    THIRD_IS_LOST,
+    &[
+        (0, Frame(Outcome(false, false)), &[Begin, Sends(2)]),
+        (
+            0,
+            Frame(Reply(Done, (1, 2, 0))),
+            &[Sends(3), Shows(Done, (1, 2, 0))],
+        ),
+        (
+            0,
+            Frame(Reply(Committed, (1, 2, 1))),
+            &[End, Shows(Committed, (1, 2, 1)), GivesBack],
+        ),
+    ],
+];
+
+#[test]
+fn a_second_transaction(rt: HostRuntime) {
+    let alloc = rt.alloc();
+    let script = [Insert(1), Commit, Insert(2), Commit];
+    assert!(rt; goes(&rt, alloc, DynamicRule, &script, BEHIND_A_COMMIT));
+    assert!(rt; goes(&rt, alloc, StaticRule, &script, SECOND_TRANSACTION));
+    assert!(rt; goes(&rt, alloc, AutoRule, &script, SECOND_TRANSACTION));
+}
+
+/// The commit is lost behind a `set`, and is shown by its outcome.
+const COMMIT_BEHIND_A_SET: &[Line] = &[
+    (
+        0,
+        Frame(Reply(Done, (1, 1, 0))),
+        &[Sends(1), Shows(Done, (1, 1, 0))],
+    ),
+    (0, Gone(8), &[]),
+];
+
+const SETTINGS_ARE_LOST: Parts = &[
+    OPENED,
+    COMMIT_BEHIND_A_SET,
+    ASKED,
+    &[(
+        0,
+        Frame(Outcome(true, true)),
+        &[
+            Close,
+            Shows(Committed, (1, 2, 0)),
+            Fails(Disabled {
+                why: StateLost(2),
+                event: 8,
+            }),
+            Drops,
+        ],
+    )],
+];
+
+const SETTINGS_ARE_KEPT: Parts = &[
+    OPENED,
+    COMMIT_BEHIND_A_SET,
+    ASKED,
+    &[
+        (
+            0,
+            Frame(Outcome(true, true)),
+            &[BeginSet, Sends(2), Shows(Committed, (1, 2, 0))],
+        ),
+        (
+            0,
+            Frame(Reply(Number(7), (1, 2, 0))),
+            &[End, Shows(Number(7), (1, 2, 0)), GivesBack],
+        ),
+    ],
+];
+
+#[test]
+fn settings_behind_an_outcome(rt: HostRuntime) {
+    let alloc = rt.alloc();
+    let script = [Set, Commit, ShowSet];
+    assert!(rt; goes(&rt, alloc, DynamicRule, &script, SETTINGS_ARE_LOST));
+    assert!(rt; goes(&rt, alloc, AutoRule, &script, SETTINGS_ARE_KEPT));
+}
+
+/// A `set` that no purge came behind is repeated, and is not among the settings of a Begin.
+const SET_IS_REPEATED: Parts = &[
+    OPENED,
+    SECOND_IS_LOST,
+    ASKED,
+    &[(0, Frame(Outcome(false, false)), &[Begin, Again(0)])],
+];
+
+#[test]
+fn a_set_that_is_repeated(rt: HostRuntime) {
+    let script = [Set, Commit];
+    assert!(rt; goes(&rt, rt.alloc(), AutoRule, &script, SET_IS_REPEATED));
+    assert!(rt; goes(&rt, rt.alloc(), DynamicRule, &script, SET_IS_REPEATED));
+}
+
+/// Two calls are recorded, and there is place for no third.
+const TWO_CALLS: &[Line] = &[
+    (
+        0,
+        Frame(Reply(Number(0), (1, 1, 0))),
+        &[Sends(1), Shows(Number(0), (1, 1, 0))],
+    ),
+    (
+        0,
+        Frame(Reply(Number(0), (1, 1, 0))),
+        &[Sends(2), Shows(Number(0), (1, 1, 0))],
+    ),
+];
+
+const TWO_ARE_REPEATED: Parts = &[
+    OPENED,
+    TWO_CALLS,
+    &[(0, Gone(9), &[])],
+    ASKED,
+    &[
+        (0, Frame(Outcome(false, false)), &[Begin, Again(0)]),
+        (0, Frame(Reply(Number(0), (1, 2, 0))), &[Again(1)]),
+        (0, Frame(Reply(Number(0), (1, 2, 0))), &[Sends(2)]),
+    ],
+];
+
+const RECORDER_IS_FULL: Parts = &[
+    OPENED,
+    TWO_CALLS,
+    &[
+        (
+            0,
+            Frame(Reply(Number(0), (1, 1, 0))),
+            &[Sends(3), Shows(Number(0), (1, 1, 0))],
+        ),
+        (0, Gone(11), &[]),
+    ],
+    ASKED,
+    &[(
+        0,
+        Frame(Outcome(false, false)),
+        &[
+            Close,
+            Fails(Disabled {
+                why: Full(2),
+                event: 11,
+            }),
+            Drops,
+        ],
+    )],
+];
+
+#[test]
+fn a_recorder_that_is_full(rt: HostRuntime) {
+    let script = [Count, Count, Count, Count];
+    assert!(rt; goes(&rt, rt.alloc(), DynamicRule, &script, TWO_ARE_REPEATED));
+    assert!(rt; goes(&rt, rt.alloc(), DynamicRule, &script, RECORDER_IS_FULL));
+}
+
+/// The reply was the last one on its connection, so the `alter` was not submitted.
+const NOT_SUBMITTED_BEFORE: Parts = &[
+    OPENED,
+    &[
+        (
+            0,
+            Last(Reply(Committed, (1, 1, 1))),
+            &[Shows(Committed, (1, 1, 1))],
+        ),
+        (0, Gone(6), &[]),
+        (0, Opened, &[Connect]),
+        (0, Frame(Hello((1, 2, 0))), &[Asks((1, 1, 1))]),
+        (0, Frame(Outcome(false, false)), &[Begin, Sends(1)]),
+        (
+            0,
+            Frame(Reply(Done, (1, 2, 0))),
+            &[End, Shows(Done, (1, 2, 0)), GivesBack],
+        ),
+    ],
+];
+
+#[test]
+fn a_call_that_was_not_submitted_is_no_reason(rt: HostRuntime) {
+    let script = [Commit, Alter];
+    assert!(rt; goes(&rt, rt.alloc(), StaticRule, &script, NOT_SUBMITTED_BEFORE));
+}
