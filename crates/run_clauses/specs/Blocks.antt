@@ -6,7 +6,7 @@ use Rattle.svc_values.specs.Identifiers.{same_ltxid}
 use Rattle.ltxid_book.specs.Journal.{is_blocked}
 use Rattle.outage_schedule.specs.declared.item.Item.{Item}
 use Rattle.outage_schedule.specs.declared.item.Item.TheVariants as item
-use Rattle.run_clauses.specs.Moments.{Moment, Happened, ServedItem, RanOutside, Asked}
+use Rattle.run_clauses.specs.Moments.{HappenedAt, Happened, ServedItem, RanOutside, Asked}
 use Rattle.run_clauses.specs.Outcomes.{is_uncommitted}
 
 -- An identifier that was answered uncommitted, or that a crashed item carries: then it may have been blocked or not.
@@ -28,7 +28,7 @@ answered_at (Asked x result) = answered_if (is_uncommitted result) x
 answered_at (RanOutside ran) = []
 
 -- in the order of events
-abbrev pub answered_in : List Moment → List Answered
+abbrev pub answered_in : List HappenedAt → List Answered
 answered_in moments = flat_map (λ moment. answered_at moment.happened) moments
 
 -- Each identifier of `blocked` was answered uncommitted to an `outcome` item or `ask` note, or a `crashed` item that carries it stands

@@ -12,7 +12,7 @@ use Rattle.outage_schedule.specs.declared.item.Item.{Item}
 use Rattle.outage_schedule.specs.declared.item.Item.TheVariants as item
 use Rattle.outage_schedule.specs.declared.note.NoteRun.{NoteRun}
 use Rattle.outage_schedule.specs.declared.report.Report.{Report}
-use Rattle.run_clauses.specs.Moments.{Moment, Happened, ServedItem, RanOutside, Asked, moments}
+use Rattle.run_clauses.specs.Moments.{HappenedAt, Happened, ServedItem, RanOutside, Asked, moments}
 
 -- a commit that was stored: its session, and the event
 pub record Commit : Type 0 where
@@ -51,7 +51,7 @@ commits_at entries before event (RanOutside ran) = run_commits (session_of ran.l
 commits_at entries before event (Asked x told) = []
 
 -- the commits of these moments, in order, after those before them
-abbrev pub commits_from : List Entry → List Commit → List Moment → List Commit
+abbrev pub commits_from : List Entry → List Commit → List HappenedAt → List Commit
 commits_from entries before [] = []
 commits_from entries before (moment ∷ moments) =
     let here = commits_at entries before moment.event moment.happened in

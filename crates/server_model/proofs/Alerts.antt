@@ -20,7 +20,7 @@ use Rattle.server_model.specs.Core.{Core}
 use Rattle.svc_values.specs.declared.entry.SessionId.{SessionId}
 use Rattle.server_model.specs.Sessions.{Sess}
 use Rattle.svc_values.specs.Identifiers.{session_of}
-use Rattle.server_model.specs.Outcomes.{Told, Silent, Says, Stopped, Outcomes, IsTold, BlockStops, down_of, if_blocks}
+use Rattle.server_model.specs.Outcomes.{Telling, Silent, Says, Stopped, Outcomes, IsTold, BlockStops, down_of, if_blocks}
 use Rattle.server_model.specs.Serve.{Commits, InReplay, Blocks, Conflicts, Stores, StopsBefore, StopsAfter, Works, Answers as AnswersCall, Reaches, HaltsInDraw, Calls, IsWork, IsSet, IsAlter, AlterStops, AlterMarked, IsDisable, IsRollback, Serve, Connects, Begins, Ends, Closes, Asks, Runs as Serves, Refuses, with_opening}
 use Rattle.server_model.specs.Runs.{Happened, Served, Asked, Server, Turns, Moves, Makes, Answers, Halts, Loses, AnswersAsk, HaltsInAsk, Reaps, Falls, Opens, StopsOpening, Runs, Start, Then, Power}
 use Rattle.server_model.specs.Items.{thing_of, without_answer, items_from}
@@ -102,7 +102,7 @@ lines-items event (Asked x Stopped ∷ history) = lines-items (event + 1) histor
 -- ---- one frame
 
 -- what a frame added to the alerts is what its line lets stand, as it was told and where it was not
-pub record Lined (core : Core) (frame : Up) (told : Told) (after : Core) : Type 0 where
+pub record Lined (core : Core) (frame : Up) (told : Telling) (after : Core) : Type 0 where
   pub more : List (List ℕ)
   pub alerts : after.alerts ≡ core.alerts ++ more
   pub answered : lines_stand (line_in (thing_of frame told)) more ≡ true
@@ -125,11 +125,11 @@ lost (up.Outcome x) = refl
 lost up.End = refl
 lost up.Close = refl
 
-nothing : (core : Core) (frame : Up) (told : Told) (after : Core) → after.alerts ≡ core.alerts → lines_stand (line_in (thing_of frame told)) [] ≡ true → Lined core frame told after
+nothing : (core : Core) (frame : Up) (told : Telling) (after : Core) → after.alerts ≡ core.alerts → lines_stand (line_in (thing_of frame told)) [] ≡ true → Lined core frame told after
 nothing core frame told after same right = record { more = []; alerts = same ∙ sym (append-nil core.alerts); answered = right; stopped = lost frame }
 
 -- a work call has no line, whatever it is told
-work_line : (replay : Bool) (kept : List Draw) (statements : List Statement) (commit : Bool) (told : Told) → lines_stand (line_in (thing_of (up.Call replay kept (call.Work statements commit)) told)) [] ≡ true
+work_line : (replay : Bool) (kept : List Draw) (statements : List Statement) (commit : Bool) (told : Telling) → lines_stand (line_in (thing_of (up.Call replay kept (call.Work statements commit)) told)) [] ≡ true
 work_line replay kept statements commit Silent = lost_line replay (call.Work statements commit)
 work_line replay kept statements commit (Says (down.Hello y)) = refl
 work_line replay kept statements commit (Says (down.Reply answers draws y)) = refl
@@ -139,7 +139,7 @@ work_line replay kept statements commit (Says down.Blocked) = refl
 work_line replay kept statements commit (Says (down.Refused cause)) = refl
 work_line replay kept statements commit Stopped = lost_line replay (call.Work statements commit)
 
-commits_alerts : (core : Core) (opening : Opening) (sess : Sess) (replay : Bool) (called : Call) (answers : List Answer) (draws : List Draw) (after : Core) (t : Sess) (told : Told) → Commits (with_opening core opening) sess replay called answers draws after t told → after.alerts ≡ core.alerts
+commits_alerts : (core : Core) (opening : Opening) (sess : Sess) (replay : Bool) (called : Call) (answers : List Answer) (draws : List Draw) (after : Core) (t : Sess) (told : Telling) → Commits (with_opening core opening) sess replay called answers draws after t told → after.alerts ≡ core.alerts
 commits_alerts core opening sess replay called answers draws _ _ _ (InReplay marked) = refl
 commits_alerts core opening sess replay called answers draws _ _ _ (Blocks unmarked blocked) = refl
 commits_alerts core opening sess replay called answers draws _ _ _ (Conflicts unmarked free differs) = refl
@@ -147,7 +147,7 @@ commits_alerts core opening sess replay called answers draws _ _ _ (Stores may) 
 commits_alerts core opening sess replay called answers draws _ _ _ (StopsBefore may) = refl
 commits_alerts core opening sess replay called answers draws _ _ _ (StopsAfter may) = refl
 
-works_alerts : (core : Core) (sess : Sess) (replay : Bool) (kept : List Draw) (called : Call) (now : ℕ) (after : Core) (t : Sess) (told : Told) → Works core sess replay kept called now after t told → after.alerts ≡ core.alerts
+works_alerts : (core : Core) (sess : Sess) (replay : Bool) (kept : List Draw) (called : Call) (now : ℕ) (after : Core) (t : Sess) (told : Telling) → Works core sess replay kept called now after t told → after.alerts ≡ core.alerts
 works_alerts core sess replay kept called now _ _ _ (AnswersCall opening draws left meant drew means ends) = refl
 works_alerts core sess replay kept called now _ _ _ (Reaches opening draws left meant after t told drew means ends commits) = commits_alerts core opening _ replay called meant.answers draws after t told commits
 works_alerts core sess replay kept called now _ _ _ (HaltsInDraw between opening draws more left meant drew means some halts) = refl
@@ -163,7 +163,7 @@ alter_stands : (replay : Bool) (line : List ℕ) → IsTrue (not replay) → lin
 alter_stands true line unmarked = let none : ⊥ = cc in absurd none
 alter_stands false line unmarked = line_stands false line
 
-calls_lined : (core : Core) (sess : Sess) (replay : Bool) (kept : List Draw) (now : ℕ) (called : Call) (after : Core) (t : Sess) (told : Told) → Calls core sess replay kept now called after t told → Lined core (up.Call replay kept called) told after
+calls_lined : (core : Core) (sess : Sess) (replay : Bool) (kept : List Draw) (now : ℕ) (called : Call) (after : Core) (t : Sess) (told : Telling) → Calls core sess replay kept now called after t told → Lined core (up.Call replay kept called) told after
 calls_lined core sess replay kept now _ _ _ _ (IsWork statements commit after t told works) = nothing core (up.Call replay kept (call.Work statements commit)) told after (works_alerts core sess replay kept _ now after t told works) (work_line replay kept statements commit told)
 calls_lined core sess replay kept now _ _ _ _ (IsSet name value) = nothing core (up.Call replay kept (call.Set name value)) _ core refl refl
 calls_lined core sess replay kept now _ _ _ _ (IsAlter line unmarked) = record { more = line ∷ []; alerts = refl; answered = line_stands true line; stopped = alter_stands replay line unmarked }
@@ -182,7 +182,7 @@ told_lined (verdict.ServerAhead next) core x = nothing core (up.Outcome x) (Says
 told_lined (verdict.ClientAhead next) core x = nothing core (up.Outcome x) (Says (down_of (verdict.ClientAhead next))) _ refl refl
 told_lined (verdict.Forgotten horizon) core x = nothing core (up.Outcome x) (Says (down_of (verdict.Forgotten horizon))) _ refl refl
 
-outcomes_lined : (core : Core) (x : Ltxid) (after : Core) (told : Told) → Outcomes core x after told → Lined core (up.Outcome x) told after
+outcomes_lined : (core : Core) (x : Ltxid) (after : Core) (told : Telling) → Outcomes core x after told → Lined core (up.Outcome x) told after
 outcomes_lined core x _ _ (IsTold judged by) = told_lined judged core x
 outcomes_lined core x _ _ (BlockStops after by (inl same)) = nothing core (up.Outcome x) Stopped after (ap (λ (c : Core). c.alerts) same) refl
 outcomes_lined core x _ _ (BlockStops after by (inr same)) = nothing core (up.Outcome x) Stopped after (ap (λ (c : Core). c.alerts) same) refl
@@ -195,7 +195,7 @@ refused_line (up.Outcome x) = refl
 refused_line up.End = refl
 refused_line up.Close = refl
 
-pub serve_lined : (core : Core) (sess : Sess) (now : ℕ) (frame : Up) (after : Core) (t : Sess) (told : Told) → Serve core sess now frame after t told → Lined core frame told after
+pub serve_lined : (core : Core) (sess : Sess) (now : ℕ) (frame : Up) (after : Core) (t : Sess) (told : Telling) → Serve core sess now frame after t told → Lined core frame told after
 serve_lined core sess now _ _ _ _ (Connects life) = nothing core up.Connect _ core refl refl
 serve_lined core sess now _ _ _ _ (Begins settings serving) = nothing core (up.Begin settings) Silent core refl refl
 serve_lined core sess now _ _ _ _ (Ends serving) = nothing core up.End Silent core refl refl
@@ -218,11 +218,11 @@ quiet_move server after more none same = record { gained = []; alerts = same ∙
 turned_alerts : (server after : Server) (old new : Sess) (core : Core) (power : Power) → Turns server after old new core power → after.core.alerts ≡ core.alerts
 turned_alerts server after old new core power turns = ap (λ (s : Server). s.core.alerts) turns.turned
 
-one_line : (session : SessionId) (now : ℕ) (frame : Up) (told : Told) (more : List (List ℕ)) → lines_stand (line_in (thing_of frame told)) more ≡ true → lines_stand (lines_in (Served session now frame told ∷ [])) more ≡ true
+one_line : (session : SessionId) (now : ℕ) (frame : Up) (told : Telling) (more : List (List ℕ)) → lines_stand (line_in (thing_of frame told)) more ≡ true → lines_stand (lines_in (Served session now frame told ∷ [])) more ≡ true
 unfolding lines_in
 one_line session now frame told more stand = ap (λ l. lines_stand l more) (append-nil (line_in (thing_of frame told))) ∙ stand
 
-asked_alerts : (core : Core) (x : Ltxid) (after : Core) (told : Told) → Outcomes core x after told → after.alerts ≡ core.alerts
+asked_alerts : (core : Core) (x : Ltxid) (after : Core) (told : Telling) → Outcomes core x after told → after.alerts ≡ core.alerts
 asked_alerts core x _ _ (IsTold verdict.BlockIt by) = refl
 asked_alerts core x _ _ (IsTold verdict.AlreadyBlocked by) = refl
 asked_alerts core x _ _ (IsTold (verdict.Committed completed) by) = refl

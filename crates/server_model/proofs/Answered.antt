@@ -23,7 +23,7 @@ use Rattle.server_model.specs.Base.{Base}
 use Rattle.server_model.specs.Core.{Core, committed}
 use Rattle.server_model.specs.Sessions.{Sess, with_work}
 use Rattle.svc_values.specs.Identifiers.{session_of}
-use Rattle.server_model.specs.Outcomes.{Told, Silent, Says, Stopped, Outcomes, IsTold, BlockStops, down_of, if_blocks}
+use Rattle.server_model.specs.Outcomes.{Telling, Silent, Says, Stopped, Outcomes, IsTold, BlockStops, down_of, if_blocks}
 use Rattle.server_model.specs.Serve.{Commits, InReplay, Blocks, Conflicts, Stores, StopsBefore, StopsAfter, Works, Answers as AnswersCall, Reaches, HaltsInDraw, Calls, IsWork, IsSet, IsAlter, AlterStops, AlterMarked, IsDisable, IsRollback, Serve, Connects, Begins, Ends, Closes, Asks, Runs as Serves, Refuses, with_opening, with_last}
 use Rattle.server_model.specs.Runs.{Happened, Served, Asked, Server, Turns, Moves, Makes, Answers, Halts, Loses, AnswersAsk, HaltsInAsk, Reaps, Falls, Opens, StopsOpening, Runs, Start, Then, Power}
 use Rattle.server_model.specs.Laws.{AnswersStand, IsFront}
@@ -47,7 +47,7 @@ pub record Stored (core : Core) (sess : Sess) (x : Ltxid) (after : Core) : Type 
   pub session : session_of sess.ltxid ≡ session_of entry.ltxid
   pub number : entry.ltxid.number + 1 ≡ x.number
 
-abbrev pub IfCommitted : Told → Core → Sess → Core → Type 0
+abbrev pub IfCommitted : Telling → Core → Sess → Core → Type 0
 IfCommitted Silent core sess after = Unit {0}
 IfCommitted (Says (down.Hello x)) core sess after = Unit {0}
 IfCommitted (Says (down.Reply answers draws x)) core sess after = ends_committed answers ≡ true → Stored core sess x after
@@ -60,7 +60,7 @@ IfCommitted Stopped core sess after = Unit {0}
 never : {A : Type 0} (b : Bool) → b ≡ false → b ≡ true → A
 never b not is = let none : ⊥ = (let e : true ≡ false = sym is ∙ not in cc) in absurd none
 
-commits_stored : (core : Core) (opening : Opening) (sess : Sess) (rows : List PlainRow) (meant : Meant) (replay : Bool) (called : Call) (draws : List Draw) (after : Core) (t : Sess) (told : Told)
+commits_stored : (core : Core) (opening : Opening) (sess : Sess) (rows : List PlainRow) (meant : Meant) (replay : Bool) (called : Call) (draws : List Draw) (after : Core) (t : Sess) (told : Telling)
     → Commits (with_opening core opening) (with_work sess rows meant) replay called meant.answers draws after t told → IfCommitted told core sess after
 commits_stored core opening sess rows meant replay called draws _ _ _ (InReplay marked) = λ ends. never _ (not-committed meant.answers answer.CommitInReplay refl) ends
 commits_stored core opening sess rows meant replay called draws _ _ _ (Blocks unmarked blocked) = tt
@@ -69,12 +69,12 @@ commits_stored core opening sess rows meant replay called draws _ _ _ (Stores ma
 commits_stored core opening sess rows meant replay called draws _ _ _ (StopsBefore may) = tt
 commits_stored core opening sess rows meant replay called draws _ _ _ (StopsAfter may) = tt
 
-works_stored : (core : Core) (sess : Sess) (replay : Bool) (kept : List Draw) (called : Call) (now : ℕ) (after : Core) (t : Sess) (told : Told) → Works core sess replay kept called now after t told → IfCommitted told core sess after
+works_stored : (core : Core) (sess : Sess) (replay : Bool) (kept : List Draw) (called : Call) (now : ℕ) (after : Core) (t : Sess) (told : Telling) → Works core sess replay kept called now after t told → IfCommitted told core sess after
 works_stored core sess replay kept called now _ _ _ (AnswersCall opening draws left meant drew means not) = λ ends. never _ not ends
 works_stored core sess replay kept called now _ _ _ (Reaches opening draws left meant after t told drew means ends commits) = commits_stored core opening sess (committed core) meant replay called draws after t told commits
 works_stored core sess replay kept called now _ _ _ (HaltsInDraw between opening draws more left meant drew means some halts) = tt
 
-calls_stored : (core : Core) (sess : Sess) (replay : Bool) (kept : List Draw) (now : ℕ) (called : Call) (after : Core) (t : Sess) (told : Told) → Calls core sess replay kept now called after t told → IfCommitted told core sess after
+calls_stored : (core : Core) (sess : Sess) (replay : Bool) (kept : List Draw) (now : ℕ) (called : Call) (after : Core) (t : Sess) (told : Telling) → Calls core sess replay kept now called after t told → IfCommitted told core sess after
 calls_stored core sess replay kept now _ _ _ _ (IsWork statements commit after t told works) = works_stored core sess replay kept _ now after t told works
 calls_stored core sess replay kept now _ _ _ _ (IsSet name value) = λ ends. never _ refl ends
 calls_stored core sess replay kept now _ _ _ _ (IsAlter line unmarked) = λ ends. never _ refl ends
@@ -83,7 +83,7 @@ calls_stored core sess replay kept now _ _ _ _ (AlterMarked line marked) = tt
 calls_stored core sess replay kept now _ _ _ _ IsDisable = λ ends. never _ refl ends
 calls_stored core sess replay kept now _ _ _ _ IsRollback = λ ends. never _ refl ends
 
-outcomes_stored : (core : Core) (sess : Sess) (x : Ltxid) (after : Core) (told : Told) → Outcomes core x after told → IfCommitted told core sess after
+outcomes_stored : (core : Core) (sess : Sess) (x : Ltxid) (after : Core) (told : Telling) → Outcomes core x after told → IfCommitted told core sess after
 outcomes_stored core sess x _ _ (IsTold judged by) = told_of judged
   where
     told_of : (judged : Verdict) → IfCommitted (Says (down_of judged)) core sess (if_blocks judged core x)
@@ -95,7 +95,7 @@ outcomes_stored core sess x _ _ (IsTold judged by) = told_of judged
     told_of (verdict.Forgotten horizon) = tt
 outcomes_stored core sess x _ _ (BlockStops after by same) = tt
 
-pub serve_stored : (core : Core) (sess : Sess) (now : ℕ) (frame : Up) (after : Core) (t : Sess) (told : Told) → Serve core sess now frame after t told → IfCommitted told core sess after
+pub serve_stored : (core : Core) (sess : Sess) (now : ℕ) (frame : Up) (after : Core) (t : Sess) (told : Telling) → Serve core sess now frame after t told → IfCommitted told core sess after
 serve_stored core sess now _ _ _ _ (Connects life) = tt
 serve_stored core sess now _ _ _ _ (Begins settings serving) = tt
 serve_stored core sess now _ _ _ _ (Ends serving) = tt
@@ -125,7 +125,7 @@ stays_stored (Served session now frame (Says (down.Refused cause))) server after
 stays_stored (Served session now frame Stopped) server after front stored = tt
 stays_stored (Asked x told) server after front stored = tt
 
-told_stored : (told : Told) (core : Core) (sess : Sess) (now : ℕ) (frame : Up) (after : Server) → IfCommitted told core sess after.core → IfStored (Served (session_of sess.ltxid) now frame told) after
+told_stored : (told : Telling) (core : Core) (sess : Sess) (now : ℕ) (frame : Up) (after : Server) → IfCommitted told core sess after.core → IfStored (Served (session_of sess.ltxid) now frame told) after
 told_stored Silent core sess now frame after is = tt
 told_stored (Says (down.Hello x)) core sess now frame after is = tt
 told_stored (Says (down.Reply answers draws x)) core sess now frame after is =

@@ -25,7 +25,7 @@ use Rattle.server_model.specs.Core.{Core, committed, all_entries}
 use Rattle.svc_values.specs.declared.entry.SessionId.{SessionId}
 use Rattle.svc_values.specs.Identifiers.{session_of}
 use Rattle.server_model.specs.Sessions.{Life, Idle, Begun, Ended, Sess, ended, with_piece, with_work, entry_of}
-use Rattle.server_model.specs.Outcomes.{Told, Silent, Says, Stopped, Outcomes, IsTold, BlockStops, down_of, if_blocks}
+use Rattle.server_model.specs.Outcomes.{Telling, Silent, Says, Stopped, Outcomes, IsTold, BlockStops, down_of, if_blocks}
 use Rattle.server_model.specs.Serve.{Commits, InReplay, Blocks, Conflicts, Stores, StopsBefore, StopsAfter, Works, Answers, Reaches, HaltsInDraw, Calls, IsWork, IsSet, IsAlter, AlterStops, AlterMarked, IsDisable, IsRollback, Serve, Connects, Begins, Ends, Closes, Asks, Runs as Serves, Refuses, with_opening, with_last, if_told}
 use Rattle.server_model.specs.Runs.{is_answered}
 use Rattle.server_model.specs.Items.{Thing, Called, thing_of, with_answer, Did}
@@ -74,7 +74,7 @@ module _ (base : Base) (core : Core) (here : Walk) (sess : Sess) (at : At base c
     acted called answers draws meant after new means stands held =
         subst (λ did. Goes here (session_of sess.ltxid) after new rest (after_deed base here did)) (sym (ran base core here sess at lives now replay kept called answers draws meant means)) (record { stands = stands; holds = held })
 
-    commits : (opening : Opening) (statements : List Statement) (commit : Bool) (draws : List Draw) (meant : Meant) (after : Core) (new : Sess) (told : Told)
+    commits : (opening : Opening) (statements : List Statement) (commit : Bool) (draws : List Draw) (meant : Meant) (after : Core) (new : Sess) (told : Telling)
         → mean core.base.shape (with_writes (committed core) sess.writes) sess.settings (call.Work statements commit) draws ≡ Some meant → ends_committed meant.answers ≡ true → Left here core rest after
         → Commits (with_opening core opening) (with_work sess (committed core) meant) replay (call.Work statements commit) meant.answers draws after new told → IsTrue (is_answered told)
         → Goes here (session_of sess.ltxid) after new rest (behind_thing base here (session_of sess.ltxid) now (thing_of (up.Call replay kept (call.Work statements commit)) told))
@@ -104,7 +104,7 @@ module _ (base : Base) (core : Core) (here : Walk) (sess : Sess) (at : At base c
     commits opening statements commit draws meant _ _ _ means is left (StopsBefore may) answered = let none : ⊥ = cc in absurd none
     commits opening statements commit draws meant _ _ _ means is left (StopsAfter may) answered = let none : ⊥ = cc in absurd none
 
-    works : (statements : List Statement) (commit : Bool) (after : Core) (new : Sess) (told : Told) → Left here core rest after → Works core sess replay kept (call.Work statements commit) now after new told → IsTrue (is_answered told)
+    works : (statements : List Statement) (commit : Bool) (after : Core) (new : Sess) (told : Telling) → Left here core rest after → Works core sess replay kept (call.Work statements commit) now after new told → IsTrue (is_answered told)
         → Goes here (session_of sess.ltxid) after new rest (behind_thing base here (session_of sess.ltxid) now (thing_of (up.Call replay kept (call.Work statements commit)) told))
     works statements commit _ _ _ left (Answers opening draws more meant drew means not) answered =
         let work = call.Work statements commit in
@@ -130,7 +130,7 @@ module _ (base : Base) (core : Core) (here : Walk) (sess : Sess) (at : At base c
         (holds base core here sess at lives now replay kept asked (a ∷ []) [] meant new over is
         ((λ i. if_ended over (record { settings = settings; at_start = sess.at_start; pieces = (with_piece sess asked (a ∷ []) []).pieces; writes = append-nil sess.writes i; reads = append-nil sess.reads i })) ∙ same))
 
-    calls : (asked : Call) (after : Core) (new : Sess) (told : Told) → Left here core rest after → Calls core sess replay kept now asked after new told → IsTrue (is_answered told)
+    calls : (asked : Call) (after : Core) (new : Sess) (told : Telling) → Left here core rest after → Calls core sess replay kept now asked after new told → IsTrue (is_answered told)
         → Goes here (session_of sess.ltxid) after new rest (behind_thing base here (session_of sess.ltxid) now (thing_of (up.Call replay kept asked) told))
     calls _ _ _ _ left (IsWork statements commit after new told works_so) answered = works statements commit after new told left works_so answered
     calls _ _ _ _ left (IsSet name value) answered = plainly (call.Set name value) (answer.Done 1) (put_setting sess.settings name value) core _ false refl refl refl refl refl (left [] (sym (append-nil core.entries))) refl
@@ -149,7 +149,7 @@ module _ (base : Base) (core : Core) (here : Walk) (sess : Sess) (at : At base c
   tells now x (verdict.ClientAhead number) left = record { stands = record { committed = at.committed; stored = at.stored; left = left [] (sym (append-nil core.entries)); incarnation = refl }; holds = record { mine = at.transaction; others = λ other apart. refl; over = refl } }
   tells now x (verdict.Forgotten horizon) left = record { stands = record { committed = at.committed; stored = at.stored; left = left [] (sym (append-nil core.entries)); incarnation = refl }; holds = record { mine = at.transaction; others = λ other apart. refl; over = refl } }
 
-  asks : (now : ℕ) (x : Ltxid) (after : Core) (told : Told) → Left here core rest after → Outcomes core x after told → IsTrue (is_answered told) → (new : Sess) → transaction_of new ≡ transaction_of sess → new.life ≡ sess.life
+  asks : (now : ℕ) (x : Ltxid) (after : Core) (told : Telling) → Left here core rest after → Outcomes core x after told → IsTrue (is_answered told) → (new : Sess) → transaction_of new ≡ transaction_of sess → new.life ≡ sess.life
       → Goes here (session_of sess.ltxid) after new rest (behind_thing base here (session_of sess.ltxid) now (thing_of (up.Outcome x) told))
   asks now x _ _ left (IsTold judged by) answered new same life =
       let goes = tells now x judged left in record { stands = goes.stands; holds = record { mine = λ begun. goes.holds.mine (sym life ∙ begun) ∙ sym same; others = goes.holds.others; over = goes.holds.over } }
@@ -163,12 +163,12 @@ module _ (base : Base) (core : Core) (here : Walk) (sess : Sess) (at : At base c
   refused now up.End left = quiet core _ refl refl left ended-begun
   refused now up.Close left = quiet core _ refl refl left ended-begun
 
-  told-life : (told : Told) → IsTrue (is_answered told) → (transaction_of (if_told told sess) ≡ transaction_of sess) × ((if_told told sess).life ≡ sess.life)
+  told-life : (told : Telling) → IsTrue (is_answered told) → (transaction_of (if_told told sess) ≡ transaction_of sess) × ((if_told told sess).life ≡ sess.life)
   told-life Silent answered = (refl, refl)
   told-life (Says frame) answered = (refl, refl)
   told-life Stopped answered = let none : ⊥ = cc in absurd none
 
-  pub serve-goes : (now : ℕ) (frame : Up) (after : Core) (new : Sess) (told : Told) → Left here core rest after → Serve core sess now frame after new told → IsTrue (is_answered told)
+  pub serve-goes : (now : ℕ) (frame : Up) (after : Core) (new : Sess) (told : Telling) → Left here core rest after → Serve core sess now frame after new told → IsTrue (is_answered told)
       → Goes here (session_of sess.ltxid) after new rest (behind_thing base here (session_of sess.ltxid) now (thing_of frame told))
   serve-goes now _ _ _ _ left (Connects life) answered = quiet core _ refl refl (left [] (sym (append-nil core.entries))) idle-begun
   serve-goes now _ _ _ _ left (Begins settings serving) answered = record {

@@ -22,7 +22,7 @@ use Rattle.server_model.specs.Core.{Core, committed, all_entries, all_blocked, t
 use Rattle.svc_values.specs.Identifiers.{session_of}
 use Rattle.server_model.specs.Sessions.{Begun, Sess, with_work, entry_of, piece_of}
 use Rattle.stmt_meaning.specs.Reads.{ReadsStand}
-use Rattle.server_model.specs.Outcomes.{Told}
+use Rattle.server_model.specs.Outcomes.{Telling}
 use Rattle.server_model.specs.Serve.{Commits, InReplay, Blocks, Conflicts, Stores, StopsBefore, StopsAfter, Works, Answers, Reaches, HaltsInDraw, Calls, IsWork, IsSet, IsAlter, AlterStops, AlterMarked, IsDisable, IsRollback, Serve, Connects, Begins, Ends, Closes, Asks, Runs as Serves, Refuses, with_opening, with_entry}
 use Rattle.server_model.specs.Items.{CallStopped, without_answer}
 use Rattle.server_model.specs.Walk.{Walk, Ran, Performed, after_deed, deed, stands, if_stands, performed_if, next_of, stopped, if_nothing}
@@ -47,7 +47,7 @@ unmarked-is : (replay : Bool) → IsTrue (not replay) → replay ≡ false
 unmarked-is true is = let none : ⊥ = cc in absurd none
 unmarked-is false is = refl
 
-commits-gain : (core : Core) (opening : Opening) (sess : Sess) (replay : Bool) (kept : List Draw) (called : Call) (draws : List Draw) (meant : Meant) (after : Core) (t : Sess) (told : Told) → sess.life ≡ Begun
+commits-gain : (core : Core) (opening : Opening) (sess : Sess) (replay : Bool) (kept : List Draw) (called : Call) (draws : List Draw) (meant : Meant) (after : Core) (t : Sess) (told : Telling) → sess.life ≡ Begun
     → mean core.base.shape (with_writes (committed core) sess.writes) sess.settings called draws ≡ Some meant → meant.rest ≡ [] → ends_committed meant.answers ≡ true → has_commit called ≡ true
     → Commits (with_opening core opening) (with_work sess (committed core) meant) replay called meant.answers draws after t told → Gains core sess (up.Call replay kept called) after
 commits-gain core opening sess replay kept called draws meant _ _ _ lives means used is commit (InReplay marked) = GainsNone _ _ refl refl
@@ -57,14 +57,14 @@ commits-gain core opening sess replay kept called draws meant _ _ _ lives means 
 commits-gain core opening sess replay kept called draws meant _ _ _ lives means used is commit (StopsBefore may) = GainsNone _ _ refl refl
 commits-gain core opening sess replay kept called draws meant _ _ _ lives means used is commit (StopsAfter may) = GainsOne replay kept called draws meant _ (unmarked-is replay may.unmarked) commit lives means used is refl refl may.free may.same
 
-works-gain : (core : Core) (sess : Sess) (replay : Bool) (kept : List Draw) (statements : List Statement) (commit : Bool) (now : ℕ) (after : Core) (t : Sess) (told : Told) → sess.life ≡ Begun
+works-gain : (core : Core) (sess : Sess) (replay : Bool) (kept : List Draw) (statements : List Statement) (commit : Bool) (now : ℕ) (after : Core) (t : Sess) (told : Telling) → sess.life ≡ Begun
     → Works core sess replay kept (call.Work statements commit) now after t told → Gains core sess (up.Call replay kept (call.Work statements commit)) after
 works-gain core sess replay kept statements commit now _ _ _ lives (Answers opening draws left meant drew means not) = GainsNone _ _ refl refl
 works-gain core sess replay kept statements commit now _ _ _ lives (Reaches opening draws left meant after t told drew means is commits) =
     commits-gain core opening sess replay kept (call.Work statements commit) draws meant after t told lives means.run means.used is ((work-ending core.base.shape _ sess.settings statements commit draws meant means.run).commit is) commits
 works-gain core sess replay kept statements commit now _ _ _ lives (HaltsInDraw between opening draws more left meant drew means some halts) = GainsNone _ _ refl refl
 
-calls-gain : (core : Core) (sess : Sess) (replay : Bool) (kept : List Draw) (now : ℕ) (called : Call) (after : Core) (t : Sess) (told : Told) → sess.life ≡ Begun → Calls core sess replay kept now called after t told → Gains core sess (up.Call replay kept called) after
+calls-gain : (core : Core) (sess : Sess) (replay : Bool) (kept : List Draw) (now : ℕ) (called : Call) (after : Core) (t : Sess) (told : Telling) → sess.life ≡ Begun → Calls core sess replay kept now called after t told → Gains core sess (up.Call replay kept called) after
 calls-gain core sess replay kept now _ _ _ _ lives (IsWork statements commit after t told works) = works-gain core sess replay kept statements commit now after t told lives works
 calls-gain core sess replay kept now _ _ _ _ lives (IsSet name value) = GainsNone _ _ refl refl
 calls-gain core sess replay kept now _ _ _ _ lives (IsAlter line unmarked) = GainsNone _ _ refl refl
@@ -74,7 +74,7 @@ calls-gain core sess replay kept now _ _ _ _ lives (AlterMarked line marked) = G
 calls-gain core sess replay kept now _ _ _ _ lives IsDisable = GainsNone _ _ refl refl
 calls-gain core sess replay kept now _ _ _ _ lives IsRollback = GainsNone _ _ refl refl
 
-pub serve-gains : (core : Core) (sess : Sess) (now : ℕ) (frame : Up) (after : Core) (t : Sess) (told : Told) → Serve core sess now frame after t told → Gains core sess frame after
+pub serve-gains : (core : Core) (sess : Sess) (now : ℕ) (frame : Up) (after : Core) (t : Sess) (told : Telling) → Serve core sess now frame after t told → Gains core sess frame after
 serve-gains core sess now _ _ _ _ (Connects life) = GainsNone _ _ refl refl
 serve-gains core sess now _ _ _ _ (Begins settings serving) = GainsNone _ _ refl refl
 serve-gains core sess now _ _ _ _ (Ends serving) = GainsNone _ _ refl refl

@@ -15,13 +15,13 @@ use Rattle.server_model.specs.Base.{Base}
 use Rattle.server_model.specs.Core.{Core, committed}
 use Rattle.server_model.specs.Sessions.{Sess, with_work}
 use Rattle.svc_values.specs.Identifiers.{session_of}
-use Rattle.server_model.specs.Outcomes.{Told, Stopped}
+use Rattle.server_model.specs.Outcomes.{Telling, Stopped}
 use Rattle.server_model.specs.Serve.{Commits, InReplay, Blocks, Conflicts, Stores, StopsBefore, StopsAfter, Works, Answers as AnswersCall, Reaches, HaltsInDraw, Calls, IsWork, IsSet, IsAlter, AlterStops, AlterMarked, IsDisable, IsRollback, Serve, Connects, Begins, Ends, Closes, Asks, Runs as Serves, Refuses, with_opening}
 use Rattle.server_model.specs.Runs.{Happened, Served, Server, Turns, Moves, Makes, Answers, Halts, Loses, AnswersAsk, HaltsInAsk, Reaps, Falls, Opens, StopsOpening, Runs, Start, Then, Power, is_answered}
 use Rattle.server_model.specs.Laws.{CommitsAs, EntryFromItem}
 use Rattle.server_model.proofs.Growth.{outcomes-entries}
 
-pub data From (core : Core) (sess : Sess) (now : ℕ) (frame : Up) (told : Told) (after : Core) : Type 0 where
+pub data From (core : Core) (sess : Sess) (now : ℕ) (frame : Up) (told : Telling) (after : Core) : Type 0 where
   NoEntry : after.entries ≡ core.entries → From core sess now frame told after
   NewEntry : (entry : Entry) → after.entries ≡ core.entries ++ entry ∷ [] → (IsTrue (is_answered told) → CommitsAs entry (Served (session_of sess.ltxid) now frame told)) → CommitsAs entry (Served (session_of sess.ltxid) now frame Stopped)
       → From core sess now frame told after
@@ -33,7 +33,7 @@ unmarked false is = refl
 never : false ≡ true → ⊥
 never is = let none : ⊥ = cc in none
 
-commits_from : (core : Core) (opening : Opening) (sess : Sess) (rows : List PlainRow) (meant : Meant) (replay : Bool) (kept : List Draw) (called : Call) (draws : List Draw) (now : ℕ) (after : Core) (t : Sess) (told : Told)
+commits_from : (core : Core) (opening : Opening) (sess : Sess) (rows : List PlainRow) (meant : Meant) (replay : Bool) (kept : List Draw) (called : Call) (draws : List Draw) (now : ℕ) (after : Core) (t : Sess) (told : Telling)
     → ends_committed meant.answers ≡ true → Commits (with_opening core opening) (with_work sess rows meant) replay called meant.answers draws after t told → From core sess now (up.Call replay kept called) told after
 commits_from core opening sess rows meant replay kept called draws now _ _ _ ends (InReplay marked) = NoEntry refl
 commits_from core opening sess rows meant replay kept called draws now _ _ _ ends (Blocks not_marked blocked) = NoEntry refl
@@ -42,12 +42,12 @@ commits_from core opening sess rows meant replay kept called draws now _ _ _ end
 commits_from core opening sess rows meant replay kept called draws now _ _ _ ends (StopsBefore may) = NoEntry refl
 commits_from core opening sess rows meant replay kept called draws now _ _ _ ends (StopsAfter may) = NewEntry _ refl (λ answered. absurd (never answered)) (refl, unmarked replay may.unmarked)
 
-works_from : (core : Core) (sess : Sess) (replay : Bool) (kept : List Draw) (called : Call) (now : ℕ) (after : Core) (t : Sess) (told : Told) → Works core sess replay kept called now after t told → From core sess now (up.Call replay kept called) told after
+works_from : (core : Core) (sess : Sess) (replay : Bool) (kept : List Draw) (called : Call) (now : ℕ) (after : Core) (t : Sess) (told : Telling) → Works core sess replay kept called now after t told → From core sess now (up.Call replay kept called) told after
 works_from core sess replay kept called now _ _ _ (AnswersCall opening draws left meant drew means not) = NoEntry refl
 works_from core sess replay kept called now _ _ _ (Reaches opening draws left meant after t told drew means ends commits) = commits_from core opening sess (committed core) meant replay kept called draws now after t told ends commits
 works_from core sess replay kept called now _ _ _ (HaltsInDraw between opening draws more left meant drew means some halts) = NoEntry refl
 
-calls_from : (core : Core) (sess : Sess) (replay : Bool) (kept : List Draw) (now : ℕ) (called : Call) (after : Core) (t : Sess) (told : Told) → Calls core sess replay kept now called after t told → From core sess now (up.Call replay kept called) told after
+calls_from : (core : Core) (sess : Sess) (replay : Bool) (kept : List Draw) (now : ℕ) (called : Call) (after : Core) (t : Sess) (told : Telling) → Calls core sess replay kept now called after t told → From core sess now (up.Call replay kept called) told after
 calls_from core sess replay kept now _ _ _ _ (IsWork statements commit after t told works) = works_from core sess replay kept _ now after t told works
 calls_from core sess replay kept now _ _ _ _ (IsSet name value) = NoEntry refl
 calls_from core sess replay kept now _ _ _ _ (IsAlter line not_marked) = NoEntry refl
@@ -57,7 +57,7 @@ calls_from core sess replay kept now _ _ _ _ (AlterMarked line marked) = NoEntry
 calls_from core sess replay kept now _ _ _ _ IsDisable = NoEntry refl
 calls_from core sess replay kept now _ _ _ _ IsRollback = NoEntry refl
 
-serve_from : (core : Core) (sess : Sess) (now : ℕ) (frame : Up) (after : Core) (t : Sess) (told : Told) → Serve core sess now frame after t told → From core sess now frame told after
+serve_from : (core : Core) (sess : Sess) (now : ℕ) (frame : Up) (after : Core) (t : Sess) (told : Telling) → Serve core sess now frame after t told → From core sess now frame told after
 serve_from core sess now _ _ _ _ (Connects life) = NoEntry refl
 serve_from core sess now _ _ _ _ (Begins settings serving) = NoEntry refl
 serve_from core sess now _ _ _ _ (Ends serving) = NoEntry refl
@@ -75,11 +75,11 @@ data Gains (server : Server) (more : List Happened) (after : Server) : Type 0 wh
 turned_entries : (server after : Server) (old new : Sess) (core : Core) (power : Power) → Turns server after old new core power → after.core.entries ≡ core.entries
 turned_entries server after old new core power turns = ap (λ (s : Server). s.core.entries) turns.turned
 
-answers_gain : (server after : Server) (old new : Sess) (now : ℕ) (frame : Up) (core : Core) (told : Told) (power : Power) → Turns server after old new core power → IsTrue (is_answered told) → From server.core old now frame told core → Gains server (Served (session_of old.ltxid) now frame told ∷ []) after
+answers_gain : (server after : Server) (old new : Sess) (now : ℕ) (frame : Up) (core : Core) (told : Telling) (power : Power) → Turns server after old new core power → IsTrue (is_answered told) → From server.core old now frame told core → Gains server (Served (session_of old.ltxid) now frame told ∷ []) after
 answers_gain server after old new now frame core told power turns answered (NoEntry same) = Nothing (turned_entries server after old new core power turns ∙ same)
 answers_gain server after old new now frame core told power turns answered (NewEntry entry more as_told as_stopped) = Entry1 entry _ (turned_entries server after old new core power turns ∙ more) refl (as_told answered)
 
-halts_gain : (server after : Server) (old new : Sess) (now : ℕ) (frame : Up) (core : Core) (told : Told) (power : Power) → Turns server after old new core power → From server.core old now frame told core → Gains server (Served (session_of old.ltxid) now frame Stopped ∷ []) after
+halts_gain : (server after : Server) (old new : Sess) (now : ℕ) (frame : Up) (core : Core) (told : Telling) (power : Power) → Turns server after old new core power → From server.core old now frame told core → Gains server (Served (session_of old.ltxid) now frame Stopped ∷ []) after
 halts_gain server after old new now frame core told power turns (NoEntry same) = Nothing (turned_entries server after old new core power turns ∙ same)
 halts_gain server after old new now frame core told power turns (NewEntry entry more as_told as_stopped) = Entry1 entry _ (turned_entries server after old new core power turns ∙ more) refl as_stopped
 

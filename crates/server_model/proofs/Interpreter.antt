@@ -28,7 +28,7 @@ use Rattle.server_model.specs.Sessions.{Life, New, Idle, Begun, Ended, Sess, beg
 use Rattle.stmt_meaning.specs.Reads.{Read, ReadsDiffer, ReadsStand}
 use Rattle.stmt_meaning.specs.Asked.{asked_by_call, kind_drawn}
 use Rattle.server_model.specs.Draws.{brought, Draws, Gives, Reserves, DrawsAll}
-use Rattle.server_model.specs.Outcomes.{Told, Silent, Says, IsTold, down_of, if_blocks, verdict_on}
+use Rattle.server_model.specs.Outcomes.{Telling, Silent, Says, IsTold, down_of, if_blocks, verdict_on}
 use Rattle.server_model.specs.Serve.{Commits, InReplay, Blocks, Conflicts, Stores, Works, Answers, Reaches, Calls, IsWork, IsSet, IsAlter, AlterMarked, IsDisable, IsRollback, Serve, Connects, Begins, Ends, Closes, Asks, Runs, Refuses, Means, with_last, reply, with_opening, with_entry, with_alert, is_serving, is_out_of_order}
 use Rattle.svc_values.specs.Same.{same_rows, same_draw_kind as same_kind}
 use Rattle.server_model.specs.Legal.{differs}
@@ -192,9 +192,9 @@ search-is core sess called now (asked ∷ kinds) before opening left found is =
 pub record Done : Type 0 where
   pub core : Core
   pub sess : Sess
-  pub told : Told
+  pub told : Telling
 
-abbrev pub done : Core → Sess → Told → Done
+abbrev pub done : Core → Sess → Telling → Done
 done core sess told = record { core = core; sess = sess; told = told }
 
 abbrev pub stored_or : Bool → Core → Sess → Call → List Answer → List Draw → Done

@@ -13,7 +13,7 @@ use Rattle.server_model.specs.Core.{Core}
 use Rattle.svc_values.specs.declared.entry.SessionId.{SessionId}
 use Rattle.svc_values.specs.Identifiers.{session_of}
 use Rattle.server_model.specs.Sessions.{Life, Ended, Sess, ended}
-use Rattle.server_model.specs.Outcomes.{Told, Silent, Says, Stopped}
+use Rattle.server_model.specs.Outcomes.{Telling, Silent, Says, Stopped}
 use Rattle.server_model.specs.Runs.{Happened, Served, Asked, Server, Turns, Moves, Makes, Answers, Halts, Loses, AnswersAsk, HaltsInAsk, Reaps, Falls, Opens, StopsOpening, Runs, Start, Then, On, Halted, Power, is_running}
 use Rattle.server_model.specs.Items.{thing_of, item_of, items_from, items_of}
 use Rattle.server_model.specs.Walk.{Walk, walk_of, Deed, Nothing, Meaningless, Ran, entered, deed_of, next_of}
@@ -59,7 +59,7 @@ same-number : (m n : ℕ) → m ≡ n → (n == m) ≡ true
 same-number m n same = grind (arith, nat_tests)
 
 module _ (base : Base) (history : List Happened) (server : Server) (rest gained : List Entry) (walk : Walk) (lives : List (SessionId × Life)) (numbered : Numbered base server) (walks : Walks history server (gained ++ rest) walk lives) (blocks : BlocksIn walk server.core)
-    (after : Server) (old new : Sess) (now : ℕ) (frame : Up) (core : Core) (power : Power) (running : IsTrue (is_running server.power)) (turns : Turns server after old new core power) (told : Told)
+    (after : Server) (old new : Sess) (now : ℕ) (frame : Up) (core : Core) (power : Power) (running : IsTrue (is_running server.power)) (turns : Turns server after old new core power) (told : Telling)
     (stops : stops_last (history ++ Served (session_of old.ltxid) now frame told ∷ []) ≡ true) (grew : core.entries ≡ server.core.entries ++ gained) where
   of-now : is_of_now (entered walk (item_of 0 (Served (session_of old.ltxid) now frame told))) (session_of old.ltxid) ≡ true
   of-now =

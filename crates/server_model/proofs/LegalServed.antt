@@ -26,7 +26,7 @@ use Rattle.server_model.specs.Core.{Core, committed, all_blocked}
 use Rattle.svc_values.specs.declared.entry.SessionId.{SessionId}
 use Rattle.svc_values.specs.Identifiers.{session_of}
 use Rattle.server_model.specs.Sessions.{Begun, Sess, with_work, entry_of}
-use Rattle.server_model.specs.Outcomes.{Told, Says, Outcomes, IsTold, BlockStops, down_of}
+use Rattle.server_model.specs.Outcomes.{Telling, Says, Outcomes, IsTold, BlockStops, down_of}
 use Rattle.server_model.specs.Serve.{Commits, InReplay, Blocks, Conflicts, Stores, StopsBefore, StopsAfter, Works, Answers, Reaches, HaltsInDraw, Calls, IsWork, IsSet, IsAlter, AlterStops, AlterMarked, IsDisable, IsRollback, Serve, Connects, Begins, Ends, Closes, Asks, Runs as Serves, Refuses, with_opening, with_last}
 use Rattle.server_model.specs.Runs.{is_answered}
 use Rattle.server_model.specs.Items.{Did, Thing, Called, thing_of, without_answer, with_answer}
@@ -76,7 +76,7 @@ module _ (base : Base) (core : Core) (here : Walk) (sess : Sess) (at : At base c
         → deed_but here (Ran (performed base core here sess at lives now replay kept called answers draws meant) meant) ≡ true → deed_but here (deed_in base here (session_of sess.ltxid) now (Called replay kept called answers draws)) ≡ true
     by-deed called answers draws meant means right = ap (deed_but here) (ran base core here sess at lives now replay kept called answers draws meant means) ∙ right
 
-    commits : (opening : Opening) (statements : List Statement) (commit : Bool) (draws : List Draw) (meant : Meant) (after : Core) (new : Sess) (told : Told)
+    commits : (opening : Opening) (statements : List Statement) (commit : Bool) (draws : List Draw) (meant : Meant) (after : Core) (new : Sess) (told : Telling)
         → mean core.base.shape (with_writes (committed core) sess.writes) sess.settings (call.Work statements commit) draws ≡ Some meant → meant.rest ≡ [] → ends_committed meant.answers ≡ true → Left here core rest after
         → Commits (with_opening core opening) (with_work sess (committed core) meant) replay (call.Work statements commit) meant.answers draws after new told → IsTrue (is_answered told)
         → deed_but here (deed_in base here (session_of sess.ltxid) now (thing_of (up.Call replay kept (call.Work statements commit)) told)) ≡ true
@@ -97,7 +97,7 @@ module _ (base : Base) (core : Core) (here : Walk) (sess : Sess) (at : At base c
     commits opening statements commit draws meant _ _ _ means used is left (StopsBefore may) answered = let none : ⊥ = cc in absurd none
     commits opening statements commit draws meant _ _ _ means used is left (StopsAfter may) answered = let none : ⊥ = cc in absurd none
 
-    works : (statements : List Statement) (commit : Bool) (after : Core) (new : Sess) (told : Told) → Left here core rest after → Works core sess replay kept (call.Work statements commit) now after new told → IsTrue (is_answered told)
+    works : (statements : List Statement) (commit : Bool) (after : Core) (new : Sess) (told : Telling) → Left here core rest after → Works core sess replay kept (call.Work statements commit) now after new told → IsTrue (is_answered told)
         → deed_but here (deed_in base here (session_of sess.ltxid) now (thing_of (up.Call replay kept (call.Work statements commit)) told)) ≡ true
     works statements commit _ _ _ left (Answers opening draws more meant drew means none) answered =
         by-deed (call.Work statements commit) meant.answers draws meant means.run
@@ -114,7 +114,7 @@ module _ (base : Base) (core : Core) (here : Walk) (sess : Sess) (at : At base c
         let meant : Meant = record { answers = a ∷ []; tables = with_writes (committed core) sess.writes; settings = settings; writes = []; reads = []; rest = [] } in
         by-deed asked (a ∷ []) [] meant means (plain-right base core here sess at lives now replay kept asked [] meant refl none free)
 
-    calls : (asked : Call) (after : Core) (new : Sess) (told : Told) → Left here core rest after → Calls core sess replay kept now asked after new told → IsTrue (is_answered told)
+    calls : (asked : Call) (after : Core) (new : Sess) (told : Telling) → Left here core rest after → Calls core sess replay kept now asked after new told → IsTrue (is_answered told)
         → deed_but here (deed_in base here (session_of sess.ltxid) now (thing_of (up.Call replay kept asked) told)) ≡ true
     calls _ _ _ _ left (IsWork statements commit after new told works_so) answered = works statements commit after new told left works_so answered
     calls _ _ _ _ left (IsSet name value) answered = one-answer (call.Set name value) (answer.Done 1) (put_setting sess.settings name value) refl refl refl
@@ -132,7 +132,7 @@ module _ (base : Base) (core : Core) (here : Walk) (sess : Sess) (at : At base c
   asks now x (verdict_on.ClientAhead next) = refl
   asks now x (verdict_on.Forgotten horizon) = refl
 
-  outcomes : (now : ℕ) (x : Ltxid) (after : Core) (told : Told) → Outcomes core x after told → IsTrue (is_answered told) → deed_but here (deed_in base here (session_of sess.ltxid) now (thing_of (up.Outcome x) told)) ≡ true
+  outcomes : (now : ℕ) (x : Ltxid) (after : Core) (told : Telling) → Outcomes core x after told → IsTrue (is_answered told) → deed_but here (deed_in base here (session_of sess.ltxid) now (thing_of (up.Outcome x) told)) ≡ true
   outcomes now x _ _ (IsTold judged by) answered = asks now x judged
   outcomes now x _ _ (BlockStops after by same) answered = let none : ⊥ = cc in absurd none
 
@@ -145,7 +145,7 @@ module _ (base : Base) (core : Core) (here : Walk) (sess : Sess) (at : At base c
   refused now up.Close = refl
 
   -- a frame that is answered
-  pub serve-right : (now : ℕ) (frame : Up) (after : Core) (new : Sess) (told : Told) → Left here core rest after → Serve core sess now frame after new told → IsTrue (is_answered told)
+  pub serve-right : (now : ℕ) (frame : Up) (after : Core) (new : Sess) (told : Telling) → Left here core rest after → Serve core sess now frame after new told → IsTrue (is_answered told)
       → deed_but here (deed_in base here (session_of sess.ltxid) now (thing_of frame told)) ≡ true
   serve-right now _ _ _ _ left (Connects life) answered = refl
   serve-right now _ _ _ _ left (Begins settings serving) answered = refl

@@ -15,7 +15,7 @@ use Rattle.ltxid_book.specs.declared.verdict.Verdict.TheVariants as verdict
 use Rattle.server_model.specs.Base.{Base, IsSound}
 use Rattle.server_model.specs.Core.{Core, all_entries, all_blocked}
 use Rattle.server_model.specs.Sessions.{Sess, ended}
-use Rattle.server_model.specs.Outcomes.{Told, Says, Outcomes, IsTold, BlockStops, if_blocks, verdict_on}
+use Rattle.server_model.specs.Outcomes.{Telling, Says, Outcomes, IsTold, BlockStops, if_blocks, verdict_on}
 use Rattle.server_model.specs.Serve.{Serve}
 use Rattle.server_model.specs.Runs.{Happened, Server, Turns, Moves, Makes, Answers, Halts, Loses, AnswersAsk, HaltsInAsk, Reaps, Falls, Opens, StopsOpening, Runs, Start, Then, Off, On, Halted, Power, is_running, reopened_core, forgetting, next_session}
 use Rattle.server_model.specs.Laws.{Stands, AreNumbered, StaysIn, RunsStand, EntryNumbers, NeverAfterBlock}
@@ -61,7 +61,7 @@ module _ (base : Base) (server after : Server) (old new : Sess) (core : Core) (p
       } in
       subst (Numbered base) (sym turns.turned) numbered_made
 
-served : (base : Base) (server after : Server) (old new : Sess) (now : ℕ) (frame : Up) (core : Core) (told : Told) (power : Power) → Numbered base server → IsTrue (is_running server.power) → IsTrue (is_running power)
+served : (base : Base) (server after : Server) (old new : Sess) (now : ℕ) (frame : Up) (core : Core) (told : Telling) (power : Power) → Numbered base server → IsTrue (is_running server.power) → IsTrue (is_running power)
     → Serve server.core old now frame core new told → Turns server after old new core power → Numbered base after
 served base server after old new now frame core told power numbered running on serve turns =
     let stays = serve_stays server.core old now frame core new told serve in
@@ -78,7 +78,7 @@ blocks-asked (verdict.ServerAhead next) core x by = (refl, inl refl)
 blocks-asked (verdict.ClientAhead next) core x by = (refl, inl refl)
 blocks-asked (verdict.Forgotten horizon) core x by = (refl, inl refl)
 
-outcomes-asked : (core : Core) (x : Ltxid) (after : Core) (told : Told) → Outcomes core x after told → (after.entries ≡ core.entries) × ((after.blocked ≡ core.blocked) ⊎ ((after.blocked ≡ core.blocked ++ x ∷ []) × IsNext core x))
+outcomes-asked : (core : Core) (x : Ltxid) (after : Core) (told : Telling) → Outcomes core x after told → (after.entries ≡ core.entries) × ((after.blocked ≡ core.blocked) ⊎ ((after.blocked ≡ core.blocked ++ x ∷ []) × IsNext core x))
 outcomes-asked core x _ _ (IsTold judged by) = blocks-asked judged core x by
 outcomes-asked core x _ _ (BlockStops after by (inl same)) = (ap (λ (c : Core). c.entries) same, inl (ap (λ (c : Core). c.blocked) same))
 outcomes-asked core x _ _ (BlockStops after by (inr same)) = (ap (λ (c : Core). c.entries) same, inr (ap (λ (c : Core). c.blocked) same, blocks-IsNext core x by))
@@ -95,7 +95,7 @@ stand-asked core x after base entries (inr (more, next)) stand =
     let stands : BlocksStand (map committed_of (all_entries core)) (all_blocked core ++ x ∷ []) = (follows_blocks core.horizon (map committed_of (all_entries core)) (all_blocked core) x stand next).1 in
     subst (λ (e : List Entry). BlocksStand (map committed_of e) (all_blocked after)) (sym entries) (subst (λ (b : List Ltxid). BlocksStand (map committed_of (all_entries core)) b) (sym all) stands)
 
-asked : (base : Base) (server : Server) (x : Ltxid) (core : Core) (told : Told) (power : Power) → Numbered base server → IsTrue (is_running server.power) → IsTrue (is_running power) → Outcomes server.core x core told → Numbered base (record server { power = power; core = core })
+asked : (base : Base) (server : Server) (x : Ltxid) (core : Core) (told : Telling) (power : Power) → Numbered base server → IsTrue (is_running server.power) → IsTrue (is_running power) → Outcomes server.core x core told → Numbered base (record server { power = power; core = core })
 asked base server x core told power numbered running on asks =
     let stay = outcomes_stay server.core x core told asks in
     let step = outcomes-asked server.core x core told asks in

@@ -9,7 +9,7 @@ use Rattle.svc_values.specs.Tables.{with_writes, AreTables}
 use Rattle.stmt_meaning.specs.Meaning.{Meant}
 use Rattle.stmt_meaning.specs.Reads.{reads_at}
 use Rattle.stmt_meaning.specs.Serial.{Replays, CommitLast}
-use Rattle.stmt_meaning.specs.Rerun.{Moment, RanAt, AreOrdered, pieces_of, reads_of}
+use Rattle.stmt_meaning.specs.Rerun.{CallAt, RanAt, AreOrdered, pieces_of, reads_of}
 use Rattle.stmt_meaning.proofs.Offered.{RanAt-more, reads-more}
 use Rattle.server_model.specs.Sessions.{Sess}
 
@@ -19,7 +19,7 @@ NoneCommits [] = Unit {0}
 NoneCommits (piece ∷ pieces) = (ends_committed piece.answers ≡ false) × NoneCommits pieces
 
 pub record Ran (shape : Shape) (sess : Sess) : Type 0 where
-  pub moments : List Moment
+  pub moments : List CallAt
   pub ordered : AreOrdered moments
   pub ran : RanAt shape sess.at_start [] moments sess.settings sess.writes
   pub pieces : pieces_of moments ≡ sess.pieces
@@ -28,14 +28,14 @@ pub record Ran (shape : Shape) (sess : Sess) : Type 0 where
 
 -- ---- one call more
 
-one_more : List Moment → Moment → List Moment
+one_more : List CallAt → CallAt → List CallAt
 one_more moments last = moments ++ last ∷ []
 
-pub AreOrdered-more : (moments : List Moment) (last : Moment) → AreOrdered moments → AreTables last.committed → AreOrdered (moments ++ last ∷ [])
+pub AreOrdered-more : (moments : List CallAt) (last : CallAt) → AreOrdered moments → AreTables last.committed → AreOrdered (moments ++ last ∷ [])
 AreOrdered-more [] last ordered here = (here, tt)
 AreOrdered-more (first ∷ moments) last ordered here = (ordered.0, AreOrdered-more moments last ordered.1 here)
 
-pub pieces-more : (moments : List Moment) (last : Moment) → pieces_of (moments ++ last ∷ []) ≡ pieces_of moments ++ last.piece ∷ []
+pub pieces-more : (moments : List CallAt) (last : CallAt) → pieces_of (moments ++ last ∷ []) ≡ pieces_of moments ++ last.piece ∷ []
 pieces-more [] last = refl
 pieces-more (first ∷ moments) last = ap (λ pieces. first.piece ∷ pieces) (pieces-more moments last)
 
@@ -56,7 +56,7 @@ pub Ran-more : (shape : Shape) (sess t : Sess) (committed : List PlainRow) (piec
     → t.at_start ≡ sess.at_start → t.settings ≡ meant.settings → t.pieces ≡ sess.pieces ++ piece ∷ [] → t.writes ≡ sess.writes ++ meant.writes → t.reads ≡ sess.reads ++ reads_at committed meant.reads
     → Ran shape t
 Ran-more shape sess t committed piece meant ran ordered replays open_ at_start settings pieces writes reads =
-    let last : Moment = record { committed = committed; piece = piece } in
+    let last : CallAt = record { committed = committed; piece = piece } in
     let ran_at = RanAt-more shape last meant ran.moments sess.at_start sess.settings [] sess.writes ran.ran replays in
     let read = reads-more shape last meant ran.moments sess.at_start sess.settings [] sess.writes ran.ran replays ∙ ap (λ r. r ++ reads_at committed meant.reads) ran.reads ∙ sym reads in
     record {

@@ -18,7 +18,7 @@ use Rattle.svc_values.specs.declared.tables.PlainRow.{PlainRow}
 use Rattle.svc_values.specs.Tables.{with_writes, AreTables}
 use Rattle.stmt_meaning.specs.Meaning.{AllDone, Meant, mean, worked, statements_done, commit_answer}
 use Rattle.stmt_meaning.specs.Serial.{Replays, CommitLast, Transaction, Serial}
-use Rattle.stmt_meaning.specs.Rerun.{Moment, pieces_of}
+use Rattle.stmt_meaning.specs.Rerun.{CallAt, pieces_of}
 use Rattle.svc_values.proofs.Offered.{AreTables-with_writes, with_writes-append}
 use Rattle.stmt_meaning.proofs.Offered.{RanAt-more, reads-more, rerun-transaction, Serial-next}
 use Rattle.mutable_values.specs.Sources.{Opening}
@@ -28,7 +28,7 @@ use Rattle.server_model.specs.Base.{Base}
 use Rattle.server_model.specs.Core.{Core, committed, tables_with, writes_in}
 use Rattle.server_model.specs.Sessions.{Sess, Idle, with_work, entry_of, piece_of}
 use Rattle.stmt_meaning.specs.Reads.{Read, reads_at, ReadsStand}
-use Rattle.server_model.specs.Outcomes.{Told, Silent, Says, Stopped, Outcomes, IsTold, BlockStops, if_blocks}
+use Rattle.server_model.specs.Outcomes.{Telling, Silent, Says, Stopped, Outcomes, IsTold, BlockStops, if_blocks}
 use Rattle.server_model.specs.Serve.{Commits, InReplay, Blocks, Conflicts, Stores, StopsBefore, StopsAfter, Means, Works, Answers, Reaches, HaltsInDraw, Calls, IsWork, IsSet, IsAlter, AlterStops, AlterMarked, IsDisable, IsRollback, Serve, Connects, Begins, Ends, Closes, Asks, Runs, Refuses, with_opening, with_entry, if_told}
 use Rattle.server_model.proofs.Ran.{Ran, Ran-more, Ran-none, AreOrdered-more, pieces-more, CommitLast-more}
 
@@ -75,7 +75,7 @@ module _ (core : Core) (sess : Sess) (called : Call) (draws : List Draw) (meant 
   piece : Piece
   piece = piece_of called meant.answers draws
 
-  last : Moment
+  last : CallAt
   last = record { committed = committed core; piece = piece }
 
   replays : Replays core.base.shape (with_writes (committed core) sess.writes) sess.settings piece meant
@@ -90,7 +90,7 @@ module _ (core : Core) (sess : Sess) (called : Call) (draws : List Draw) (meant 
       → Transaction core.base.shape (committed core) sess.at_start (sess.pieces ++ piece ∷ []) (with_writes (committed core) (sess.writes ++ meant.writes))
   unfolding piece last
   transaction stand =
-      let moments : List Moment = ran.moments ++ last ∷ [] in
+      let moments : List CallAt = ran.moments ++ last ∷ [] in
       let ran_at = RanAt-more core.base.shape last meant ran.moments sess.at_start sess.settings [] sess.writes ran.ran replays in
       let read = reads-more core.base.shape last meant ran.moments sess.at_start sess.settings [] sess.writes ran.ran replays ∙ ap (λ r. r ++ reads_at (committed core) meant.reads) ran.reads in
       let pieces : pieces_of moments ≡ sess.pieces ++ piece ∷ [] = pieces-more ran.moments last ∙ ap (λ p. p ++ piece ∷ []) ran.pieces in
@@ -106,7 +106,7 @@ module _ (core : Core) (sess : Sess) (called : Call) (draws : List Draw) (meant 
       subst (Serial core.base.shape core.base.tables (core.entries ++ entry ∷ [])) (sym (tables_with-more core.base.tables core.entries entry))
       (Serial-next core.base.shape core.base.tables core.entries (committed core) entry (with_writes (committed core) entry.writes) serial (transaction stand))
 
-  pub commits_keep : (opening : Opening) (replay : Bool) (after : Core) (t : Sess) (told : Told) → IsSerial core
+  pub commits_keep : (opening : Opening) (replay : Bool) (after : Core) (t : Sess) (told : Telling) → IsSerial core
       → Commits (with_opening core opening) (with_work sess (committed core) meant) replay called meant.answers draws after t told → Keeps core after t
   commits_keep opening replay _ _ _ serial (InReplay marked) = record { base = refl; serial = serial; ran = Ran-none core.base.shape _ refl refl refl refl }
   commits_keep opening replay _ _ _ serial (Blocks unmarked blocked) = record { base = refl; serial = serial; ran = Ran-none core.base.shape _ refl refl refl refl }
@@ -117,7 +117,7 @@ module _ (core : Core) (sess : Sess) (called : Call) (draws : List Draw) (meant 
 
 -- ---- calls
 
-pub works_keep : (core : Core) (sess : Sess) (replay : Bool) (kept : List Draw) (statements : List Statement) (commit : Bool) (now : ℕ) (after : Core) (t : Sess) (told : Told) → AreTables core.base.tables → IsSerial core → Ran core.base.shape sess
+pub works_keep : (core : Core) (sess : Sess) (replay : Bool) (kept : List Draw) (statements : List Statement) (commit : Bool) (now : ℕ) (after : Core) (t : Sess) (told : Telling) → AreTables core.base.tables → IsSerial core → Ran core.base.shape sess
     → Works core sess replay kept (call.Work statements commit) now after t told → Keeps core after t
 works_keep core sess replay kept statements commit now _ _ _ ordered serial ran (Answers opening draws left meant drew means ends) =
     let settings : meant.settings ≡ sess.settings = worked-settings (with_writes (committed core) sess.writes) sess.settings commit (statements_done core.base.shape (with_writes (committed core) sess.writes) sess.settings statements draws) meant means.run in
@@ -141,7 +141,7 @@ alone_keeps core sess t called meant ordered ran run rest ends no_writes no_read
     (writes ∙ sym (append-nil sess.writes) ∙ ap (λ w. sess.writes ++ w) (sym no_writes))
     (reads ∙ sym (append-nil sess.reads) ∙ ap (λ r. sess.reads ++ reads_at (committed core) r) (sym no_reads))
 
-pub calls_keep : (core : Core) (sess : Sess) (replay : Bool) (kept : List Draw) (now : ℕ) (called : Call) (after : Core) (t : Sess) (told : Told) → AreTables core.base.tables → IsSerial core → Ran core.base.shape sess
+pub calls_keep : (core : Core) (sess : Sess) (replay : Bool) (kept : List Draw) (now : ℕ) (called : Call) (after : Core) (t : Sess) (told : Telling) → AreTables core.base.tables → IsSerial core → Ran core.base.shape sess
     → Calls core sess replay kept now called after t told → Keeps core after t
 calls_keep core sess replay kept now _ _ _ _ ordered serial ran (IsWork statements commit after t told works) = works_keep core sess replay kept statements commit now after t told ordered serial ran works
 calls_keep core sess replay kept now _ _ _ _ ordered serial ran (IsSet name value) =
@@ -172,12 +172,12 @@ blocks_keep (verdict.ServerAhead next) core x = record { base = refl; entries = 
 blocks_keep (verdict.ClientAhead next) core x = record { base = refl; entries = refl }
 blocks_keep (verdict.Forgotten horizon) core x = record { base = refl; entries = refl }
 
-pub outcomes_keep : (core : Core) (x : Ltxid) (after : Core) (told : Told) → Outcomes core x after told → SameStore core after
+pub outcomes_keep : (core : Core) (x : Ltxid) (after : Core) (told : Telling) → Outcomes core x after told → SameStore core after
 outcomes_keep core x _ _ (IsTold judged by) = blocks_keep judged core x
 outcomes_keep core x _ _ (BlockStops after by (inl same)) = record { base = ap (λ (c : Core). c.base) same; entries = ap (λ (c : Core). c.entries) same }
 outcomes_keep core x _ _ (BlockStops after by (inr same)) = record { base = ap (λ (c : Core). c.base) same; entries = ap (λ (c : Core). c.entries) same }
 
-Ran-told : (shape : Shape) (sess : Sess) (told : Told) → Ran shape sess → Ran shape (if_told told sess)
+Ran-told : (shape : Shape) (sess : Sess) (told : Telling) → Ran shape sess → Ran shape (if_told told sess)
 Ran-told shape sess Silent ran = ran
 Ran-told shape sess (Says frame) ran = ran
 Ran-told shape sess Stopped ran = Ran-none shape _ refl refl refl refl
@@ -187,7 +187,7 @@ Ran-told shape sess Stopped ran = Ran-none shape _ refl refl refl refl
 Ran-connected : (shape : Shape) (sess : Sess) → Ran shape sess → Ran shape (record sess { life = Idle })
 Ran-connected shape sess ran = record { moments = ran.moments; ordered = ran.ordered; ran = ran.ran; pieces = ran.pieces; reads = ran.reads; none = ran.none }
 
-pub serve_keeps : (core : Core) (sess : Sess) (now : ℕ) (frame : Up) (after : Core) (t : Sess) (told : Told) → AreTables core.base.tables → IsSerial core → Ran core.base.shape sess
+pub serve_keeps : (core : Core) (sess : Sess) (now : ℕ) (frame : Up) (after : Core) (t : Sess) (told : Telling) → AreTables core.base.tables → IsSerial core → Ran core.base.shape sess
     → Serve core sess now frame after t told → Keeps core after t
 serve_keeps core sess now _ _ _ _ ordered serial ran (Connects life) = record { base = refl; serial = serial; ran = Ran-connected core.base.shape sess ran }
 serve_keeps core sess now _ _ _ _ ordered serial ran (Begins settings serving) = record { base = refl; serial = serial; ran = Ran-none core.base.shape _ refl refl refl refl }

@@ -23,7 +23,7 @@ use Rattle.server_model.specs.Sessions.{Sess, with_work}
 use Rattle.svc_values.specs.Identifiers.{session_of}
 use Rattle.stmt_meaning.specs.Asked.{kind_drawn}
 use Rattle.server_model.specs.Draws.{Draws, Gives, Reserves, DrawsAll, HaltsAt, BlockLost, BlockStands}
-use Rattle.server_model.specs.Outcomes.{Told, Silent, Says, Stopped, Outcomes, IsTold, BlockStops, if_blocks}
+use Rattle.server_model.specs.Outcomes.{Telling, Silent, Says, Stopped, Outcomes, IsTold, BlockStops, if_blocks}
 use Rattle.server_model.specs.Serve.{Commits, InReplay, Blocks, Conflicts, Stores, StopsBefore, StopsAfter, Works, Answers, Reaches, HaltsInDraw, Calls, IsWork, IsSet, IsAlter, AlterStops, AlterMarked, IsDisable, IsRollback, Serve, Connects, Begins, Ends, Closes, Asks, Runs, Refuses, with_opening, if_told}
 use Rattle.server_model.specs.Laws.{StaysIn}
 
@@ -88,7 +88,7 @@ halt-stays now kept before _ (BlockStands name upto is) = refl
 moved : (core : Core) (opening : Opening) (sess : Sess) (rows : List PlainRow) (meant : Meant) (after : Core) (t : Sess) → opening.incarnation ≡ core.opening.incarnation → StaysIn (with_opening core opening) (with_work sess rows meant) after t → StaysIn core sess after t
 moved core opening sess rows meant after t same stays = record { base = stays.base; incarnation = stays.incarnation ∙ same; session = stays.session; horizon = stays.horizon }
 
-commits_stay : (core : Core) (sess : Sess) (replay : Bool) (called : Call) (answers : List Answer) (draws : List Draw) (after : Core) (t : Sess) (told : Told) → Commits core sess replay called answers draws after t told → StaysIn core sess after t
+commits_stay : (core : Core) (sess : Sess) (replay : Bool) (called : Call) (answers : List Answer) (draws : List Draw) (after : Core) (t : Sess) (told : Telling) → Commits core sess replay called answers draws after t told → StaysIn core sess after t
 commits_stay core sess replay called answers draws _ _ _ (InReplay marked) = record { base = refl; incarnation = refl; session = refl; horizon = refl }
 commits_stay core sess replay called answers draws _ _ _ (Blocks unmarked blocked) = record { base = refl; incarnation = refl; session = refl; horizon = refl }
 commits_stay core sess replay called answers draws _ _ _ (Conflicts unmarked free differs) = record { base = refl; incarnation = refl; session = refl; horizon = refl }
@@ -96,7 +96,7 @@ commits_stay core sess replay called answers draws _ _ _ (Stores may) = record {
 commits_stay core sess replay called answers draws _ _ _ (StopsBefore may) = record { base = refl; incarnation = refl; session = refl; horizon = refl }
 commits_stay core sess replay called answers draws _ _ _ (StopsAfter may) = record { base = refl; incarnation = refl; session = refl; horizon = refl }
 
-works_stay : (core : Core) (sess : Sess) (replay : Bool) (kept : List Draw) (called : Call) (now : ℕ) (after : Core) (t : Sess) (told : Told) → Works core sess replay kept called now after t told → StaysIn core sess after t
+works_stay : (core : Core) (sess : Sess) (replay : Bool) (kept : List Draw) (called : Call) (now : ℕ) (after : Core) (t : Sess) (told : Telling) → Works core sess replay kept called now after t told → StaysIn core sess after t
 works_stay core sess replay kept called now _ _ _ (Answers opening draws left meant drew means ends) = record { base = refl; incarnation = all-stays now draws core.opening _ opening left drew; session = refl; horizon = refl }
 works_stay core sess replay kept called now _ _ _ (Reaches opening draws left meant after t told drew means ends commits) =
     moved core opening sess (committed core) meant after t (all-stays now draws core.opening _ opening left drew) (commits_stay (with_opening core opening) _ replay called meant.answers draws after t told commits)
@@ -106,7 +106,7 @@ works_stay core sess replay kept called now _ _ _ (HaltsInDraw between opening d
 same_stays : (core after : Core) (sess t : Sess) → (after.base ≡ core.base) → (after.opening ≡ core.opening) → (after.horizon ≡ core.horizon) → session_of t.ltxid ≡ session_of sess.ltxid → StaysIn core sess after t
 same_stays core after sess t base opening horizon session = record { base = base; incarnation = ap (λ (o : Opening). o.incarnation) opening; session = session; horizon = horizon }
 
-calls_stay : (core : Core) (sess : Sess) (replay : Bool) (kept : List Draw) (now : ℕ) (called : Call) (after : Core) (t : Sess) (told : Told) → Calls core sess replay kept now called after t told → StaysIn core sess after t
+calls_stay : (core : Core) (sess : Sess) (replay : Bool) (kept : List Draw) (now : ℕ) (called : Call) (after : Core) (t : Sess) (told : Telling) → Calls core sess replay kept now called after t told → StaysIn core sess after t
 calls_stay core sess replay kept now _ _ _ _ (IsWork statements commit after t told works) = works_stay core sess replay kept _ now after t told works
 calls_stay core sess replay kept now _ _ _ _ (IsSet name value) = record { base = refl; incarnation = refl; session = refl; horizon = refl }
 calls_stay core sess replay kept now _ _ _ _ (IsAlter line unmarked) = record { base = refl; incarnation = refl; session = refl; horizon = refl }
@@ -124,17 +124,17 @@ blocks_stay (verdict.ServerAhead next) core x = (refl, refl, refl)
 blocks_stay (verdict.ClientAhead next) core x = (refl, refl, refl)
 blocks_stay (verdict.Forgotten horizon) core x = (refl, refl, refl)
 
-pub outcomes_stay : (core : Core) (x : Ltxid) (after : Core) (told : Told) → Outcomes core x after told → (after.base ≡ core.base) × (after.opening ≡ core.opening) × (after.horizon ≡ core.horizon)
+pub outcomes_stay : (core : Core) (x : Ltxid) (after : Core) (told : Telling) → Outcomes core x after told → (after.base ≡ core.base) × (after.opening ≡ core.opening) × (after.horizon ≡ core.horizon)
 outcomes_stay core x _ _ (IsTold judged by) = blocks_stay judged core x
 outcomes_stay core x _ _ (BlockStops after by (inl same)) = (ap (λ (c : Core). c.base) same, ap (λ (c : Core). c.opening) same, ap (λ (c : Core). c.horizon) same)
 outcomes_stay core x _ _ (BlockStops after by (inr same)) = (ap (λ (c : Core). c.base) same, ap (λ (c : Core). c.opening) same, ap (λ (c : Core). c.horizon) same)
 
-told-session : (told : Told) (sess : Sess) → session_of (if_told told sess).ltxid ≡ session_of sess.ltxid
+told-session : (told : Telling) (sess : Sess) → session_of (if_told told sess).ltxid ≡ session_of sess.ltxid
 told-session Silent sess = refl
 told-session (Says frame) sess = refl
 told-session Stopped sess = refl
 
-pub serve_stays : (core : Core) (sess : Sess) (now : ℕ) (frame : Up) (after : Core) (t : Sess) (told : Told) → Serve core sess now frame after t told → StaysIn core sess after t
+pub serve_stays : (core : Core) (sess : Sess) (now : ℕ) (frame : Up) (after : Core) (t : Sess) (told : Telling) → Serve core sess now frame after t told → StaysIn core sess after t
 serve_stays core sess now _ _ _ _ (Connects life) = record { base = refl; incarnation = refl; session = refl; horizon = refl }
 serve_stays core sess now _ _ _ _ (Begins settings serving) = record { base = refl; incarnation = refl; session = refl; horizon = refl }
 serve_stays core sess now _ _ _ _ (Ends serving) = record { base = refl; incarnation = refl; session = refl; horizon = refl }

@@ -20,7 +20,7 @@ use Rattle.ltxid_book.specs.Outcomes.{outcome_in}
 use Rattle.server_model.specs.Core.{Core, committed, all_blocked, book}
 use Rattle.server_model.specs.Sessions.{Life, New, Idle, Begun, Ended, Sess, with_work}
 use Rattle.svc_values.specs.Identifiers.{session_of, ltxid_of}
-use Rattle.server_model.specs.Outcomes.{Told, Silent, Says, Stopped, Outcomes, IsTold, BlockStops, if_blocks, verdict_on}
+use Rattle.server_model.specs.Outcomes.{Telling, Silent, Says, Stopped, Outcomes, IsTold, BlockStops, if_blocks, verdict_on}
 use Rattle.server_model.specs.Serve.{Commits, InReplay, Blocks, Conflicts, Stores, StopsBefore, StopsAfter, Works, Answers, Reaches, HaltsInDraw, Calls, IsWork, IsSet, IsAlter, AlterStops, AlterMarked, IsDisable, IsRollback, Serve, Connects, Begins, Ends, Closes, Asks, Runs, Refuses, with_opening, if_told, is_serving, is_out_of_order}
 
 -- the identifier is its session's next one, and not blocked
@@ -38,7 +38,7 @@ moved core opening sess rows meant after t (Keeps entries blocked same) = Keeps 
 moved core opening sess rows meant after t (BlocksOne x entries blocked next same) = BlocksOne x entries blocked next same
 moved core opening sess rows meant after t (StoresOne entry entries blocked mine free here) = StoresOne entry entries blocked mine free here
 
-commits_step : (core : Core) (sess : Sess) (replay : Bool) (called : Call) (answers : List Answer) (draws : List Draw) (after : Core) (t : Sess) (told : Told) → Commits core sess replay called answers draws after t told → Steps core sess after t
+commits_step : (core : Core) (sess : Sess) (replay : Bool) (called : Call) (answers : List Answer) (draws : List Draw) (after : Core) (t : Sess) (told : Telling) → Commits core sess replay called answers draws after t told → Steps core sess after t
 commits_step core sess replay called answers draws _ _ _ (InReplay marked) = Keeps refl refl refl
 commits_step core sess replay called answers draws _ _ _ (Blocks unmarked blocked) = Keeps refl refl refl
 commits_step core sess replay called answers draws _ _ _ (Conflicts unmarked free differs) = Keeps refl refl refl
@@ -46,13 +46,13 @@ commits_step core sess replay called answers draws _ _ _ (Stores may) = StoresOn
 commits_step core sess replay called answers draws _ _ _ (StopsBefore may) = Keeps refl refl refl
 commits_step core sess replay called answers draws _ _ _ (StopsAfter may) = StoresOne _ refl refl refl may.free (inr (refl, refl))
 
-works_step : (core : Core) (sess : Sess) (replay : Bool) (kept : List Draw) (called : Call) (now : ℕ) (after : Core) (t : Sess) (told : Told) → Works core sess replay kept called now after t told → Steps core sess after t
+works_step : (core : Core) (sess : Sess) (replay : Bool) (kept : List Draw) (called : Call) (now : ℕ) (after : Core) (t : Sess) (told : Telling) → Works core sess replay kept called now after t told → Steps core sess after t
 works_step core sess replay kept called now _ _ _ (Answers opening draws left meant drew means ends) = Keeps refl refl refl
 works_step core sess replay kept called now _ _ _ (Reaches opening draws left meant after t told drew means ends commits) =
     moved core opening sess (committed core) meant after t (commits_step (with_opening core opening) _ replay called meant.answers draws after t told commits)
 works_step core sess replay kept called now _ _ _ (HaltsInDraw between opening draws more left meant drew means some halts) = Keeps refl refl refl
 
-calls_step : (core : Core) (sess : Sess) (replay : Bool) (kept : List Draw) (now : ℕ) (called : Call) (after : Core) (t : Sess) (told : Told) → Calls core sess replay kept now called after t told → Steps core sess after t
+calls_step : (core : Core) (sess : Sess) (replay : Bool) (kept : List Draw) (now : ℕ) (called : Call) (after : Core) (t : Sess) (told : Telling) → Calls core sess replay kept now called after t told → Steps core sess after t
 calls_step core sess replay kept now _ _ _ _ (IsWork statements commit after t told works) = works_step core sess replay kept _ now after t told works
 calls_step core sess replay kept now _ _ _ _ (IsSet name value) = Keeps refl refl refl
 calls_step core sess replay kept now _ _ _ _ (IsAlter line unmarked) = Keeps refl refl refl
@@ -95,19 +95,19 @@ told_step core sess t x (verdict.ServerAhead next) by same = Keeps refl refl sam
 told_step core sess t x (verdict.ClientAhead next) by same = Keeps refl refl same
 told_step core sess t x (verdict.Forgotten horizon) by same = Keeps refl refl same
 
-pub outcomes_step : (core : Core) (sess t : Sess) (x : Ltxid) (after : Core) (told : Told) → Outcomes core x after told → t.ltxid ≡ sess.ltxid → Steps core sess after t
+pub outcomes_step : (core : Core) (sess t : Sess) (x : Ltxid) (after : Core) (told : Telling) → Outcomes core x after told → t.ltxid ≡ sess.ltxid → Steps core sess after t
 outcomes_step core sess t x _ _ (IsTold judged by) same = told_step core sess t x judged by same
 outcomes_step core sess t x _ _ (BlockStops after by (inl kept)) same = Keeps (ap (λ (c : Core). c.entries) kept) (ap (λ (c : Core). c.blocked) kept) same
 outcomes_step core sess t x _ _ (BlockStops after by (inr kept)) same = BlocksOne x (ap (λ (c : Core). c.entries) kept) (ap (λ (c : Core). c.blocked) kept) (blocks-IsNext core x by) same
 
-told-ltxid : (told : Told) (sess : Sess) → (if_told told sess).ltxid ≡ sess.ltxid
+told-ltxid : (told : Telling) (sess : Sess) → (if_told told sess).ltxid ≡ sess.ltxid
 told-ltxid Silent sess = refl
 told-ltxid (Says frame) sess = refl
 told-ltxid Stopped sess = refl
 
 -- ---- a frame
 
-pub serve_step : (core : Core) (sess : Sess) (now : ℕ) (frame : Up) (after : Core) (t : Sess) (told : Told) → Serve core sess now frame after t told → Steps core sess after t
+pub serve_step : (core : Core) (sess : Sess) (now : ℕ) (frame : Up) (after : Core) (t : Sess) (told : Telling) → Serve core sess now frame after t told → Steps core sess after t
 serve_step core sess now _ _ _ _ (Connects life) = Keeps refl refl refl
 serve_step core sess now _ _ _ _ (Begins settings serving) = Keeps refl refl refl
 serve_step core sess now _ _ _ _ (Ends serving) = Keeps refl refl refl
@@ -126,7 +126,7 @@ is_ended Idle = false
 is_ended Begun = false
 is_ended Ended = true
 
-pub serve_alive : (core : Core) (sess : Sess) (now : ℕ) (frame : Up) (after : Core) (t : Sess) (told : Told) → Serve core sess now frame after t told → sess.life ≡ Ended → ⊥
+pub serve_alive : (core : Core) (sess : Sess) (now : ℕ) (frame : Up) (after : Core) (t : Sess) (told : Telling) → Serve core sess now frame after t told → sess.life ≡ Ended → ⊥
 unfolding is_ended
 serve_alive core sess now _ _ _ _ (Connects life) ended = never (ap is_ended (sym life ∙ ended))
 serve_alive core sess now _ _ _ _ (Begins settings serving) ended = never (sym (ap is_serving ended) ∙ serving)

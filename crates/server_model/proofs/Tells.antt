@@ -18,7 +18,7 @@ use Rattle.server_model.specs.Core.{Core, all_entries, committed}
 use Rattle.server_model.specs.Sessions.{Life, Begun, Ended, Sess, with_work}
 use Rattle.svc_values.specs.declared.entry.SessionId.{SessionId}
 use Rattle.svc_values.specs.Identifiers.{session_of}
-use Rattle.server_model.specs.Outcomes.{Told, Silent, Says, Stopped, Outcomes, IsTold, BlockStops, down_of, verdict_on}
+use Rattle.server_model.specs.Outcomes.{Telling, Silent, Says, Stopped, Outcomes, IsTold, BlockStops, down_of, verdict_on}
 use Rattle.server_model.specs.Serve.{Commits, InReplay, Blocks, Conflicts, Stores, StopsBefore, StopsAfter, Works, Answers as AnswersCall, Reaches, HaltsInDraw, Calls, IsWork, IsSet, IsAlter, AlterStops, AlterMarked, IsDisable, IsRollback, Serve, Connects, Begins, Ends, Closes, Asks, Runs as Serves, Refuses, with_opening}
 use Rattle.server_model.specs.Runs.{Happened, Served, Asked, Server, Moves, Makes, Answers, Halts, Loses, AnswersAsk, HaltsInAsk, Reaps, Falls, Opens, StopsOpening, Runs, Start, Then}
 use Rattle.server_model.specs.Laws.{identifier_in, TellsNext, TellsOutcomes, TellsAsks}
@@ -40,7 +40,7 @@ pub record SaysRight (frame : Up) (told : Down) (core : Core) (t : Sess) : Type 
   pub next : (x : Ltxid) → identifier_in told ≡ Some x → (t.ltxid ≡ x) × (t.life ≡ Ended → ⊥)
   pub outcome : (x : Ltxid) → frame ≡ up.Outcome x → (told ≡ down.Refused 2) ⊎ (told ≡ down_of (verdict_on core x))
 
-abbrev pub IfSays : Up → Told → Core → Sess → Type 0
+abbrev pub IfSays : Up → Telling → Core → Sess → Type 0
 IfSays frame Silent core t = Unit {0}
 IfSays frame (Says told) core t = SaysRight frame told core t
 IfSays frame Stopped core t = Unit {0}
@@ -55,7 +55,7 @@ without frame told core t no_one outcome = record { next = λ x is. none-some x 
 no_outcome : {A : Type 0} (replay : Bool) (kept : List Draw) (called : Call) (x : Ltxid) → up.Call replay kept called ≡ up.Outcome x → A
 no_outcome replay kept called x is = let none : ⊥ = cc in absurd none
 
-commits_say : (core before : Core) (sess : Sess) (replay : Bool) (kept : List Draw) (called : Call) (answers : List Answer) (draws : List Draw) (after : Core) (t : Sess) (told : Told) → (sess.life ≡ Ended → ⊥)
+commits_say : (core before : Core) (sess : Sess) (replay : Bool) (kept : List Draw) (called : Call) (answers : List Answer) (draws : List Draw) (after : Core) (t : Sess) (told : Telling) → (sess.life ≡ Ended → ⊥)
     → Commits before sess replay called answers draws after t told → IfSays (up.Call replay kept called) told core t
 commits_say core before sess replay kept called answers draws _ _ _ alive (InReplay marked) = replied replay kept called _ draws core _ sess.ltxid refl alive
 commits_say core before sess replay kept called answers draws _ _ _ alive (Blocks unmarked blocked) = without (up.Call replay kept called) down.Blocked core _ refl (λ x is. no_outcome replay kept called x is)
@@ -64,12 +64,12 @@ commits_say core before sess replay kept called answers draws _ _ _ alive (Store
 commits_say core before sess replay kept called answers draws _ _ _ alive (StopsBefore may) = tt
 commits_say core before sess replay kept called answers draws _ _ _ alive (StopsAfter may) = tt
 
-works_say : (core : Core) (sess : Sess) (replay : Bool) (kept : List Draw) (called : Call) (now : ℕ) (after : Core) (t : Sess) (told : Told) → (sess.life ≡ Ended → ⊥) → Works core sess replay kept called now after t told → IfSays (up.Call replay kept called) told core t
+works_say : (core : Core) (sess : Sess) (replay : Bool) (kept : List Draw) (called : Call) (now : ℕ) (after : Core) (t : Sess) (told : Telling) → (sess.life ≡ Ended → ⊥) → Works core sess replay kept called now after t told → IfSays (up.Call replay kept called) told core t
 works_say core sess replay kept called now _ _ _ alive (AnswersCall opening draws left meant drew means ends) = replied replay kept called meant.answers draws core _ sess.ltxid refl alive
 works_say core sess replay kept called now _ _ _ alive (Reaches opening draws left meant after t told drew means ends commits) = commits_say core (with_opening core opening) (with_work sess (committed core) meant) replay kept called meant.answers draws after t told alive commits
 works_say core sess replay kept called now _ _ _ alive (HaltsInDraw between opening draws more left meant drew means some halts) = tt
 
-calls_say : (core : Core) (sess : Sess) (replay : Bool) (kept : List Draw) (now : ℕ) (called : Call) (after : Core) (t : Sess) (told : Told) → (sess.life ≡ Ended → ⊥) → Calls core sess replay kept now called after t told → IfSays (up.Call replay kept called) told core t
+calls_say : (core : Core) (sess : Sess) (replay : Bool) (kept : List Draw) (now : ℕ) (called : Call) (after : Core) (t : Sess) (told : Telling) → (sess.life ≡ Ended → ⊥) → Calls core sess replay kept now called after t told → IfSays (up.Call replay kept called) told core t
 calls_say core sess replay kept now _ _ _ _ alive (IsWork statements commit after t told works) = works_say core sess replay kept _ now after t told alive works
 calls_say core sess replay kept now _ _ _ _ alive (IsSet name value) = replied replay kept _ _ [] core _ sess.ltxid refl alive
 calls_say core sess replay kept now _ _ _ _ alive (IsAlter line unmarked) = replied replay kept _ _ [] core _ sess.ltxid refl alive
@@ -86,7 +86,7 @@ no_identifier (verdict.ServerAhead next) = refl
 no_identifier (verdict.ClientAhead next) = refl
 no_identifier (verdict.Forgotten horizon) = refl
 
-outcomes_say : (core : Core) (t : Sess) (y : Ltxid) (after : Core) (told : Told) → Outcomes core y after told → IfSays (up.Outcome y) told core t
+outcomes_say : (core : Core) (t : Sess) (y : Ltxid) (after : Core) (told : Telling) → Outcomes core y after told → IfSays (up.Outcome y) told core t
 outcomes_say core t y _ _ (IsTold judged by) =
     without (up.Outcome y) (down_of judged) core t (no_identifier judged) (λ x is. let same : y ≡ x = cc in inr (ap down_of (sym by) ∙ ap (λ z. down_of (verdict_on core z)) same))
 outcomes_say core t y _ _ (BlockStops after by same) = tt
@@ -94,7 +94,7 @@ outcomes_say core t y _ _ (BlockStops after by same) = tt
 life-not : (life : Life) → life ≡ Begun → life ≡ Ended → ⊥
 life-not life begun ended = let none : Begun ≡ Ended = sym begun ∙ ended in let no : ⊥ = cc in no
 
-pub serve_says : (core : Core) (sess : Sess) (now : ℕ) (frame : Up) (after : Core) (t : Sess) (told : Told) → Serve core sess now frame after t told → IfSays frame told core t
+pub serve_says : (core : Core) (sess : Sess) (now : ℕ) (frame : Up) (after : Core) (t : Sess) (told : Telling) → Serve core sess now frame after t told → IfSays frame told core t
 serve_says core sess now _ _ _ _ (Connects life) = record { next = λ x is. (some-same sess.ltxid x is, λ ended. let none : ⊥ = cc in none); outcome = λ x is. let none : ⊥ = cc in absurd none }
 serve_says core sess now _ _ _ _ (Begins settings serving) = tt
 serve_says core sess now _ _ _ _ (Ends serving) = tt
@@ -122,7 +122,7 @@ abbrev pub AllTell : List Happened → Server → Server → Type 0
 AllTell [] before after = Unit {0}
 AllTell (happened ∷ more) before after = TellsOf happened before after × AllTell more before after
 
-served_tells : (told : Told) (server after : Server) (old new : Sess) (now : ℕ) (frame : Up) → session_of new.ltxid ≡ session_of old.ltxid → Mine after.core after.count new → IfSays frame told server.core new → TellsOf (Served (session_of old.ltxid) now frame told) server after
+served_tells : (told : Telling) (server after : Server) (old new : Sess) (now : ℕ) (frame : Up) → session_of new.ltxid ≡ session_of old.ltxid → Mine after.core after.count new → IfSays frame told server.core new → TellsOf (Served (session_of old.ltxid) now frame told) server after
 served_tells Silent server after old new now frame same mine says = tt
 served_tells (Says told) server after old new now frame same mine says = record {
   next = λ x is.
@@ -133,7 +133,7 @@ served_tells (Says told) server after old new now frame same mine says = record 
 }
 served_tells Stopped server after old new now frame same mine says = tt
 
-outcomes_tell : (core : Core) (x : Ltxid) (after : Core) (told : Told) → Outcomes core x after told → (before behind : Server) → before.core ≡ core → TellsOf (Asked x told) before behind
+outcomes_tell : (core : Core) (x : Ltxid) (after : Core) (told : Telling) → Outcomes core x after told → (before behind : Server) → before.core ≡ core → TellsOf (Asked x told) before behind
 outcomes_tell core x _ _ (IsTold judged by) before behind same = ap down_of (sym by) ∙ ap (λ (c : Core). down_of (verdict_on c x)) (sym same)
 outcomes_tell core x _ _ (BlockStops after by is) before behind same = tt
 
@@ -251,12 +251,12 @@ abbrev pub AllTable : List Happened → Core → Type 0
 AllTable [] core = Unit {0}
 AllTable (happened ∷ more) core = TableOf happened core × AllTable more core
 
-served_table : (told : Told) (session : SessionId) (now : ℕ) (frame : Up) (core : Core) (t : Sess) → IfSays frame told core t → TableOf (Served session now frame told) core
+served_table : (told : Telling) (session : SessionId) (now : ℕ) (frame : Up) (core : Core) (t : Sess) → IfSays frame told core t → TableOf (Served session now frame told) core
 served_table Silent session now frame core t says = tt
 served_table (Says told) session now frame core t says = says.outcome
 served_table Stopped session now frame core t says = tt
 
-asked_table : (core : Core) (x : Ltxid) (after : Core) (told : Told) → Outcomes core x after told → TableOf (Asked x told) core
+asked_table : (core : Core) (x : Ltxid) (after : Core) (told : Telling) → Outcomes core x after told → TableOf (Asked x told) core
 asked_table core x _ _ (IsTold judged by) = ap down_of (sym by)
 asked_table core x _ _ (BlockStops after by is) = tt
 

@@ -19,7 +19,7 @@ use Rattle.server_model.specs.Base.{Base}
 use Rattle.server_model.specs.Core.{Core, all_entries, all_blocked}
 use Rattle.svc_values.specs.declared.entry.SessionId.{SessionId}
 use Rattle.server_model.specs.Sessions.{Sess}
-use Rattle.server_model.specs.Outcomes.{Told, Silent, Says, Stopped, Outcomes, IsTold, BlockStops, down_of, if_blocks, with_block, verdict_on}
+use Rattle.server_model.specs.Outcomes.{Telling, Silent, Says, Stopped, Outcomes, IsTold, BlockStops, down_of, if_blocks, with_block, verdict_on}
 use Rattle.server_model.specs.Serve.{Serve, Connects, Begins, Ends, Closes, Asks, Runs as Serves, Refuses}
 use Rattle.server_model.specs.Runs.{Happened, Served, Asked, Server, Turns, Moves, Makes, Answers, Halts, Loses, AnswersAsk, HaltsInAsk, Reaps, Falls, Opens, StopsOpening, Runs, Start, Then, Power}
 use Rattle.server_model.specs.Laws.{TellsUncommitted, BlocksAreStored}
@@ -81,7 +81,7 @@ new-blocked core x = ap (λ b. is_blocked b x) (sym (append_assoc core.base.bloc
 
 -- ---- what is told
 
-abbrev pub IfTold : Told → Ltxid → Core → Type 0
+abbrev pub IfTold : Telling → Ltxid → Core → Type 0
 IfTold (Says (down.OutcomeIs false completed)) x core = IsBlocked core x
 IfTold _ x core = Unit {0}
 
@@ -93,7 +93,7 @@ judged_told (verdict.ServerAhead next) core x is = tt
 judged_told (verdict.ClientAhead next) core x is = tt
 judged_told (verdict.Forgotten horizon) core x is = tt
 
-outcomes_told : (core : Core) (x : Ltxid) (after : Core) (told : Told) → Outcomes core x after told → IfTold told x after
+outcomes_told : (core : Core) (x : Ltxid) (after : Core) (told : Telling) → Outcomes core x after told → IfTold told x after
 outcomes_told core x _ _ (IsTold judged by) = judged_told judged core x by
 outcomes_told core x _ _ (BlockStops after by same) = tt
 
@@ -102,7 +102,7 @@ IfAsked (Served session now (up.Outcome x) told) core = IfTold told x core
 IfAsked (Served session now frame told) core = Unit {0}
 IfAsked (Asked x told) core = IfTold told x core
 
-serve_told : (core : Core) (sess : Sess) (session : SessionId) (now : ℕ) (frame : Up) (after : Core) (t : Sess) (told : Told) → Serve core sess now frame after t told → IfAsked (Served session now frame told) after
+serve_told : (core : Core) (sess : Sess) (session : SessionId) (now : ℕ) (frame : Up) (after : Core) (t : Sess) (told : Telling) → Serve core sess now frame after t told → IfAsked (Served session now frame told) after
 serve_told core sess session now _ _ _ _ (Connects life) = tt
 serve_told core sess session now _ _ _ _ (Begins settings serving) = tt
 serve_told core sess session now _ _ _ _ (Ends serving) = tt
@@ -130,7 +130,7 @@ stopped_told session now up.Close core = tt
 
 -- ---- over runs
 
-told_on : (told : Told) (x : Ltxid) (core after : Core) → ((y : Ltxid) → IsBlocked core y → IsBlocked after y) → IfTold told x core → IfTold told x after
+told_on : (told : Telling) (x : Ltxid) (core after : Core) → ((y : Ltxid) → IsBlocked core y → IsBlocked after y) → IfTold told x core → IfTold told x after
 told_on Silent x core after on is = tt
 told_on (Says (down.Hello y)) x core after on is = tt
 told_on (Says (down.Reply answers draws y)) x core after on is = tt

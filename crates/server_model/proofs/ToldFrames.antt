@@ -23,7 +23,7 @@ use Rattle.ltxid_book.specs.Outcomes.{outcome_in}
 use Rattle.server_model.specs.Core.{Core, all_entries, all_blocked}
 use Rattle.svc_values.specs.declared.entry.SessionId.{SessionId}
 use Rattle.server_model.specs.Sessions.{Life, New, Idle, Begun, Ended, Sess}
-use Rattle.server_model.specs.Outcomes.{Told, Silent, Says, Outcomes, IsTold, BlockStops, down_of, verdict_on}
+use Rattle.server_model.specs.Outcomes.{Telling, Silent, Says, Outcomes, IsTold, BlockStops, down_of, verdict_on}
 use Rattle.server_model.specs.Serve.{Commits, InReplay, Blocks, Conflicts, Stores, StopsBefore, StopsAfter, Works, Answers, Reaches, HaltsInDraw, Calls, IsWork, IsSet, IsAlter, AlterStops, AlterMarked, IsDisable, IsRollback, Serve, Connects, Begins, Ends, Closes, Asks, Runs as Serves, Refuses, is_serving, is_out_of_order, if_told}
 use Rattle.server_model.specs.Runs.{is_answered}
 use Rattle.server_model.specs.Walk.{Walk, next_of}
@@ -95,7 +95,7 @@ outcome-right core walk x judged stored by = cases (nat_lt x.incarnation core.ho
         ∙ ap down_of is in
         by-table walk x judged (λ horizon e. never-forgotten ((x.number == own.next) && not own.blocked) ((x.number == own.next) && own.blocked) (x.number + 1 == own.next) (nat_lt (x.number + 1) own.next) own.completed own.next horizon (is ∙ e)) there
 
-pub ask-right : (core : Core) (walk : Walk) (x : Ltxid) (after : Core) (told : Told) → walk.stored ≡ all_entries core → Outcomes core x after told → ask_holds walk x told ≡ true
+pub ask-right : (core : Core) (walk : Walk) (x : Ltxid) (after : Core) (told : Telling) → walk.stored ≡ all_entries core → Outcomes core x after told → ask_holds walk x told ≡ true
 ask-right core walk x _ _ stored (IsTold judged by) = outcome-right core walk x judged stored by
 ask-right core walk x _ _ stored (BlockStops after by same) = refl
 
@@ -109,11 +109,11 @@ asked-life (verdict.ServerAhead next) x life = refl
 asked-life (verdict.ClientAhead next) x life = refl
 asked-life (verdict.Forgotten horizon) x life = refl
 
-outcomes-life : (core : Core) (sess : Sess) (x : Ltxid) (after : Core) (told : Told) → Outcomes core x after told → IsTrue (is_answered told) → life_after (up.Outcome x) told sess.life ≡ (if_told told sess).life
+outcomes-life : (core : Core) (sess : Sess) (x : Ltxid) (after : Core) (told : Telling) → Outcomes core x after told → IsTrue (is_answered told) → life_after (up.Outcome x) told sess.life ≡ (if_told told sess).life
 outcomes-life core sess x _ _ (IsTold judged by) answered = asked-life judged x sess.life
 outcomes-life core sess x _ _ (BlockStops after by same) answered = let none : ⊥ = cc in absurd none
 
-commits-life : (core : Core) (sess : Sess) (replay : Bool) (kept : List Draw) (called : Call) (answers : List Answer) (draws : List Draw) (after : Core) (t : Sess) (told : Told) → Commits core sess replay called answers draws after t told → IsTrue (is_answered told)
+commits-life : (core : Core) (sess : Sess) (replay : Bool) (kept : List Draw) (called : Call) (answers : List Answer) (draws : List Draw) (after : Core) (t : Sess) (told : Telling) → Commits core sess replay called answers draws after t told → IsTrue (is_answered told)
     → life_after (up.Call replay kept called) told sess.life ≡ t.life
 commits-life core sess replay kept called answers draws _ _ _ (InReplay marked) answered = refl
 commits-life core sess replay kept called answers draws _ _ _ (Blocks unmarked blocked) answered = refl
@@ -122,13 +122,13 @@ commits-life core sess replay kept called answers draws _ _ _ (Stores may) answe
 commits-life core sess replay kept called answers draws _ _ _ (StopsBefore may) answered = let none : ⊥ = cc in absurd none
 commits-life core sess replay kept called answers draws _ _ _ (StopsAfter may) answered = let none : ⊥ = cc in absurd none
 
-works-life : (core : Core) (sess : Sess) (replay : Bool) (kept : List Draw) (called : Call) (now : ℕ) (after : Core) (t : Sess) (told : Told) → Works core sess replay kept called now after t told → IsTrue (is_answered told)
+works-life : (core : Core) (sess : Sess) (replay : Bool) (kept : List Draw) (called : Call) (now : ℕ) (after : Core) (t : Sess) (told : Telling) → Works core sess replay kept called now after t told → IsTrue (is_answered told)
     → life_after (up.Call replay kept called) told sess.life ≡ t.life
 works-life core sess replay kept called now _ _ _ (Answers opening draws left meant drew means not) answered = refl
 works-life core sess replay kept called now _ _ _ (Reaches opening draws left meant after t told drew means is commits) answered = commits-life _ _ replay kept called meant.answers draws after t told commits answered
 works-life core sess replay kept called now _ _ _ (HaltsInDraw between opening draws more left meant drew means some halts) answered = let none : ⊥ = cc in absurd none
 
-calls-life : (core : Core) (sess : Sess) (replay : Bool) (kept : List Draw) (now : ℕ) (called : Call) (after : Core) (t : Sess) (told : Told) → Calls core sess replay kept now called after t told → IsTrue (is_answered told)
+calls-life : (core : Core) (sess : Sess) (replay : Bool) (kept : List Draw) (now : ℕ) (called : Call) (after : Core) (t : Sess) (told : Telling) → Calls core sess replay kept now called after t told → IsTrue (is_answered told)
     → life_after (up.Call replay kept called) told sess.life ≡ t.life
 calls-life core sess replay kept now _ _ _ _ (IsWork statements commit after t told works) answered = works-life core sess replay kept _ now after t told works answered
 calls-life core sess replay kept now _ _ _ _ (IsSet name value) answered = refl
@@ -139,7 +139,7 @@ calls-life core sess replay kept now _ _ _ _ IsDisable answered = refl
 calls-life core sess replay kept now _ _ _ _ IsRollback answered = refl
 
 -- the life that the frames tell is the session's
-pub serve-life : (core : Core) (sess : Sess) (now : ℕ) (frame : Up) (after : Core) (t : Sess) (told : Told) → Serve core sess now frame after t told → IsTrue (is_answered told) → life_after frame told sess.life ≡ t.life
+pub serve-life : (core : Core) (sess : Sess) (now : ℕ) (frame : Up) (after : Core) (t : Sess) (told : Telling) → Serve core sess now frame after t told → IsTrue (is_answered told) → life_after frame told sess.life ≡ t.life
 serve-life core sess now _ _ _ _ (Connects life) answered = refl
 serve-life core sess now _ _ _ _ (Begins settings serving) answered = refl
 serve-life core sess now _ _ _ _ (Ends serving) answered = refl
@@ -197,7 +197,7 @@ module _ (before behind : Walk) (session : SessionId) where
   same-next : (x y : Ltxid) → next_of behind session ≡ y → x ≡ y → same_ltxid x (next_of behind session) ≡ true
   same-next x y next same = (λ i. same_ltxid (same i) (next i)) ∙ ltxid-self y
 
-  commits-tell : (core : Core) (sess : Sess) (replay : Bool) (kept : List Draw) (statements : List Statement) (commit : Bool) (answers : List Answer) (draws : List Draw) (after : Core) (t : Sess) (told : Told) → sess.life ≡ Begun
+  commits-tell : (core : Core) (sess : Sess) (replay : Bool) (kept : List Draw) (statements : List Statement) (commit : Bool) (answers : List Answer) (draws : List Draw) (after : Core) (t : Sess) (told : Telling) → sess.life ≡ Begun
       → Commits core sess replay (call.Work statements commit) answers draws after t told → IsTrue (is_answered told) → ((t.life ≡ Ended → ⊥) → next_of behind session ≡ t.ltxid)
       → told_holds Begun before behind session (up.Call replay kept (call.Work statements commit)) told ≡ true
   commits-tell core sess replay kept statements commit answers draws _ _ _ lives (InReplay marked) answered next = same-next _ _ (next (λ e. begun-ended (sym lives ∙ e))) refl
@@ -207,14 +207,14 @@ module _ (before behind : Walk) (session : SessionId) where
   commits-tell core sess replay kept statements commit answers draws _ _ _ lives (StopsBefore may) answered next = let none : ⊥ = cc in absurd none
   commits-tell core sess replay kept statements commit answers draws _ _ _ lives (StopsAfter may) answered next = let none : ⊥ = cc in absurd none
 
-  works-tell : (core : Core) (sess : Sess) (replay : Bool) (kept : List Draw) (statements : List Statement) (commit : Bool) (now : ℕ) (after : Core) (t : Sess) (told : Told) → sess.life ≡ Begun
+  works-tell : (core : Core) (sess : Sess) (replay : Bool) (kept : List Draw) (statements : List Statement) (commit : Bool) (now : ℕ) (after : Core) (t : Sess) (told : Telling) → sess.life ≡ Begun
       → Works core sess replay kept (call.Work statements commit) now after t told → IsTrue (is_answered told) → ((t.life ≡ Ended → ⊥) → next_of behind session ≡ t.ltxid)
       → told_holds Begun before behind session (up.Call replay kept (call.Work statements commit)) told ≡ true
   works-tell core sess replay kept statements commit now _ _ _ lives (Answers opening draws left meant drew means not) answered next = same-next _ _ (next (λ e. begun-ended (sym lives ∙ e))) refl
   works-tell core sess replay kept statements commit now _ _ _ lives (Reaches opening draws left meant after t told drew means is commits) answered next = commits-tell _ _ replay kept statements commit meant.answers draws after t told lives commits answered next
   works-tell core sess replay kept statements commit now _ _ _ lives (HaltsInDraw between opening draws more left meant drew means some halts) answered next = let none : ⊥ = cc in absurd none
 
-  calls-tell : (core : Core) (sess : Sess) (replay : Bool) (kept : List Draw) (now : ℕ) (called : Call) (after : Core) (t : Sess) (told : Told) → sess.life ≡ Begun
+  calls-tell : (core : Core) (sess : Sess) (replay : Bool) (kept : List Draw) (now : ℕ) (called : Call) (after : Core) (t : Sess) (told : Telling) → sess.life ≡ Begun
       → Calls core sess replay kept now called after t told → IsTrue (is_answered told) → ((t.life ≡ Ended → ⊥) → next_of behind session ≡ t.ltxid)
       → told_holds Begun before behind session (up.Call replay kept called) told ≡ true
   calls-tell core sess replay kept now _ _ _ _ lives (IsWork statements commit after t told works) answered next = works-tell core sess replay kept statements commit now after t told lives works answered next
@@ -226,11 +226,11 @@ module _ (before behind : Walk) (session : SessionId) where
   calls-tell core sess replay kept now _ _ _ _ lives IsDisable answered next = same-next _ _ (next (λ e. begun-ended (sym lives ∙ e))) refl
   calls-tell core sess replay kept now _ _ _ _ lives IsRollback answered next = same-next _ _ (next (λ e. begun-ended (sym lives ∙ e))) refl
 
-  asks-tell : (core : Core) (sess : Sess) (x : Ltxid) (after : Core) (told : Told) → before.stored ≡ all_entries core → is_serving sess.life ≡ true → Outcomes core x after told → told_holds sess.life before behind session (up.Outcome x) told ≡ true
+  asks-tell : (core : Core) (sess : Sess) (x : Ltxid) (after : Core) (told : Telling) → before.stored ≡ all_entries core → is_serving sess.life ≡ true → Outcomes core x after told → told_holds sess.life before behind session (up.Outcome x) told ≡ true
   asks-tell core sess x _ _ stored serving (IsTold judged by) = outcome sess.life x (down_of judged) serving (outcome-right core before x judged stored by)
   asks-tell core sess x _ _ stored serving (BlockStops after by same) = refl
 
-  pub serve-tells : (core : Core) (sess : Sess) (now : ℕ) (frame : Up) (after : Core) (t : Sess) (told : Told) → Serve core sess now frame after t told → IsTrue (is_answered told) → before.stored ≡ all_entries core
+  pub serve-tells : (core : Core) (sess : Sess) (now : ℕ) (frame : Up) (after : Core) (t : Sess) (told : Telling) → Serve core sess now frame after t told → IsTrue (is_answered told) → before.stored ≡ all_entries core
       → ((t.life ≡ Ended → ⊥) → next_of behind session ≡ t.ltxid) → told_holds sess.life before behind session frame told ≡ true
   serve-tells core sess now _ _ _ _ (Connects life) answered stored next = ap (λ l. told_holds l before behind session up.Connect (Says (down.Hello sess.ltxid))) life ∙ same-next _ _ (next idle-ended) refl
   serve-tells core sess now _ _ _ _ (Begins settings serving) answered stored next = silent sess.life (up.Begin settings) serving (refl, refl)

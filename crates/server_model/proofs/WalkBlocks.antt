@@ -18,7 +18,7 @@ use Rattle.ltxid_book.specs.Journal.{is_blocked}
 use Rattle.server_model.specs.Base.{Base}
 use Rattle.server_model.specs.Core.{Core, all_blocked}
 use Rattle.svc_values.specs.declared.entry.SessionId.{SessionId}
-use Rattle.server_model.specs.Outcomes.{Told, Silent, Says, Stopped}
+use Rattle.server_model.specs.Outcomes.{Telling, Silent, Says, Stopped}
 use Rattle.server_model.specs.Runs.{Happened, Served, Asked, Server, Runs}
 use Rattle.server_model.specs.Items.{Outcome, Uncommitted, Committed, ServerAhead, ClientAhead, Forgotten, Thing, Connected, Began, Called, MetBlock, TellsOutcome, EndedRequest, Closed, Refused, CallStopped, OutcomeStopped, thing_of, Did}
 use Rattle.server_model.specs.NewValues.{opened}
@@ -125,7 +125,7 @@ silent-tells x (up.Outcome y) tells = absurd tells
 silent-tells x up.End tells = absurd tells
 silent-tells x up.Close tells = absurd tells
 
-served-tells : (x : Ltxid) (session : SessionId) (now : ℕ) (frame : Up) (told : Told) → Tells x (thing_of frame told) → TellsUncommitted x (Served session now frame told)
+served-tells : (x : Ltxid) (session : SessionId) (now : ℕ) (frame : Up) (told : Telling) → Tells x (thing_of frame told) → TellsUncommitted x (Served session now frame told)
 served-tells x session now frame Silent tells = silent-tells x frame tells
 served-tells x session now frame Stopped tells = silent-tells x frame tells
 served-tells x session now up.Connect (Says told) tells = connect-tells x told tells
@@ -142,18 +142,18 @@ enter-blocked walk session now thing = by (nat_lt walk.numbers.incarnation sessi
     by true = refl
     by false = refl
 
-served-by : (base : Base) (walk : Walk) (session : SessionId) (now : ℕ) (frame : Up) (told : Told) (x : Ltxid)
+served-by : (base : Base) (walk : Walk) (session : SessionId) (now : ℕ) (frame : Up) (told : Telling) (x : Ltxid)
     → (is_blocked (after_deed base (entered walk (Did 0 now session (thing_of frame told))) (deed_of base (entered walk (Did 0 now session (thing_of frame told))) (Did 0 now session (thing_of frame told)))).blocked x ≡ true) ⊎ Tells x (thing_of frame told)
     → (is_blocked walk.blocked x ≡ true) ⊎ TellsUncommitted x (Served session now frame told)
 served-by base walk session now frame told x (inl before) =
     inl (ap (λ b. is_blocked b x) (sym (deed-blocked base (entered walk (Did 0 now session (thing_of frame told))) (deed_of base (entered walk (Did 0 now session (thing_of frame told))) (Did 0 now session (thing_of frame told))) ∙ enter-blocked walk session now (thing_of frame told))) ∙ before)
 served-by base walk session now frame told x (inr tells) = inr (served-tells x session now frame told tells)
 
-served-blocked : (base : Base) (walk : Walk) (session : SessionId) (now : ℕ) (frame : Up) (told : Told) (x : Ltxid) → is_blocked (walk_behind base walk (Served session now frame told)).blocked x ≡ true
+served-blocked : (base : Base) (walk : Walk) (session : SessionId) (now : ℕ) (frame : Up) (told : Telling) (x : Ltxid) → is_blocked (walk_behind base walk (Served session now frame told)).blocked x ≡ true
     → (is_blocked walk.blocked x ≡ true) ⊎ TellsUncommitted x (Served session now frame told)
 served-blocked base walk session now frame told x is = served-by base walk session now frame told x (let here : Walk = entered walk (Did 0 now session (thing_of frame told)) in let did : Deed = deed_of base here (Did 0 now session (thing_of frame told)) in thing-blocked (after_deed base here did) session did (thing_of frame told) x is)
 
-asked-blocked : (base : Base) (walk : Walk) (y : Ltxid) (told : Told) (x : Ltxid) → is_blocked (walk_behind base walk (Asked y told)).blocked x ≡ true → (is_blocked walk.blocked x ≡ true) ⊎ TellsUncommitted x (Asked y told)
+asked-blocked : (base : Base) (walk : Walk) (y : Ltxid) (told : Telling) (x : Ltxid) → is_blocked (walk_behind base walk (Asked y told)).blocked x ≡ true → (is_blocked walk.blocked x ≡ true) ⊎ TellsUncommitted x (Asked y told)
 asked-blocked base walk y Silent x is = inl is
 asked-blocked base walk y Stopped x is = inl is
 asked-blocked base walk y (Says (down.Hello z)) x is = inl is

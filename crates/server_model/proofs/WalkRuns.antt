@@ -16,7 +16,7 @@ use Rattle.server_model.specs.Core.{Core, committed, all_entries, tables_with}
 use Rattle.svc_values.specs.declared.entry.SessionId.{SessionId}
 use Rattle.svc_values.specs.Identifiers.{session_of, same_session}
 use Rattle.server_model.specs.Sessions.{Life, New, Begun, Ended, Sess, ended, with_work, entry_of}
-use Rattle.server_model.specs.Outcomes.{Told, Silent, Says, Stopped, Outcomes, IsTold, down_of, if_blocks}
+use Rattle.server_model.specs.Outcomes.{Telling, Silent, Says, Stopped, Outcomes, IsTold, down_of, if_blocks}
 use Rattle.server_model.specs.Serve.{Serve}
 use Rattle.server_model.specs.Runs.{Happened, Served, Asked, Server, Turns, Moves, Makes, Answers, Halts, Loses, AnswersAsk, HaltsInAsk, Reaps, Falls, Opens, StopsOpening, Runs, Start, Then, Off, On, Halted, Power, is_running, is_answered, reopened_core, forgetting, next_session}
 use Rattle.server_model.specs.Items.{item_of}
@@ -82,7 +82,7 @@ behind-left n (Asked x told ∷ history) more is = behind-left n history more is
 below-is : (m n : ℕ) → nat_lt m n ≡ true → m < n
 below-is m n is = grind (arith, nat_tests)
 
-behind-last : (n : ℕ) (history : List Happened) (session : SessionId) (now : ℕ) (frame : Up) (told : Told) → is_behind n (history ++ Served session now frame told ∷ []) ≡ true → n < session.incarnation
+behind-last : (n : ℕ) (history : List Happened) (session : SessionId) (now : ℕ) (frame : Up) (told : Telling) → is_behind n (history ++ Served session now frame told ∷ []) ≡ true → n < session.incarnation
 behind-last n [] session now frame told is = below-is n session.incarnation (and-left (nat_lt n session.incarnation) _ is)
 behind-last n (Served other at sent said ∷ history) session now frame told is = behind-last n history session now frame told (and-right (nat_lt n other.incarnation) _ is)
 behind-last n (Asked x said ∷ history) session now frame told is = behind-last n history session now frame told is
@@ -99,7 +99,7 @@ not-self : (m n : ℕ) → m < n → m ≡ n → ⊥
 not-self m n below same = omega arith
 
 -- before a frame none of its opening was stopped
-pub none-stopped : (history : List Happened) (session : SessionId) (now : ℕ) (frame : Up) (told : Told) → stops_last (history ++ Served session now frame told ∷ []) ≡ true → NoStop session.incarnation history
+pub none-stopped : (history : List Happened) (session : SessionId) (now : ℕ) (frame : Up) (told : Telling) → stops_last (history ++ Served session now frame told ∷ []) ≡ true → NoStop session.incarnation history
 none-stopped [] session now frame told is = tt
 none-stopped (Served other at sent Stopped ∷ history) session now frame told is = (
   not-self other.incarnation session.incarnation (behind-last other.incarnation history session now frame told (and-right (stops_last (history ++ Served session now frame told ∷ [])) _ is)),
@@ -132,7 +132,7 @@ later-right rest (Served session now frame (Says told) ∷ history) more later =
 later-right rest (Asked x told ∷ history) more later = later-right rest history more later
 
 -- one entry more, of a frame that comes behind the history
-later-more : (entry : Entry) (rest : List Entry) (history : List Happened) (session : SessionId) (now : ℕ) (frame : Up) (told : Told) → stops_last (history ++ Served session now frame told ∷ []) ≡ true → entry.ltxid.incarnation ≡ session.incarnation → Later rest history → Later (entry ∷ rest) history
+later-more : (entry : Entry) (rest : List Entry) (history : List Happened) (session : SessionId) (now : ℕ) (frame : Up) (told : Telling) → stops_last (history ++ Served session now frame told ∷ []) ≡ true → entry.ltxid.incarnation ≡ session.incarnation → Later rest history → Later (entry ∷ rest) history
 later-more entry rest [] session now frame told is same later = tt
 later-more entry rest (Served other at sent Stopped ∷ history) session now frame told is same later = (
   (subst (λ n. other.incarnation < n) (sym same) (behind-last other.incarnation history session now frame told (and-right (stops_last (history ++ Served session now frame told ∷ [])) _ is)), later.0),
@@ -218,7 +218,7 @@ at-most : (m n : ℕ) → nat_lt m n ≡ false → m ≤ n → m ≡ n
 at-most m n not within = grind (arith, nat_tests)
 
 pub entered-is : (walk : Walk) (session : SessionId) → walk.numbers.incarnation ≤ session.incarnation → (walk.numbers.incarnation ≡ session.incarnation → walk.is_over ≡ false)
-    → (now : ℕ) (frame : Up) (told : Told) → Entered walk (entered walk (item_of 0 (Served session now frame told))) session.incarnation
+    → (now : ℕ) (frame : Up) (told : Telling) → Entered walk (entered walk (item_of 0 (Served session now frame told))) session.incarnation
 entered-is walk session within opens now frame told = by (nat_lt walk.numbers.incarnation session.incarnation) refl
   where
     by : (b : Bool) → nat_lt walk.numbers.incarnation session.incarnation ≡ b → Entered walk (if b then record walk { numbers = opened walk.numbers session.incarnation; is_over = false } else walk) session.incarnation
@@ -246,7 +246,7 @@ at-or-below : (m n k : ℕ) → m ≤ n → k ≡ n → m ≤ k
 at-or-below m n k within same = omega arith
 
 module _ (base : Base) (history : List Happened) (server : Server) (rest gained : List Entry) (walk : Walk) (lives : List (SessionId × Life)) (numbered : Numbered base server) (walks : Walks history server (gained ++ rest) walk lives) where
-  module _ (after : Server) (old new : Sess) (now : ℕ) (frame : Up) (core : Core) (power : Power) (running : IsTrue (is_running server.power)) (turns : Turns server after old new core power) (told : Told) (stops : stops_last (history ++ Served (session_of old.ltxid) now frame told ∷ []) ≡ true) (grew : core.entries ≡ server.core.entries ++ gained) where
+  module _ (after : Server) (old new : Sess) (now : ℕ) (frame : Up) (core : Core) (power : Power) (running : IsTrue (is_running server.power)) (turns : Turns server after old new core power) (told : Telling) (stops : stops_last (history ++ Served (session_of old.ltxid) now frame told ∷ []) ≡ true) (grew : core.entries ≡ server.core.entries ++ gained) where
     session : SessionId
     session = session_of old.ltxid
 
@@ -500,7 +500,7 @@ module _ (base : Base) (history : List Happened) (server : Server) (rest gained 
     viewed = walks.viewed;
   }
 
-  asks : (x : Ltxid) (core : Core) (told : Told) (power : Power) (said : Told) (behind : Walk) → IsTrue (is_running server.power) → Outcomes server.core x core told → AskSame walk behind → core.entries ≡ server.core.entries ++ gained
+  asks : (x : Ltxid) (core : Core) (told : Telling) (power : Power) (said : Telling) (behind : Walk) → IsTrue (is_running server.power) → Outcomes server.core x core told → AskSame walk behind → core.entries ≡ server.core.entries ++ gained
       → Walks (history ++ Asked x said ∷ []) (record server { power = power; core = core }) rest behind lives
   asks x core told power said behind running asked same grew =
       let stay = outcomes_stay server.core x core told asked in
@@ -602,7 +602,7 @@ step base history _ server _ rest gained walk lives numbered after_numbered (Sto
 
 -- ---- entries that a move gains are later than what was stopped before
 
-gains-later : (history : List Happened) (rest gained : List Entry) (core : Core) (old : Sess) (now : ℕ) (frame : Up) (told : Told) (after : Core) → Grows core old after → after.entries ≡ core.entries ++ gained → stops_last (history ++ Served (session_of old.ltxid) now frame told ∷ []) ≡ true → Later rest history → Later (gained ++ rest) history
+gains-later : (history : List Happened) (rest gained : List Entry) (core : Core) (old : Sess) (now : ℕ) (frame : Up) (told : Telling) (after : Core) → Grows core old after → after.entries ≡ core.entries ++ gained → stops_last (history ++ Served (session_of old.ltxid) now frame told ∷ []) ≡ true → Later rest history → Later (gained ++ rest) history
 gains-later history rest gained core old now frame told after (Same same) grew stops later = subst (λ g. Later (g ++ rest) history) (sym (no-gain core.entries gained (sym same ∙ grew))) later
 gains-later history rest gained core old now frame told after (One entry more own free) grew stops later =
     subst (λ g. Later (g ++ rest) history) (cancel core.entries (entry ∷ []) gained (sym more ∙ grew)) (later-more entry rest history (session_of old.ltxid) now frame told stops (ap (λ (x : Ltxid). x.incarnation) own) later)

@@ -12,7 +12,7 @@ use Rattle.svc_values.specs.declared.frame.Down.TheVariants as down
 use Rattle.svc_values.specs.declared.frame.Ahead.{Ahead}
 use Rattle.svc_values.specs.declared.frame.Ahead.TheVariants as ahead
 use Rattle.svc_values.specs.declared.entry.SessionId.{SessionId}
-use Rattle.server_model.specs.Outcomes.{Told, Silent, Says, Stopped}
+use Rattle.server_model.specs.Outcomes.{Telling, Silent, Says, Stopped}
 use Rattle.server_model.specs.Runs.{Happened, Served, Asked}
 
 -- what is told of an identifier
@@ -88,12 +88,12 @@ with_answer (up.Call replay kept called) frame = of_call replay kept called fram
 with_answer (up.Outcome x) frame = of_outcome x frame
 with_answer _ frame = Refused
 
-abbrev pub thing_of : Up → Told → Thing
+abbrev pub thing_of : Up → Telling → Thing
 thing_of frame Silent = without_answer frame
 thing_of frame (Says down) = with_answer frame down
 thing_of frame Stopped = without_answer frame
 
-abbrev pub asked_of : ℕ → Ltxid → Told → Item
+abbrev pub asked_of : ℕ → Ltxid → Telling → Item
 asked_of event x (Says (down.OutcomeIs committed completed)) = AskTold event x (outcome_is committed completed)
 asked_of event x (Says (down.OutcomeRefused ahead next)) = AskTold event x (outcome_ahead ahead next)
 asked_of event x _ = AskStopped event x

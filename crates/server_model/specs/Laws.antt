@@ -17,7 +17,7 @@ use Rattle.server_model.specs.Core.{Core, committed, all_entries, all_blocked, t
 use Rattle.svc_values.specs.declared.entry.SessionId.{SessionId}
 use Rattle.svc_values.specs.Identifiers.{session_of}
 use Rattle.server_model.specs.Sessions.{Sess}
-use Rattle.server_model.specs.Outcomes.{Told, Says, Stopped, down_of, verdict_on}
+use Rattle.server_model.specs.Outcomes.{Telling, Says, Stopped, down_of, verdict_on}
 use Rattle.server_model.specs.Serve.{Serve}
 use Rattle.server_model.specs.Runs.{Happened, Served, Asked, Server, is_running, Runs}
 use Rattle.server_model.specs.Items.{items_of}
@@ -36,7 +36,7 @@ pub data Grows (core : Core) (sess : Sess) (after : Core) : Type 0 where
 
 -- A frame stores no entry, or one of its session, under its identifier, which is not blocked.
 abbrev pub ServeGrows : Type 0
-ServeGrows = (core : Core) (sess : Sess) (now : ℕ) (frame : Up) (after : Core) (t : Sess) (told : Told) → Serve core sess now frame after t told → Grows core sess after
+ServeGrows = (core : Core) (sess : Sess) (now : ℕ) (frame : Up) (after : Core) (t : Sess) (told : Telling) → Serve core sess now frame after t told → Grows core sess after
 
 -- A frame leaves the base, its session's place, and what is forgotten.
 pub record StaysIn (core : Core) (sess : Sess) (after : Core) (t : Sess) : Type 0 where
@@ -46,7 +46,7 @@ pub record StaysIn (core : Core) (sess : Sess) (after : Core) (t : Sess) : Type 
   pub horizon : after.horizon ≡ core.horizon
 
 abbrev pub ServeStays : Type 0
-ServeStays = (core : Core) (sess : Sess) (now : ℕ) (frame : Up) (after : Core) (t : Sess) (told : Told) → Serve core sess now frame after t told → StaysIn core sess after t
+ServeStays = (core : Core) (sess : Sess) (now : ℕ) (frame : Up) (after : Core) (t : Sess) (told : Telling) → Serve core sess now frame after t told → StaysIn core sess after t
 
 -- ---- runs
 

@@ -11,10 +11,10 @@ use Rattle.server_model.specs.Core.{Core, book}
 
 -- What is told of a frame: nothing, a frame, or nothing because the store was stopped before the
 -- answer.
-pub data Told : Type 0 where
-  Silent : Told
-  Says : (frame : Down) → Told
-  Stopped : Told
+pub data Telling : Type 0 where
+  Silent : Telling
+  Says : (frame : Down) → Telling
+  Stopped : Telling
 
 -- the frame that tells a verdict. An identifier that is to be blocked is so before it is told
 abbrev pub down_of : Verdict → Down
@@ -44,6 +44,6 @@ if_blocks (verdict.Forgotten horizon) core x = core
 
 -- The outcome of an identifier is told, and before it is told uncommitted it is blocked. At a stop
 -- the block stands or not.
-pub data Outcomes (core : Core) (x : Ltxid) : Core → Told → Type 0 where
+pub data Outcomes (core : Core) (x : Ltxid) : Core → Telling → Type 0 where
   IsTold : (judged : Verdict) → verdict_on core x ≡ judged → Outcomes core x (if_blocks judged core x) (Says (down_of judged))
   BlockStops : (after : Core) → verdict_on core x ≡ verdict.BlockIt → (after ≡ core) ⊎ (after ≡ with_block core x) → Outcomes core x after Stopped

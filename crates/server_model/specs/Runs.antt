@@ -9,14 +9,14 @@ use Rattle.server_model.specs.Core.{Core, core_of, opening_after}
 use Rattle.svc_values.specs.declared.entry.SessionId.{SessionId}
 use Rattle.svc_values.specs.Identifiers.{session_of}
 use Rattle.server_model.specs.Sessions.{Sess, made, ended}
-use Rattle.server_model.specs.Outcomes.{Told, Silent, Says, Stopped, Outcomes}
+use Rattle.server_model.specs.Outcomes.{Telling, Silent, Says, Stopped, Outcomes}
 use Rattle.server_model.specs.Serve.{Serve}
 
 -- A frame that was served, with its session, its tick and what was told; and an identifier that was
 -- asked from outside.
 pub data Happened : Type 0 where
-  Served : (session : SessionId) (now : ℕ) (frame : Up) (told : Told) → Happened
-  Asked : (x : Ltxid) (told : Told) → Happened
+  Served : (session : SessionId) (now : ℕ) (frame : Up) (told : Telling) → Happened
+  Asked : (x : Ltxid) (told : Telling) → Happened
 
 -- Halted: the store was stopped in a call, and what the call still had to do is told to nobody.
 pub data Power : Type 0 where
@@ -36,7 +36,7 @@ pub record Server : Type 0 where
 abbrev pub server_of : Base → Server
 server_of base = record { power = Off; core = core_of base; sessions = []; count = 0 }
 
-abbrev pub is_answered : Told → Bool
+abbrev pub is_answered : Telling → Bool
 is_answered Silent = true
 is_answered (Says frame) = true
 is_answered Stopped = false
@@ -73,16 +73,16 @@ pub record Turns (before after : Server) (old new : Sess) (core : Core) (power :
 pub data Moves (server : Server) : List Happened → Server → Type 0 where
   -- a connection's first frame and a run from outside make a session
   Makes : server.power ≡ On → Moves server [] (record server { sessions = server.sessions ++ next_session server ∷ []; count = server.count + 1 })
-  Answers : (old new : Sess) (now : ℕ) (frame : Up) (core : Core) (told : Told) (after : Server) → server.power ≡ On → Serve server.core old now frame core new told → IsTrue (is_answered told)
+  Answers : (old new : Sess) (now : ℕ) (frame : Up) (core : Core) (told : Telling) (after : Server) → server.power ≡ On → Serve server.core old now frame core new told → IsTrue (is_answered told)
       → Turns server after old new core On → Moves server (Served (session_of old.ltxid) now frame told ∷ []) after
   -- a stop in the frame, or behind it and before its answer went out
-  Halts : (old new : Sess) (now : ℕ) (frame : Up) (core : Core) (told : Told) (after : Server) → IsTrue (is_running server.power) → Serve server.core old now frame core new told
+  Halts : (old new : Sess) (now : ℕ) (frame : Up) (core : Core) (told : Telling) (after : Server) → IsTrue (is_running server.power) → Serve server.core old now frame core new told
       → Turns server after old new core Halted → Moves server (Served (session_of old.ltxid) now frame Stopped ∷ []) after
   -- a frame behind a stop of the same call, of which nothing stands
   Loses : (old : Sess) (now : ℕ) (frame : Up) (after : Server) → server.power ≡ Halted
       → Turns server after old (ended old) server.core Halted → Moves server (Served (session_of old.ltxid) now frame Stopped ∷ []) after
   AnswersAsk : (x : Ltxid) (core : Core) (frame : Down) → server.power ≡ On → Outcomes server.core x core (Says frame) → Moves server (Asked x (Says frame) ∷ []) (record server { core = core })
-  HaltsInAsk : (x : Ltxid) (core : Core) (told : Told) → IsTrue (is_running server.power) → Outcomes server.core x core told → Moves server (Asked x Stopped ∷ []) (record server { power = Halted; core = core })
+  HaltsInAsk : (x : Ltxid) (core : Core) (told : Telling) → IsTrue (is_running server.power) → Outcomes server.core x core told → Moves server (Asked x Stopped ∷ []) (record server { power = Halted; core = core })
   Reaps : (front back : List Sess) (sess : Sess) → server.sessions ≡ front ++ sess ∷ back → Moves server [] (record server { sessions = front ++ back })
   -- a crash ends all sessions. What it leaves of a stopped call is chosen in the move of that call
   Falls : Moves server [] (record { power = Off; core = server.core; sessions = []; count = 0 })

@@ -22,7 +22,7 @@ use Rattle.server_model.specs.Core.{Core, committed, all_blocked}
 use Rattle.stmt_meaning.specs.Reads.{ReadsStand, ReadsDiffer}
 use Rattle.server_model.specs.Sessions.{Life, New, Idle, Begun, Ended, Sess, begun_with, dropped, ended, with_piece, with_work, raised, entry_of}
 use Rattle.server_model.specs.Draws.{brought, DrawsAll, HaltsAt}
-use Rattle.server_model.specs.Outcomes.{Told, Silent, Says, Stopped, Outcomes}
+use Rattle.server_model.specs.Outcomes.{Telling, Silent, Says, Stopped, Outcomes}
 
 -- the answers with another last one
 abbrev pub with_last : List Answer → Answer → List Answer
@@ -30,7 +30,7 @@ with_last [] last = []
 with_last (first ∷ []) last = last ∷ []
 with_last (first ∷ next ∷ more) last = first ∷ with_last (next ∷ more) last
 
-abbrev pub reply : List Answer → List Draw → Sess → Told
+abbrev pub reply : List Answer → List Draw → Sess → Telling
 reply answers draws sess = Says (down.Reply answers draws sess.ltxid)
 
 abbrev pub with_opening : Core → Opening → Core
@@ -52,7 +52,7 @@ pub record MayStore (core : Core) (sess : Sess) (replay : Bool) : Type 0 where
 -- A commit is reached: its statements ran, `sess` has their reads and writes, and `core` has what
 -- was drawn. The order is the mark, the block, the conflict, the store. A stop comes only at the
 -- store, and the entry then stands or not.
-pub data Commits (core : Core) (sess : Sess) (replay : Bool) (called : Call) (answers : List Answer) (draws : List Draw) : Core → Sess → Told → Type 0 where
+pub data Commits (core : Core) (sess : Sess) (replay : Bool) (called : Call) (answers : List Answer) (draws : List Draw) : Core → Sess → Telling → Type 0 where
   InReplay : IsTrue replay → Commits core sess replay called answers draws core (dropped sess) (reply (with_last answers answer.CommitInReplay) draws sess)
   Blocks : IsTrue (not replay) → IsTrue (is_blocked (all_blocked core) sess.ltxid) → Commits core sess replay called answers draws core (ended sess) (Says down.Blocked)
   Conflicts : IsTrue (not replay) → IsTrue (not (is_blocked (all_blocked core) sess.ltxid)) → ReadsDiffer sess.reads (committed core)
@@ -70,11 +70,11 @@ pub record Means (core : Core) (sess : Sess) (called : Call) (draws : List Draw)
 
 -- A work call: the draws that it asks for, its meaning with them, and its commit where it reaches
 -- one.
-pub data Works (core : Core) (sess : Sess) (replay : Bool) (kept : List Draw) (called : Call) (now : ℕ) : Core → Sess → Told → Type 0 where
+pub data Works (core : Core) (sess : Sess) (replay : Bool) (kept : List Draw) (called : Call) (now : ℕ) : Core → Sess → Telling → Type 0 where
   Answers : (opening : Opening) (draws left : List Draw) (meant : Meant) → DrawsAll now core.opening (brought core.base.grants core.opening replay kept) draws opening left
       → Means core sess called draws meant → ends_committed meant.answers ≡ false
       → Works core sess replay kept called now (with_opening core opening) (with_piece (with_work sess (committed core) meant) called meant.answers draws) (reply meant.answers draws sess)
-  Reaches : (opening : Opening) (draws left : List Draw) (meant : Meant) (after : Core) (t : Sess) (told : Told) → DrawsAll now core.opening (brought core.base.grants core.opening replay kept) draws opening left
+  Reaches : (opening : Opening) (draws left : List Draw) (meant : Meant) (after : Core) (t : Sess) (told : Telling) → DrawsAll now core.opening (brought core.base.grants core.opening replay kept) draws opening left
       → Means core sess called draws meant → ends_committed meant.answers ≡ true
       → Commits (with_opening core opening) (with_work sess (committed core) meant) replay called meant.answers draws after t told
       → Works core sess replay kept called now after t told
@@ -84,8 +84,8 @@ pub data Works (core : Core) (sess : Sess) (replay : Bool) (kept : List Draw) (c
       → Works core sess replay kept called now (with_opening core opening) (ended sess) Stopped
 
 -- A call, served in a request.
-pub data Calls (core : Core) (sess : Sess) (replay : Bool) (kept : List Draw) (now : ℕ) : Call → Core → Sess → Told → Type 0 where
-  IsWork : (statements : List Statement) (commit : Bool) (after : Core) (t : Sess) (told : Told) → Works core sess replay kept (call.Work statements commit) now after t told
+pub data Calls (core : Core) (sess : Sess) (replay : Bool) (kept : List Draw) (now : ℕ) : Call → Core → Sess → Telling → Type 0 where
+  IsWork : (statements : List Statement) (commit : Bool) (after : Core) (t : Sess) (told : Telling) → Works core sess replay kept (call.Work statements commit) now after t told
       → Calls core sess replay kept now (call.Work statements commit) after t told
   IsSet : (name : List ℕ) (value : Value)
       → Calls core sess replay kept now (call.Set name value) core (record (with_piece sess (call.Set name value) (answer.Done 1 ∷ []) []) { settings = put_setting sess.settings name value }) (reply (answer.Done 1 ∷ []) [] sess)
@@ -119,19 +119,19 @@ is_out_of_order Begun frame = is_connect frame
 is_out_of_order Ended frame = false
 
 -- a stop ends the session
-abbrev pub if_told : Told → Sess → Sess
+abbrev pub if_told : Telling → Sess → Sess
 if_told Silent sess = sess
 if_told (Says frame) sess = sess
 if_told Stopped sess = ended sess
 
 -- One frame in one session at a tick: what the core and the session are afterwards, and what is
 -- told. At its end a session serves nothing.
-pub data Serve (core : Core) (sess : Sess) (now : ℕ) : Up → Core → Sess → Told → Type 0 where
+pub data Serve (core : Core) (sess : Sess) (now : ℕ) : Up → Core → Sess → Telling → Type 0 where
   Connects : sess.life ≡ New → Serve core sess now up.Connect core (record sess { life = Idle }) (Says (down.Hello sess.ltxid))
   Begins : (settings : List (List ℕ × Value)) → IsTrue (is_serving sess.life) → Serve core sess now (up.Begin settings) core (begun_with sess Begun settings) Silent
   Ends : IsTrue (is_serving sess.life) → Serve core sess now up.End core (begun_with sess Idle []) Silent
   Closes : IsTrue (is_serving sess.life) → Serve core sess now up.Close core (ended sess) Silent
-  Asks : (x : Ltxid) (after : Core) (told : Told) → IsTrue (is_serving sess.life) → Outcomes core x after told → Serve core sess now (up.Outcome x) after (if_told told sess) told
-  Runs : (replay : Bool) (kept : List Draw) (called : Call) (after : Core) (t : Sess) (told : Told) → sess.life ≡ Begun → Calls core sess replay kept now called after t told
+  Asks : (x : Ltxid) (after : Core) (told : Telling) → IsTrue (is_serving sess.life) → Outcomes core x after told → Serve core sess now (up.Outcome x) after (if_told told sess) told
+  Runs : (replay : Bool) (kept : List Draw) (called : Call) (after : Core) (t : Sess) (told : Telling) → sess.life ≡ Begun → Calls core sess replay kept now called after t told
       → Serve core sess now (up.Call replay kept called) after t told
   Refuses : (frame : Up) → IsTrue (is_out_of_order sess.life frame) → Serve core sess now frame core (ended sess) (Says (down.Refused 2))

@@ -14,7 +14,7 @@ use Rattle.ltxid_book.specs.Outcomes.{verdict_of}
 use Rattle.svc_values.specs.declared.entry.SessionId.{SessionId}
 use Rattle.svc_values.specs.Calls.{sequences_in}
 use Rattle.svc_values.specs.Identifiers.{ltxid_of}
-use Rattle.server_model.specs.Outcomes.{Told, Silent, Says, Stopped, down_of}
+use Rattle.server_model.specs.Outcomes.{Telling, Silent, Says, Stopped, down_of}
 use Rattle.server_model.specs.Runs.{Happened, Served, Asked}
 use Rattle.server_model.specs.Seen.{Store, book_in, Living, Seen, connection_in, without_connection, with_session, Rose, Keeps, KeepsStore}
 
@@ -49,7 +49,7 @@ may_store _ = false
 
 -- In a quiet service a fault comes only under a stop of fewer device calls than these records take.
 -- Under a stop a record is added by an answered call only where the stop lets it through.
-pub record StopCause (old new : Seen) (records : ℕ) (told : Told) : Type 0 where
+pub record StopCause (old new : Seen) (records : ℕ) (told : Telling) : Type 0 where
   pub rose : told ≡ Stopped → Rose old new
   pub quiet : old.is_quiet ≡ true → new.faults ≢ old.faults → (n : ℕ) × (old.stop ≡ Some n) × (n < old.per_record * records)
   pub reached : (n : ℕ) → old.stop ≡ Some n → new.store.records ≢ old.store.records → told ≢ Stopped → old.per_record ≤ n
@@ -85,29 +85,29 @@ SessionOf old connection session sessions =
     ((connection_in old.living connection ≡ Some (Some session)) × (sessions ≡ old.sessions)) ⊎ ((connection_in old.living connection ≡ Some None) × (session ≡ next_session old) × (sessions ≡ old.sessions + 1))
 
 -- the answer ends the session
-abbrev pub ends_session : Up → Told → Bool
+abbrev pub ends_session : Up → Telling → Bool
 ends_session up.Close Silent = true
 ends_session frame (Says down.Blocked) = true
 ends_session frame (Says (down.Refused cause)) = true
 ends_session _ _ = false
 
 -- at a stop no connection lives any more
-abbrev pub living_after : Up → Told → ℕ → SessionId → List Living → List Living
+abbrev pub living_after : Up → Telling → ℕ → SessionId → List Living → List Living
 living_after frame Stopped connection session living = []
 living_after frame told connection session living = if ends_session frame told then without_connection connection living else with_session connection session living
 
-abbrev pub is_up_after : Told → Bool
+abbrev pub is_up_after : Telling → Bool
 is_up_after Stopped = false
 is_up_after _ = true
 
 -- An outcome is told by the table on what the store says, unless its frame is refused.
-abbrev pub TellsByTable : Store → Up → Told → Type 0
+abbrev pub TellsByTable : Store → Up → Telling → Type 0
 TellsByTable store (up.Outcome x) (Says told) = (told ≡ down.Refused 2) ⊎ (told ≡ down_of (verdict_of (book_in store) x))
 TellsByTable store _ _ = Unit {0}
 
 -- A frame joins the history as one thing, of the connection's session. It adds at most one entry,
 -- block or line, and a block for each sequence operand.
-pub record ServedOne (old : Seen) (connection now : ℕ) (frame : Up) (told : Told) (new : Seen) : Type 0 where
+pub record ServedOne (old : Seen) (connection now : ℕ) (frame : Up) (told : Telling) (new : Seen) : Type 0 where
   pub keeps : Keeps old new
   pub session : SessionId
   pub of_connection : SessionOf old connection session new.sessions

@@ -18,7 +18,7 @@ use Rattle.server_model.specs.Base.{Base}
 use Rattle.svc_values.specs.declared.entry.SessionId.{SessionId}
 use Rattle.server_model.specs.Sessions.{Life, New, Idle, Begun, Ended}
 use Rattle.svc_values.specs.Same.{same_bool}
-use Rattle.server_model.specs.Outcomes.{Told, Silent, Says, Stopped, down_of}
+use Rattle.server_model.specs.Outcomes.{Telling, Silent, Says, Stopped, down_of}
 use Rattle.server_model.specs.Runs.{Happened, Served, Asked}
 use Rattle.server_model.specs.Items.{item_of}
 use Rattle.server_model.specs.Walk.{Walk, walk_of, next_of, deed_of, entered, after}
@@ -47,7 +47,7 @@ life_told frame down.Blocked life = Ended
 life_told frame (down.Refused cause) life = Ended
 life_told frame _ life = life_behind frame life
 
-abbrev pub life_after : Up → Told → Life → Life
+abbrev pub life_after : Up → Telling → Life → Life
 life_after frame Silent life = life_behind frame life
 life_after frame (Says told) life = life_told frame told life
 life_after frame Stopped life = Ended
@@ -116,12 +116,12 @@ is_ended Ended = true
 is_ended _ = false
 
 -- `life` is that before the frame; `before` and `behind` are the walk before and behind it
-abbrev pub told_holds : Life → Walk → Walk → SessionId → Up → Told → Bool
+abbrev pub told_holds : Life → Walk → Walk → SessionId → Up → Telling → Bool
 told_holds life before behind session frame Silent = not (is_ended life) && (is_silent frame && not (must_refuse life frame))
 told_holds life before behind session frame (Says told) = not (is_ended life) && (if must_refuse life frame then is_refused told else tells before behind session frame told)
 told_holds life before behind session frame Stopped = true
 
-abbrev pub ask_holds : Walk → Ltxid → Told → Bool
+abbrev pub ask_holds : Walk → Ltxid → Telling → Bool
 ask_holds before x Silent = false
 ask_holds before x (Says told) = tells_outcome before x told
 ask_holds before x Stopped = true

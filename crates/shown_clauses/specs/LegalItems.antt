@@ -12,7 +12,7 @@ use Rattle.outage_schedule.specs.declared.note.Note.TheVariants as note
 use Rattle.outage_schedule.specs.declared.document.Document.{Document}
 use Rattle.outage_schedule.specs.declared.report.Report.{Report}
 use Rattle.svc_values.specs.Identifiers.{session_of}
-use Rattle.run_clauses.specs.Moments.{Moment, Happened, ServedItem, RanOutside, Asked, moments}
+use Rattle.run_clauses.specs.Moments.{HappenedAt, Happened, ServedItem, RanOutside, Asked, moments}
 use Rattle.shown_clauses.specs.Fronts.{first_item, rest_items}
 use Rattle.shown_clauses.specs.Parts.{Part}
 use Rattle.server_model.specs.Items.{Thing, Connected, Began, Called, MetBlock, Item, Did, AskTold}
@@ -83,7 +83,7 @@ after_moment front at (RanOutside ran) = front
 after_moment front at (Asked x told) = front
 
 -- of the moments behind a front; `notes` are all notes
-abbrev pub items_from : List Part → List Note → Front → List Moment → List Item
+abbrev pub items_from : List Part → List Note → Front → List HappenedAt → List Item
 items_from parts notes front [] = []
 items_from parts notes front (moment ∷ more) =
     let here : Front = reach moment.event front in

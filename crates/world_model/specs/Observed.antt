@@ -9,7 +9,7 @@ use Rattle.outage_schedule.specs.declared.document.Document.{Document}
 use Rattle.outage_schedule.specs.declared.report.Report.{Report}
 use Rattle.run_clauses.specs.Before.{journal_before}
 use Rattle.run_clauses.specs.Sessions.{outside_sessions}
-use Rattle.run_clauses.specs.Moments.{Moment}
+use Rattle.run_clauses.specs.Moments.{HappenedAt}
 use Rattle.run_clauses.specs.EntryEvents.{StoredEntry}
 use Rattle.run_clauses.specs.Blocks.{answered_in, after_answer}
 use Rattle.world_model.specs.Settings.{Setting}
@@ -22,7 +22,7 @@ entries_at document report stored event =
     (journal_before document).entries ++ take (length (filter (λ one. nat_le one.event event) stored)) report.entries
 
 -- the blocks so far
-abbrev pub blocked_at : Document → Report → List Moment → ℕ → List Ltxid
+abbrev pub blocked_at : Document → Report → List HappenedAt → ℕ → List Ltxid
 blocked_at document report all event =
     (fold after_answer (record { done = (journal_before document).blocked; coming = report.blocked; fits = true }) (answered_in (filter (λ moment. nat_le moment.event event) all))).done
 
@@ -30,7 +30,7 @@ abbrev pub draws_of_note : Note → List Draw
 draws_of_note (note.Outside (Some ran)) = flat_map (λ one. one.draws) ran.runs
 draws_of_note _ = []
 
-abbrev pub observed : Document → Report → Setting → List Moment → List StoredEntry → Machine → Traced
+abbrev pub observed : Document → Report → Setting → List HappenedAt → List StoredEntry → Machine → Traced
 observed document report setting all stored machine = record {
   setting = setting;
   machine = machine;

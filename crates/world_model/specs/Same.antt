@@ -32,7 +32,7 @@ use Rattle.world_model.specs.Parts.{Sending, commit_sendings, served_reps, count
 -- E1: THE PIECES OF A TRANSACTION -----------------------------------------------------------------
 
 -- a call that was served: its index and owner, its item, and its piece
-pub record Did : Type 0 where
+pub record ServedCall : Type 0 where
   pub sent : Sent
   pub mark : Bool
   pub piece : Piece
@@ -41,8 +41,8 @@ pub record Did : Type 0 where
 pub record Ran : Type 0 where
   pub settings : List (List ℕ × Value)
   pub at_start : List (List ℕ × Value)
-  pub pieces : List Did
-  pub over : List (List Did)
+  pub pieces : List ServedCall
+  pub over : List (List ServedCall)
 
 abbrev pub is_no_commit : Answer → Bool
 is_no_commit answer.CommitInReplay = true
@@ -56,7 +56,7 @@ ends_on_server answers = ends_transaction answers || ends_with is_no_commit answ
 abbrev pub begins : Ran → Ran
 begins ran = record ran { at_start = ran.settings; pieces = [] }
 
-abbrev pub did_all : Ran → Bool → Bool → List Did → Ran
+abbrev pub did_all : Ran → Bool → Bool → List ServedCall → Ran
 did_all ran true ends dids = record (begins ran) { over = ran.over ++ dids ∷ [] }
 did_all ran false true dids = begins ran
 did_all ran false false dids = record ran { pieces = dids }
@@ -79,13 +79,13 @@ ran_by link = fold (λ ran one. ran_item ran one.sent one.served.item) (record {
 
 -- The entry of this number of the session has the pieces of the transaction of this number. (Of a stopped call only the call is known; that
 -- transaction is the last one, and may have no entry.)
-abbrev pub is_stopped_piece : Did → Bool
+abbrev pub is_stopped_piece : ServedCall → Bool
 is_stopped_piece did = length did.piece.answers == 0
 
-abbrev pub is_piece_of : Did → Piece → Bool
+abbrev pub is_piece_of : ServedCall → Piece → Bool
 is_piece_of did piece = same_piece did.piece piece || (is_stopped_piece did && same_call did.piece.call piece.call)
 
-abbrev pub are_pieces : List Did → List Piece → Bool
+abbrev pub are_pieces : List ServedCall → List Piece → Bool
 are_pieces [] [] = true
 are_pieces (did ∷ dids) (piece ∷ pieces) = is_piece_of did piece && are_pieces dids pieces
 are_pieces _ _ = false
@@ -96,7 +96,7 @@ is_session_of entry link = option_map_or (λ session. (session.incarnation == en
 abbrev pub link_of : Traced → Entry → Option Link
 link_of t entry = last_or None (filter (is_session_of entry) t.machine.links)
 
-abbrev pub transaction_of : Traced → Entry → Option (List Did)
+abbrev pub transaction_of : Traced → Entry → Option (List ServedCall)
 transaction_of t entry = option_and_then (λ link. slice_get (ran_by link).over entry.ltxid.number) (link_of t entry)
 
 abbrev pub is_ran : Traced → Entry → Bool
@@ -120,18 +120,18 @@ abbrev pub agrees : (Draw → Bool) → Piece → ShownCall → Bool
 agrees granted piece shown = same_answers piece.answers shown.answers && same_draws (filter granted piece.draws) (filter granted shown.draws)
 
 -- A call that was taken: the reply to it on this connection. (The last one may be on its way, or be stopped.)
-abbrev pub is_scripts : Course → ℕ → Did → Bool
+abbrev pub is_scripts : Course → ℕ → ServedCall → Bool
 is_scripts course index did = owned_by course.owner did.sent && ((did.sent.call == index) && option_map_or (same_call did.piece.call) (slice_get course.request.calls index) false)
 
 -- the calls are the script's from this index on, and those that were shown, or that were verified, agree with what was shown
-abbrev pub known : (Draw → Bool) → Course → ℕ → ℕ → List Did → Bool
+abbrev pub known : (Draw → Bool) → Course → ℕ → ℕ → List ServedCall → Bool
 known granted course upto index [] = true
 known granted course upto index (did ∷ dids) =
     is_scripts course index did
     && (implies (nat_lt index upto) (is_stopped_piece did || option_map_or (agrees granted did.piece) (slice_get course.report.calls index) false)
     && known granted course upto (index + 1) dids)
 
-abbrev pub first_call : List Did → ℕ → ℕ
+abbrev pub first_call : List ServedCall → ℕ → ℕ
 first_call [] other = other
 first_call (did ∷ dids) other = did.sent.call
 
