@@ -150,7 +150,7 @@ commits_alerts core opening sess replay called answers draws _ _ _ (StopsAfter m
 works_alerts : (core : Core) (sess : Sess) (replay : Bool) (kept : List Draw) (called : Call) (now : ℕ) (after : Core) (t : Sess) (told : Telling) → Works core sess replay kept called now after t told → after.alerts ≡ core.alerts
 works_alerts core sess replay kept called now _ _ _ (AnswersCall opening draws left meant drew means ends) = refl
 works_alerts core sess replay kept called now _ _ _ (Reaches opening draws left meant after t told drew means ends commits) = commits_alerts core opening _ replay called meant.answers draws after t told commits
-works_alerts core sess replay kept called now _ _ _ (HaltsInDraw between opening draws more left meant drew means some halts) = refl
+works_alerts core sess replay kept called now _ _ _ (HaltsInDraw between opening draws next more left meant drew means halts) = refl
 
 same_bytes : (line : List ℕ) → bytes_eq line line ≡ true
 same_bytes line = (bytes_decide line line).1 refl

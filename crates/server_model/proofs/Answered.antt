@@ -72,7 +72,7 @@ commits_stored core opening sess rows meant replay called draws _ _ _ (StopsAfte
 works_stored : (core : Core) (sess : Sess) (replay : Bool) (kept : List Draw) (called : Call) (now : ℕ) (after : Core) (t : Sess) (told : Telling) → Works core sess replay kept called now after t told → IfCommitted told core sess after
 works_stored core sess replay kept called now _ _ _ (AnswersCall opening draws left meant drew means not) = λ ends. never _ not ends
 works_stored core sess replay kept called now _ _ _ (Reaches opening draws left meant after t told drew means ends commits) = commits_stored core opening sess (committed core) meant replay called draws after t told commits
-works_stored core sess replay kept called now _ _ _ (HaltsInDraw between opening draws more left meant drew means some halts) = tt
+works_stored core sess replay kept called now _ _ _ (HaltsInDraw between opening draws next more left meant drew means halts) = tt
 
 calls_stored : (core : Core) (sess : Sess) (replay : Bool) (kept : List Draw) (now : ℕ) (called : Call) (after : Core) (t : Sess) (told : Telling) → Calls core sess replay kept now called after t told → IfCommitted told core sess after
 calls_stored core sess replay kept now _ _ _ _ (IsWork statements commit after t told works) = works_stored core sess replay kept _ now after t told works

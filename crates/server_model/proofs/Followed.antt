@@ -114,7 +114,7 @@ module _ (base : Base) (core : Core) (here : Walk) (sess : Sess) (at : At base c
         (holds base core here sess at lives now replay kept work meant.answers draws meant _ false ((work-ending core.base.shape _ sess.settings statements commit draws meant means.run).plain not)
         (λ i. record { settings = settings i; at_start = sess.at_start; pieces = (transaction_of (with_piece (with_work sess (committed core) meant) work meant.answers draws)).pieces; writes = sess.writes ++ meant.writes; reads = (with_work sess (committed core) meant).reads }))
     works statements commit _ _ _ left (Reaches opening draws more meant after new told drew means is commits_so) answered = commits opening statements commit draws meant after new told means.run is left commits_so answered
-    works statements commit _ _ _ left (HaltsInDraw between opening draws more left_over meant drew means some halts) answered = let none : ⊥ = cc in absurd none
+    works statements commit _ _ _ left (HaltsInDraw between opening draws next more left_over meant drew means halts) answered = let none : ⊥ = cc in absurd none
 
     -- a call of one answer, which reads and writes nothing
     plainly : (asked : Call) (a : Answer) (settings : List (List ℕ × Value)) (after : Core) (new : Sess) (over : Bool)

@@ -62,7 +62,7 @@ works-gain : (core : Core) (sess : Sess) (replay : Bool) (kept : List Draw) (sta
 works-gain core sess replay kept statements commit now _ _ _ lives (Answers opening draws left meant drew means not) = GainsNone _ _ refl refl
 works-gain core sess replay kept statements commit now _ _ _ lives (Reaches opening draws left meant after t told drew means is commits) =
     commits-gain core opening sess replay kept (call.Work statements commit) draws meant after t told lives means.run means.used is ((work-ending core.base.shape _ sess.settings statements commit draws meant means.run).commit is) commits
-works-gain core sess replay kept statements commit now _ _ _ lives (HaltsInDraw between opening draws more left meant drew means some halts) = GainsNone _ _ refl refl
+works-gain core sess replay kept statements commit now _ _ _ lives (HaltsInDraw between opening draws next more left meant drew means halts) = GainsNone _ _ refl refl
 
 calls-gain : (core : Core) (sess : Sess) (replay : Bool) (kept : List Draw) (now : ℕ) (called : Call) (after : Core) (t : Sess) (told : Telling) → sess.life ≡ Begun → Calls core sess replay kept now called after t told → Gains core sess (up.Call replay kept called) after
 calls-gain core sess replay kept now _ _ _ _ lives (IsWork statements commit after t told works) = works-gain core sess replay kept statements commit now after t told lives works

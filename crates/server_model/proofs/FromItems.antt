@@ -45,7 +45,7 @@ commits_from core opening sess rows meant replay kept called draws now _ _ _ end
 works_from : (core : Core) (sess : Sess) (replay : Bool) (kept : List Draw) (called : Call) (now : ℕ) (after : Core) (t : Sess) (told : Telling) → Works core sess replay kept called now after t told → From core sess now (up.Call replay kept called) told after
 works_from core sess replay kept called now _ _ _ (AnswersCall opening draws left meant drew means not) = NoEntry refl
 works_from core sess replay kept called now _ _ _ (Reaches opening draws left meant after t told drew means ends commits) = commits_from core opening sess (committed core) meant replay kept called draws now after t told ends commits
-works_from core sess replay kept called now _ _ _ (HaltsInDraw between opening draws more left meant drew means some halts) = NoEntry refl
+works_from core sess replay kept called now _ _ _ (HaltsInDraw between opening draws next more left meant drew means halts) = NoEntry refl
 
 calls_from : (core : Core) (sess : Sess) (replay : Bool) (kept : List Draw) (now : ℕ) (called : Call) (after : Core) (t : Sess) (told : Telling) → Calls core sess replay kept now called after t told → From core sess now (up.Call replay kept called) told after
 calls_from core sess replay kept now _ _ _ _ (IsWork statements commit after t told works) = works_from core sess replay kept _ now after t told works

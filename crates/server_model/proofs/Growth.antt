@@ -34,7 +34,7 @@ pub works_grow : (core : Core) (sess : Sess) (replay : Bool) (kept : List Draw) 
 works_grow core sess replay kept called now _ _ _ (Answers opening draws left meant drew means ends) = Same refl
 works_grow core sess replay kept called now _ _ _ (Reaches opening draws left meant after t told drew means ends commits) =
     moved core opening sess (committed core) meant after (commits_grow (with_opening core opening) _ replay called meant.answers draws after t told commits)
-works_grow core sess replay kept called now _ _ _ (HaltsInDraw between opening draws more left meant drew means some halts) = Same refl
+works_grow core sess replay kept called now _ _ _ (HaltsInDraw between opening draws next more left meant drew means halts) = Same refl
 
 pub calls_grow : (core : Core) (sess : Sess) (replay : Bool) (kept : List Draw) (now : ℕ) (called : Call) (after : Core) (t : Sess) (told : Telling) → Calls core sess replay kept now called after t told → Grows core sess after
 calls_grow core sess replay kept now _ _ _ _ (IsWork statements commit after t told works) = works_grow core sess replay kept _ now after t told works

@@ -104,7 +104,7 @@ module _ (base : Base) (core : Core) (here : Walk) (sess : Sess) (at : At base c
         (plain-right base core here sess at lives now replay kept (call.Work statements commit) draws meant means.used none
         (plain-free here (performed base core here sess at lives now replay kept (call.Work statements commit) meant.answers draws meant) none ((work-ending core.base.shape _ sess.settings statements commit draws meant means.run).plain none)))
     works statements commit _ _ _ left (Reaches opening draws more meant after new told drew means is commits_so) answered = commits opening statements commit draws meant after new told means.run means.used is left commits_so answered
-    works statements commit _ _ _ left (HaltsInDraw between opening draws more left_over meant drew means some halts) answered = let none : ⊥ = cc in absurd none
+    works statements commit _ _ _ left (HaltsInDraw between opening draws next more left_over meant drew means halts) answered = let none : ⊥ = cc in absurd none
 
     one-answer : (asked : Call) (a : Answer) (settings : List (List ℕ × Value))
         → mean core.base.shape (with_writes (committed core) sess.writes) sess.settings asked [] ≡ Some (record { answers = a ∷ []; tables = with_writes (committed core) sess.writes; settings = settings; writes = []; reads = []; rest = [] })

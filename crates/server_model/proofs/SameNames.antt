@@ -90,9 +90,9 @@ all-tags now [] before kept after left drew = ap tags drew.0
 all-tags now (given ∷ more) before kept after left drew = all-tags now more drew.0 drew.1 after left drew.2.1 ∙ one-tags kept (kind_drawn given) now before given drew.0 drew.1 drew.2.0
 
 -- and so does a stop in them
-pub halt-tags : (now : ℕ) (kept : List Draw) (before after : Opening) → HaltsAt now kept before after → tags after ≡ tags before
-halt-tags now kept before _ (BlockLost name upto is) = refl
-halt-tags now kept before _ (BlockStands name upto is) = reserved-tags before name upto
+pub halt-tags : (now : ℕ) (kept : List Draw) (asked : DrawKind) (before after : Opening) → HaltsAt now kept asked before after → tags after ≡ tags before
+halt-tags now kept asked before _ (BlockLost name upto is) = refl
+halt-tags now kept asked before _ (BlockStands name upto is) = reserved-tags before name upto
 
 -- ---- what is kept
 

@@ -129,7 +129,7 @@ works_keep core sess replay kept statements commit now _ _ _ ordered serial ran 
     }
 works_keep core sess replay kept statements commit now _ _ _ ordered serial ran (Reaches opening draws left meant after t told drew means ends commits) =
     commits_keep core sess (call.Work statements commit) draws meant ordered ran means ends opening replay after t told serial commits
-works_keep core sess replay kept statements commit now _ _ _ ordered serial ran (HaltsInDraw between opening draws more left meant drew means some halts) = record { base = refl; serial = serial; ran = Ran-none core.base.shape _ refl refl refl refl }
+works_keep core sess replay kept statements commit now _ _ _ ordered serial ran (HaltsInDraw between opening draws next more left meant drew means halts) = record { base = refl; serial = serial; ran = Ran-none core.base.shape _ refl refl refl refl }
 
 -- a call that means one answer, and writes and reads nothing
 alone_keeps : (core : Core) (sess t : Sess) (called : Call) (meant : Meant) → AreTables core.base.tables → Ran core.base.shape sess

@@ -79,9 +79,9 @@ pub all-stays : (now : ℕ) (draws : List Draw) (before : Opening) (kept : List 
 all-stays now [] before kept after left drew = ap (λ (o : Opening). o.incarnation) drew.0
 all-stays now (given ∷ more) before kept after left drew = all-stays now more drew.0 drew.1 after left drew.2.1 ∙ one-stays kept (kind_drawn given) now before given drew.0 drew.1 drew.2.0
 
-halt-stays : (now : ℕ) (kept : List Draw) (before after : Opening) → HaltsAt now kept before after → after.incarnation ≡ before.incarnation
-halt-stays now kept before _ (BlockLost name upto is) = refl
-halt-stays now kept before _ (BlockStands name upto is) = refl
+halt-stays : (now : ℕ) (kept : List Draw) (asked : DrawKind) (before after : Opening) → HaltsAt now kept asked before after → after.incarnation ≡ before.incarnation
+halt-stays now kept asked before _ (BlockLost name upto is) = refl
+halt-stays now kept asked before _ (BlockStands name upto is) = refl
 
 -- ---- frames
 
@@ -100,8 +100,8 @@ works_stay : (core : Core) (sess : Sess) (replay : Bool) (kept : List Draw) (cal
 works_stay core sess replay kept called now _ _ _ (Answers opening draws left meant drew means ends) = record { base = refl; incarnation = all-stays now draws core.opening _ opening left drew; session = refl; horizon = refl }
 works_stay core sess replay kept called now _ _ _ (Reaches opening draws left meant after t told drew means ends commits) =
     moved core opening sess (committed core) meant after t (all-stays now draws core.opening _ opening left drew) (commits_stay (with_opening core opening) _ replay called meant.answers draws after t told commits)
-works_stay core sess replay kept called now _ _ _ (HaltsInDraw between opening draws more left meant drew means some halts) =
-    record { base = refl; incarnation = halt-stays now left between opening halts ∙ all-stays now draws core.opening _ between left drew; session = refl; horizon = refl }
+works_stay core sess replay kept called now _ _ _ (HaltsInDraw between opening draws next more left meant drew means halts) =
+    record { base = refl; incarnation = halt-stays now left (kind_drawn next) between opening halts ∙ all-stays now draws core.opening _ between left drew; session = refl; horizon = refl }
 
 same_stays : (core after : Core) (sess t : Sess) → (after.base ≡ core.base) → (after.opening ≡ core.opening) → (after.horizon ≡ core.horizon) → session_of t.ltxid ≡ session_of sess.ltxid → StaysIn core sess after t
 same_stays core after sess t base opening horizon session = record { base = base; incarnation = ap (λ (o : Opening). o.incarnation) opening; session = session; horizon = horizon }

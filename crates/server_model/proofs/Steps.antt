@@ -50,7 +50,7 @@ works_step : (core : Core) (sess : Sess) (replay : Bool) (kept : List Draw) (cal
 works_step core sess replay kept called now _ _ _ (Answers opening draws left meant drew means ends) = Keeps refl refl refl
 works_step core sess replay kept called now _ _ _ (Reaches opening draws left meant after t told drew means ends commits) =
     moved core opening sess (committed core) meant after t (commits_step (with_opening core opening) _ replay called meant.answers draws after t told commits)
-works_step core sess replay kept called now _ _ _ (HaltsInDraw between opening draws more left meant drew means some halts) = Keeps refl refl refl
+works_step core sess replay kept called now _ _ _ (HaltsInDraw between opening draws next more left meant drew means halts) = Keeps refl refl refl
 
 calls_step : (core : Core) (sess : Sess) (replay : Bool) (kept : List Draw) (now : ℕ) (called : Call) (after : Core) (t : Sess) (told : Telling) → Calls core sess replay kept now called after t told → Steps core sess after t
 calls_step core sess replay kept now _ _ _ _ (IsWork statements commit after t told works) = works_step core sess replay kept _ now after t told works

@@ -67,7 +67,7 @@ commits_say core before sess replay kept called answers draws _ _ _ alive (Stops
 works_say : (core : Core) (sess : Sess) (replay : Bool) (kept : List Draw) (called : Call) (now : ℕ) (after : Core) (t : Sess) (told : Telling) → (sess.life ≡ Ended → ⊥) → Works core sess replay kept called now after t told → IfSays (up.Call replay kept called) told core t
 works_say core sess replay kept called now _ _ _ alive (AnswersCall opening draws left meant drew means ends) = replied replay kept called meant.answers draws core _ sess.ltxid refl alive
 works_say core sess replay kept called now _ _ _ alive (Reaches opening draws left meant after t told drew means ends commits) = commits_say core (with_opening core opening) (with_work sess (committed core) meant) replay kept called meant.answers draws after t told alive commits
-works_say core sess replay kept called now _ _ _ alive (HaltsInDraw between opening draws more left meant drew means some halts) = tt
+works_say core sess replay kept called now _ _ _ alive (HaltsInDraw between opening draws next more left meant drew means halts) = tt
 
 calls_say : (core : Core) (sess : Sess) (replay : Bool) (kept : List Draw) (now : ℕ) (called : Call) (after : Core) (t : Sess) (told : Telling) → (sess.life ≡ Ended → ⊥) → Calls core sess replay kept now called after t told → IfSays (up.Call replay kept called) told core t
 calls_say core sess replay kept now _ _ _ _ alive (IsWork statements commit after t told works) = works_say core sess replay kept _ now after t told alive works

@@ -126,7 +126,7 @@ works-life : (core : Core) (sess : Sess) (replay : Bool) (kept : List Draw) (cal
     → life_after (up.Call replay kept called) told sess.life ≡ t.life
 works-life core sess replay kept called now _ _ _ (Answers opening draws left meant drew means not) answered = refl
 works-life core sess replay kept called now _ _ _ (Reaches opening draws left meant after t told drew means is commits) answered = commits-life _ _ replay kept called meant.answers draws after t told commits answered
-works-life core sess replay kept called now _ _ _ (HaltsInDraw between opening draws more left meant drew means some halts) answered = let none : ⊥ = cc in absurd none
+works-life core sess replay kept called now _ _ _ (HaltsInDraw between opening draws next more left meant drew means halts) answered = let none : ⊥ = cc in absurd none
 
 calls-life : (core : Core) (sess : Sess) (replay : Bool) (kept : List Draw) (now : ℕ) (called : Call) (after : Core) (t : Sess) (told : Telling) → Calls core sess replay kept now called after t told → IsTrue (is_answered told)
     → life_after (up.Call replay kept called) told sess.life ≡ t.life
@@ -212,7 +212,7 @@ module _ (before behind : Walk) (session : SessionId) where
       → told_holds Begun before behind session (up.Call replay kept (call.Work statements commit)) told ≡ true
   works-tell core sess replay kept statements commit now _ _ _ lives (Answers opening draws left meant drew means not) answered next = same-next _ _ (next (λ e. begun-ended (sym lives ∙ e))) refl
   works-tell core sess replay kept statements commit now _ _ _ lives (Reaches opening draws left meant after t told drew means is commits) answered next = commits-tell _ _ replay kept statements commit meant.answers draws after t told lives commits answered next
-  works-tell core sess replay kept statements commit now _ _ _ lives (HaltsInDraw between opening draws more left meant drew means some halts) answered next = let none : ⊥ = cc in absurd none
+  works-tell core sess replay kept statements commit now _ _ _ lives (HaltsInDraw between opening draws first more left meant drew means halts) answered next = let none : ⊥ = cc in absurd none
 
   calls-tell : (core : Core) (sess : Sess) (replay : Bool) (kept : List Draw) (now : ℕ) (called : Call) (after : Core) (t : Sess) (told : Telling) → sess.life ≡ Begun
       → Calls core sess replay kept now called after t told → IsTrue (is_answered told) → ((t.life ≡ Ended → ⊥) → next_of behind session ≡ t.ltxid)

@@ -2,7 +2,6 @@
 use Rattle.std.specs.Prelude.{◌≡◌, ℕ, ℤ, Bool, List, [], ◌∷◌, Some, if◌then◌else◌}
 use Rattle.svc_values.specs.declared.draw.Draw.{Draw}
 use Rattle.svc_values.specs.declared.draw.DrawKind.{DrawKind}
-use Rattle.svc_values.specs.declared.draw.DrawKind.TheVariants as kind
 use Rattle.stmt_meaning.specs.Asked.{kind_drawn}
 use Rattle.mutable_values.specs.declared.source.Drawn.TheVariants as drawn
 use Rattle.mutable_values.specs.declared.grants.Grants.{Grants}
@@ -30,8 +29,8 @@ DrawsAll now before kept [] after left = (after ≡ before) × (left ≡ kept)
 DrawsAll now before kept (given ∷ more) after left =
     (between : Opening) × (rest : List Draw) × (Draws kept (kind_drawn given) now before given between rest × DrawsAll now between rest more after left)
 
--- The store stopped at the block of a sequence that is past its last one. The block stands or not,
--- and nothing is drawn of it.
-pub data HaltsAt (now : ℕ) (kept : List Draw) (before : Opening) : Opening → Type 0 where
-  BlockLost : (name : List ℕ) (upto : ℤ) → draw_of before kept (kind.Seq name) now ≡ Some (record { answer = drawn.Reserve name upto; opening = before; kept = kept }) → HaltsAt now kept before before
-  BlockStands : (name : List ℕ) (upto : ℤ) → draw_of before kept (kind.Seq name) now ≡ Some (record { answer = drawn.Reserve name upto; opening = before; kept = kept }) → HaltsAt now kept before (reserved_to before name upto)
+-- The store stopped at the block of a sequence that is past its last one, of which a value was asked
+-- for. The block stands or not, and nothing is drawn of it.
+pub data HaltsAt (now : ℕ) (kept : List Draw) (asked : DrawKind) (before : Opening) : Opening → Type 0 where
+  BlockLost : (name : List ℕ) (upto : ℤ) → draw_of before kept asked now ≡ Some (record { answer = drawn.Reserve name upto; opening = before; kept = kept }) → HaltsAt now kept asked before before
+  BlockStands : (name : List ℕ) (upto : ℤ) → draw_of before kept asked now ≡ Some (record { answer = drawn.Reserve name upto; opening = before; kept = kept }) → HaltsAt now kept asked before (reserved_to before name upto)

@@ -57,11 +57,12 @@ fresh_new base items entries = none_twice (drawn_anew base (walk_of base entries
 abbrev pub is_spelled : Numbers → Bool
 is_spelled numbers = nat_lt numbers.incarnation (2 ^ 64) && nat_lt numbers.identifiers (2 ^ 64)
 
+-- at the start, and as each item leaves them
 abbrev pub have_room : Base → Walk → List Item → Bool
 have_room base walk [] = is_spelled walk.numbers
 have_room base walk (item ∷ items) =
     let here = entered walk item in
-    is_spelled here.numbers && have_room base (after base here item (deed_of base here item)) items
+    is_spelled walk.numbers && have_room base (after base here item (deed_of base here item)) items
 
 -- No opening counts identifiers past what they can spell. Behind that they would come again.
 abbrev pub has_room : Base → List Item → List Entry → Bool

@@ -1,5 +1,5 @@
 -- What a session does with a frame: one relation, by cases of the frame.
-use Rattle.std.specs.Prelude.{◌≡◌, ◌≢◌, ◌⊎◌, ℕ, Bool, true, false, not, IsTrue, ◌||◌, List, [], ◌∷◌, ◌++◌, Some}
+use Rattle.std.specs.Prelude.{◌≡◌, ◌⊎◌, ℕ, Bool, true, false, not, IsTrue, ◌||◌, List, [], ◌∷◌, ◌++◌, Some}
 use Rattle.svc_values.specs.declared.value.Value.{Value}
 use Rattle.svc_values.specs.declared.draw.Draw.{Draw}
 use Rattle.svc_values.specs.declared.statement.Statement.{Statement}
@@ -15,6 +15,7 @@ use Rattle.svc_values.specs.declared.frame.Down.TheVariants as down
 use Rattle.svc_values.specs.Endings.{ends_committed}
 use Rattle.svc_values.specs.SettingsList.{put_setting}
 use Rattle.svc_values.specs.Tables.{with_writes}
+use Rattle.stmt_meaning.specs.Asked.{kind_drawn}
 use Rattle.stmt_meaning.specs.Meaning.{Meant, mean}
 use Rattle.ltxid_book.specs.Journal.{is_blocked}
 use Rattle.mutable_values.specs.Sources.{Opening}
@@ -78,9 +79,9 @@ pub data Works (core : Core) (sess : Sess) (replay : Bool) (kept : List Draw) (c
       → Means core sess called draws meant → ends_committed meant.answers ≡ true
       → Commits (with_opening core opening) (with_work sess (committed core) meant) replay called meant.answers draws after t told
       → Works core sess replay kept called now after t told
-  -- some of the draws were given, and more are asked for
-  HaltsInDraw : (between opening : Opening) (draws more left : List Draw) (meant : Meant) → DrawsAll now core.opening (brought core.base.grants core.opening replay kept) draws between left
-      → Means core sess called (draws ++ more) meant → more ≢ [] → HaltsAt now left between opening
+  -- some of the draws were given, and the next one is asked for
+  HaltsInDraw : (between opening : Opening) (draws : List Draw) (next : Draw) (more left : List Draw) (meant : Meant) → DrawsAll now core.opening (brought core.base.grants core.opening replay kept) draws between left
+      → Means core sess called (draws ++ next ∷ more) meant → HaltsAt now left (kind_drawn next) between opening
       → Works core sess replay kept called now (with_opening core opening) (ended sess) Stopped
 
 -- A call, served in a request.
