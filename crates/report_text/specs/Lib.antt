@@ -3,7 +3,9 @@ pub mod Calls
 pub mod Entries
 pub mod Failures
 pub mod Items
+pub mod Laws
 pub mod Notes
+pub mod Octets
 pub mod Parts
 pub mod Report
 pub mod Requests

@@ -7,6 +7,7 @@ mod entry;
 mod failure;
 mod identifier;
 mod item;
+pub mod laws;
 mod note;
 mod operand;
 mod part;

@@ -1,0 +1,8 @@
+//! Laws of the form. Each function does nothing, and its contract is the law.
+ghost use Rattle.report_text.specs.Laws.{IsOfOneReport};
+
+/// A JSON value is that of one report, but for the writes of entries, which no report shows: each part
+/// of a report can be read back from its value.
+pub fn names_one_report()
+    ensures { IsOfOneReport }
+{}
