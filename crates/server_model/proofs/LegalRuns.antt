@@ -17,7 +17,7 @@ use Rattle.server_model.specs.Outcomes.{Telling, Silent, Says, Stopped}
 use Rattle.server_model.specs.Runs.{Happened, Served, Asked, Server, Turns, Moves, Makes, Answers, Halts, Loses, AnswersAsk, HaltsInAsk, Reaps, Falls, Opens, StopsOpening, Runs, Start, Then, On, Halted, Power, is_running}
 use Rattle.server_model.specs.Items.{thing_of, item_of, items_from, items_of}
 use Rattle.server_model.specs.Walk.{Walk, walk_of, Deed, Nothing, Meaningless, Ran, entered, deed_of, next_of}
-use Rattle.server_model.specs.Legal.{legal, items_hold, all_stored, deed_holds, thing_holds, draws_hold, is_of_now, answers_hold, is_free, stores}
+use Rattle.server_model.specs.Legal.{legal, items_hold, all_stored, deed_holds, thing_holds, is_of_now, answers_hold, is_free, stores}
 use Rattle.server_model.specs.Laws.{stops_last}
 use Rattle.server_model.proofs.Steps.{serve_alive}
 use Rattle.server_model.proofs.Counts.{count}
@@ -27,10 +27,14 @@ use Rattle.server_model.proofs.Fronts.{moves_front}
 use Rattle.server_model.proofs.Alerts.{runs_alerts}
 use Rattle.server_model.proofs.Following.{walk_behind, walked, next-same}
 use Rattle.server_model.proofs.FollowedStops.{serve-gains}
+use Rattle.server_model.proofs.DrawnFrames.{deed_draws}
 use Rattle.server_model.proofs.LegalFrames.{deed_but}
 use Rattle.server_model.proofs.LegalServed.{BlocksIn, serve-right, stopped-right, lost-right}
 use Rattle.server_model.proofs.WalkBlocks.{blocks-in, enter-blocked}
-use Rattle.server_model.proofs.WalkRuns.{Walks, mine, enters, at, left, Later, later-left, later-right, later-none, stops-left, moves-later, runs-walk, lives_walked, and-left, and-right, and-both, and-true}
+use Rattle.server_model.proofs.StoppedHistories.{Later, later-left, later-right, later-none, stops-left, and-left, and-right, and-both}
+use Rattle.server_model.proofs.WalkFrames.{Walks, mine, enters, at, left}
+use Rattle.server_model.proofs.WalkMoves.{lives_walked, and-true}
+use Rattle.server_model.proofs.WalkRuns.{moves-later, runs-walk}
 
 -- each item is of the opening that is, and its deed meets what it has to, but for the draws
 abbrev pub served_but : Base → Walk → List Happened → Bool
@@ -39,11 +43,6 @@ served_but base walk (Served session now frame told ∷ more) =
     let here = entered walk (item_of 0 (Served session now frame told)) in
     (is_of_now here session && deed_but here (deed_of base here (item_of 0 (Served session now frame told)))) && served_but base (walk_behind base walk (Served session now frame told)) more
 served_but base walk (Asked x told ∷ more) = served_but base (walk_behind base walk (Asked x told)) more
-
-abbrev pub deed_draws : Base → Walk → Deed → Bool
-deed_draws base here Nothing = true
-deed_draws base here Meaningless = true
-deed_draws base here (Ran performed meant) = draws_hold base here performed
 
 -- the draws of each deed are as they have to be, and each call that was answered Blocked may be so
 abbrev pub drawn_but : Base → Walk → List Happened → Bool

@@ -27,7 +27,7 @@ use Rattle.server_model.specs.Laws.{TellsUncommitted}
 use Rattle.server_model.proofs.Following.{walk_behind, walked}
 use Rattle.server_model.proofs.ToldBlocked.{blocked-more, AllAsked, runs_asked, tells-blocked}
 
-same-is : (x y : Ltxid) → same_ltxid x y ≡ true → y ≡ x
+pub same-is : (x y : Ltxid) → same_ltxid x y ≡ true → y ≡ x
 same-is x y is = λ i. record { incarnation = one i; session = two i; number = three i }
   where
     one : y.incarnation ≡ x.incarnation
@@ -39,7 +39,7 @@ same-is x y is = λ i. record { incarnation = one i; session = two i; number = t
     three : y.number ≡ x.number
     three = grind (arith, nat_tests)
 
-or-cases : (a b : Bool) → (a || b) ≡ true → (a ≡ true) ⊎ (b ≡ true)
+pub or-cases : (a b : Bool) → (a || b) ≡ true → (a ≡ true) ⊎ (b ≡ true)
 or-cases true b is = inl refl
 or-cases false b is = inr is
 
@@ -49,12 +49,12 @@ commits-blocked : (b : Bool) (base : Base) (walk : Walk) (performed : Performed)
 commits-blocked true base walk performed writes = refl
 commits-blocked false base walk performed writes = refl
 
-deed-blocked : (base : Base) (walk : Walk) (did : Deed) → (after_deed base walk did).blocked ≡ walk.blocked
+pub deed-blocked : (base : Base) (walk : Walk) (did : Deed) → (after_deed base walk did).blocked ≡ walk.blocked
 deed-blocked base walk Nothing = refl
 deed-blocked base walk Meaningless = refl
 deed-blocked base walk (Ran performed meant) = commits-blocked (ends_committed performed.answers) base walk performed (with_call walk performed meant).writes
 
-nothing-blocked : (did : Deed) (walk : Walk) (called : Call) → (if_nothing did walk called).blocked ≡ walk.blocked
+pub nothing-blocked : (did : Deed) (walk : Walk) (called : Call) → (if_nothing did walk called).blocked ≡ walk.blocked
 nothing-blocked Nothing walk called = refl
 nothing-blocked Meaningless walk called = refl
 nothing-blocked (Ran performed meant) walk called = refl

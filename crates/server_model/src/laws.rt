@@ -1,5 +1,5 @@
 //! Laws of the plain server. Each function does nothing, and its contract is the law.
-ghost use Rattle.server_model.specs.Laws.{ServeGrows, ServeStays, RunsForget, RunsSerial, RunsStand, NeverAfterBlock, EntryNumbers, EntryFromItem, AnswersStand, BlocksAreStored, TellsNext, TellsOutcomes, TellsAsks, RunsAlerts, RunsTold, RunsFront, ServiceStores};
+ghost use Rattle.server_model.specs.Laws.{ServeGrows, ServeStays, RunsForget, RunsSerial, RunsStand, NeverAfterBlock, EntryNumbers, EntryFromItem, AnswersStand, BlocksAreStored, TellsNext, TellsOutcomes, TellsAsks, RunsAlerts, RunsTold, RunsLegal, RunsFreshNew, RunsFront, ServiceStores, ServiceRuns};
 
 /// A frame stores no entry, or one of its session, under its identifier, which is not blocked. It
 /// leaves the base, the incarnation and which session it is.
@@ -55,6 +55,18 @@ pub fn runs_told()
     ensures { RunsTold }
 {}
 
+/// What was served in a run is legal, as a walk over it judges that knows the items and the entries
+/// alone: each call is answered and stored as it means, draws what comes next, and is answered Blocked
+/// only where its commit would meet a block.
+pub fn runs_legal()
+    ensures { RunsLegal }
+{}
+
+/// What was drawn anew in a run was drawn once, over all openings, as long as identifiers can be spelled.
+pub fn runs_fresh_new()
+    ensures { RunsFreshNew }
+{}
+
 /// A run has a run for each front of its history, and its store goes on from that one's.
 pub fn runs_front()
     ensures { RunsFront }
@@ -64,4 +76,10 @@ pub fn runs_front()
 /// order, none of them blocked.
 pub fn service_stores()
     ensures { ServiceStores }
+{}
+
+/// Whatever has such a history serves right, too, where nothing of an opening was served behind a stop:
+/// what was served is legal, what was drawn anew is drawn once, and each frame is told as it has to be.
+pub fn service_runs()
+    ensures { ServiceRuns }
 {}

@@ -1,0 +1,5 @@
+use Rattle.server_model.proofs.LegalWhole.{runs_legal}
+use Rattle.server_model.proofs.laws.runs_legal.Goals as goal
+
+pub returns : goal.returns
+returns c = runs_legal
