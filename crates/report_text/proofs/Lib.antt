@@ -5,4 +5,5 @@ mod Members
 mod NotesBack
 mod Places
 mod ReportBack
+mod TextBack
 mod ValuesBack

@@ -5,6 +5,7 @@ pub mod Failures
 pub mod Items
 pub mod Laws
 pub mod Notes
+pub mod Numbers
 pub mod Octets
 pub mod Parts
 pub mod Report
