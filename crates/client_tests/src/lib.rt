@@ -1,14 +1,28 @@
-//! Tests of the small parts of a client and of its pool: what no clause says.
+//! Tests of a client and of its pool: what no clause says, and conversations with a driver as tables.
 #![tactic(auto)]
 
 #[cfg(test)]
+mod acts;
+#[cfg(test)]
+mod answers;
+#[cfg(test)]
 mod bounds;
+#[cfg(test)]
+mod compared;
 #[cfg(test)]
 mod conversation;
 #[cfg(test)]
+mod full;
+#[cfg(test)]
 mod limits;
 #[cfg(test)]
+mod lines;
+#[cfg(test)]
+mod names;
+#[cfg(test)]
 mod outages;
+#[cfg(test)]
+mod peers;
 #[cfg(test)]
 mod pool;
 #[cfg(test)]
@@ -21,3 +35,5 @@ mod replay;
 mod script;
 #[cfg(test)]
 mod session;
+#[cfg(test)]
+mod shop;

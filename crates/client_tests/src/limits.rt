@@ -1,14 +1,15 @@
 //! Limits: on replays, tries, ticks, and the time in the queue.
-use crate::conversation::Acts::{
+use crate::answers::Says::{Committed, Done, Number};
+use crate::conversation::{LIMITS, goes, goes_within};
+use crate::lines::Acts::{
     Asks, Begin, Call as Sends, Close, Connect, Drops, End, Fails, GivesBack, Shows,
 };
-use crate::conversation::Came::{Hello, Outcome, Reply};
-use crate::conversation::Comes::{Frame, Gone, Lent, NotOpened, Opened, Start, Waiting};
-use crate::conversation::{ASKED, Line, OPENED, Parts, goes};
+use crate::lines::Came::{Hello, Outcome, Reply};
+use crate::lines::Comes::{Frame, Gone, Lent, NotOpened, Opened, Start, Waiting};
+use crate::lines::{ASKED, Line, OPENED, Parts};
 use crate::script::Does::{Commit, Count, Insert};
-use crate::script::Says::{Committed, Done, Number};
 use driver_core::Failed::{PoolWait, ReplayTimeout, Replays, Retries};
-use request_bounds::DynamicRule;
+use request_bounds::{Clocked, DynamicRule};
 
 const THREE_CYCLES: &[Line] = &[
     (0, Frame(Outcome(false, false)), &[Begin, Sends(0)]),
@@ -135,21 +136,34 @@ const WAITS_TOO_LONG: Parts = &[&[
     (5, Waiting, &[Fails(PoolWait { first: 0, now: 5 }), Drops]),
 ]];
 
+/// With more time to wait: another request gives its connection back, and it is lent.
 const WAITS_AND_IS_LENT: Parts = &[&[
     (0, Start, &[]),
     (0, Waiting, &[]),
-    (5, Lent((1, 1, 0)), &[Begin, Sends(0)]),
+    (5, Waiting, &[]),
+    (8, Lent((1, 1, 1)), &[Begin, Sends(0)]),
     (
-        5,
-        Frame(Reply(Number(1), (1, 1, 0))),
-        &[End, Shows(Number(1), (1, 1, 0)), GivesBack],
+        8,
+        Frame(Reply(Number(1), (1, 1, 1))),
+        &[End, Shows(Number(1), (1, 1, 1)), GivesBack],
     ),
 ]];
 
 #[test]
 fn limits_of_waiting(rt: HostRuntime) {
+    let alloc = rt.alloc();
     let script = [Count];
-    for parts in [WAITS_TOO_LONG, WAITS_AND_IS_LENT] {
-        assert!(rt; goes(&rt, rt.alloc(), DynamicRule, &script, parts));
-    }
+    assert!(rt; goes(&rt, alloc, DynamicRule, &script, WAITS_TOO_LONG));
+    let limits = Clocked { wait: 8, ..LIMITS };
+    assert!(rt;
+        goes_within(
+            &rt,
+            alloc,
+            DynamicRule,
+            limits,
+            2,
+            &script,
+            WAITS_AND_IS_LENT
+        )
+    );
 }

@@ -1,16 +1,17 @@
 //! Reasons against a replay, and settings that are kept or lost.
-use crate::conversation::Acts::{
+use crate::answers::Says::{Committed, Done, Setting};
+use crate::conversation::goes;
+use crate::lines::Acts::{
     Again, Asks, Begin, BeginSet, Call as Sends, Close, Connect, Drops, End, Fails, GivesBack,
     Shows,
 };
-use crate::conversation::Came::{Hello, Outcome, Reply};
-use crate::conversation::Comes::{Frame, Gone, Last, Opened};
-use crate::conversation::{ASKED, Line, OPENED, Parts, goes};
+use crate::lines::Came::{Hello, Outcome, Reply};
+use crate::lines::Comes::{Frame, Gone, Last, Opened};
+use crate::lines::{ASKED, Line, OPENED, Parts};
 use crate::script::Does::{Alter, Commit, Count, Disable, Insert, Set, ShowSet};
-use crate::script::Says::{Committed, Done, Number};
 use auto_bounds::AutoRule;
 use driver_core::Failed::Disabled;
-use request_bounds::Why::{AfterCommit, Asked, Full, Off, Restricted, Settings, StateLost};
+use request_bounds::Why::{AfterCommit, Asked, Off, Restricted, Settings, StateLost};
 use request_bounds::{DynamicRule, OffRule, StaticRule};
 
 /// The first call was shown, and the second is lost by event 7.
@@ -248,10 +249,30 @@ const SETTINGS_ARE_KEPT: Parts = &[
         ),
         (
             0,
-            Frame(Reply(Number(7), (1, 2, 0))),
-            &[End, Shows(Number(7), (1, 2, 0)), GivesBack],
+            Frame(Reply(Setting, (1, 2, 0))),
+            &[End, Shows(Setting, (1, 2, 0)), GivesBack],
         ),
     ],
+];
+
+/// A server that says so of a `set` has it shown, and it counts as one.
+const SET_BY_AN_OUTCOME: Parts = &[
+    OPENED,
+    &[(0, Gone(4), &[])],
+    ASKED,
+    &[(
+        0,
+        Frame(Outcome(true, true)),
+        &[
+            Close,
+            Shows(Committed, (1, 2, 0)),
+            Fails(Disabled {
+                why: StateLost(1),
+                event: 4,
+            }),
+            Drops,
+        ],
+    )],
 ];
 
 #[test]
@@ -260,6 +281,7 @@ fn settings_behind_an_outcome(rt: HostRuntime) {
     let script = [Set, Commit, ShowSet];
     assert!(rt; goes(&rt, alloc, DynamicRule, &script, SETTINGS_ARE_LOST));
     assert!(rt; goes(&rt, alloc, AutoRule, &script, SETTINGS_ARE_KEPT));
+    assert!(rt; goes(&rt, alloc, DynamicRule, &[Set, ShowSet], SET_BY_AN_OUTCOME));
 }
 
 /// A `set` that no purge came behind is repeated, and is not among the settings of a Begin.
@@ -275,65 +297,6 @@ fn a_set_that_is_repeated(rt: HostRuntime) {
     let script = [Set, Commit];
     assert!(rt; goes(&rt, rt.alloc(), AutoRule, &script, SET_IS_REPEATED));
     assert!(rt; goes(&rt, rt.alloc(), DynamicRule, &script, SET_IS_REPEATED));
-}
-
-/// Two calls are recorded, and there is place for no third.
-const TWO_CALLS: &[Line] = &[
-    (
-        0,
-        Frame(Reply(Number(0), (1, 1, 0))),
-        &[Sends(1), Shows(Number(0), (1, 1, 0))],
-    ),
-    (
-        0,
-        Frame(Reply(Number(0), (1, 1, 0))),
-        &[Sends(2), Shows(Number(0), (1, 1, 0))],
-    ),
-];
-
-const TWO_ARE_REPEATED: Parts = &[
-    OPENED,
-    TWO_CALLS,
-    &[(0, Gone(9), &[])],
-    ASKED,
-    &[
-        (0, Frame(Outcome(false, false)), &[Begin, Again(0)]),
-        (0, Frame(Reply(Number(0), (1, 2, 0))), &[Again(1)]),
-        (0, Frame(Reply(Number(0), (1, 2, 0))), &[Sends(2)]),
-    ],
-];
-
-const RECORDER_IS_FULL: Parts = &[
-    OPENED,
-    TWO_CALLS,
-    &[
-        (
-            0,
-            Frame(Reply(Number(0), (1, 1, 0))),
-            &[Sends(3), Shows(Number(0), (1, 1, 0))],
-        ),
-        (0, Gone(11), &[]),
-    ],
-    ASKED,
-    &[(
-        0,
-        Frame(Outcome(false, false)),
-        &[
-            Close,
-            Fails(Disabled {
-                why: Full(2),
-                event: 11,
-            }),
-            Drops,
-        ],
-    )],
-];
-
-#[test]
-fn a_recorder_that_is_full(rt: HostRuntime) {
-    let script = [Count, Count, Count, Count];
-    assert!(rt; goes(&rt, rt.alloc(), DynamicRule, &script, TWO_ARE_REPEATED));
-    assert!(rt; goes(&rt, rt.alloc(), DynamicRule, &script, RECORDER_IS_FULL));
 }
 
 /// The reply was the last one on its connection, so the `alter` was not submitted.

@@ -1,56 +1,48 @@
-//! Calls and answers of the conversations, by short names.
+//! Calls of the conversations, by short names.
 ghost use Rattle.std.specs.Prelude.{◌≡◌};
 ghost use Rattle.svc_values.specs.Calls.{IsMade};
 
+use crate::names::{name, text, who};
 use std::alloc::Global;
 use std::process::Abort;
-use svc_values::{
-    Answer, Answers, Call, Change, DrawKind, Name, Operand, Operands, Row, Rows, Statement,
-    StatementFault, Statements, Text, Value,
-};
+use svc_values::{Call, Change, DrawKind, Operand, Operands, Statement, Statements, Test, Value};
 
-/// A call of a script.
+/// A call of a script. The tables are `t`, with a key and a name; `acc`, with a key and a balance;
+/// and those of a shop, `item` and `sales`, whose customers are told by their number.
 #[derive(Clone, Copy)]
 pub enum Does {
     Insert(i64),
     InsertDrawn,
     InsertCommit,
+    Read,
+    SelectA,
     Get,
     UpdateCommit,
     Count,
     Commit,
     Set,
     ShowSet,
+    ShowDrawn,
     Alter,
     Disable,
+    GetItem(i64),
+    Sell(i64),
+    Sales(i64),
 }
 
-/// The answers of a call.
-#[derive(Clone, Copy)]
-pub enum Says {
-    Done,
-    Row(i64),
-    Number(i64),
-    Committed,
-    DoneConflict,
-    DoneInReplay,
-    Duplicate,
+fn number(number: i64) -> Operand {
+    Operand::Lit(Value::Int(number))
 }
 
-fn name(rt: &impl Abort, alloc: Global, text: &str) -> Name {
-    Name::new(alloc, text).expect(rt, "a name")
-}
-
-fn text(rt: &impl Abort, alloc: Global, text: &str) -> Text {
-    Text::new(alloc, text).expect(rt, "a text")
+fn letters(rt: &impl Abort, alloc: Global, letters: &str) -> Operand {
+    Operand::Lit(Value::Text(text(rt, alloc, letters)))
 }
 
 /// The values that an insert into `t` puts: a key, and the text `a`.
 fn values(rt: &impl Abort, alloc: Global, key: Operand) -> Operands {
     let mut values = Operands::new(alloc);
     values.push(key).expect(rt, "a value");
-    let a = Operand::Lit(Value::Text(text(rt, alloc, "a")));
-    values.push(a).expect(rt, "a value");
+    values.push(letters(rt, alloc, "a")).expect(rt, "a value");
     values
 }
 
@@ -61,45 +53,99 @@ fn insert(rt: &impl Abort, alloc: Global, key: Operand) -> Statement {
     }
 }
 
-fn update(rt: &impl Abort, alloc: Global) -> Statement {
+/// Adds to a number in a row.
+fn add(
+    rt: &impl Abort,
+    alloc: Global,
+    table: &str,
+    key: i64,
+    column: &str,
+    change: i64,
+) -> Statement {
     Statement::Update {
-        table: name(rt, alloc, "acc"),
-        key: Operand::Lit(Value::Int(1)),
-        column: name(rt, alloc, "bal"),
-        change: Change::Plus(Operand::Lit(Value::Int(5))),
+        table: name(rt, alloc, table),
+        key: number(key),
+        column: name(rt, alloc, column),
+        change: Change::Plus(number(change)),
     }
 }
 
+fn get(rt: &impl Abort, alloc: Global, table: &str, key: i64) -> Statement {
+    Statement::Get {
+        table: name(rt, alloc, table),
+        key: number(key),
+    }
+}
+
+/// The rows with this text in a column.
+fn select(rt: &impl Abort, alloc: Global, table: &str, column: &str, text: &str) -> Statement {
+    Statement::Select {
+        table: name(rt, alloc, table),
+        column: name(rt, alloc, column),
+        test: Test::Eq,
+        operand: letters(rt, alloc, text),
+    }
+}
+
+/// A sale to a customer: its number and its tick are drawn.
+fn sale(rt: &impl Abort, alloc: Global, customer: i64) -> Statement {
+    let mut values = Operands::new(alloc);
+    let drawn = DrawKind::Seq(name(rt, alloc, "ord"));
+    values.push(Operand::Draw(drawn)).expect(rt, "a value");
+    values.push(number(customer)).expect(rt, "a value");
+    values
+        .push(Operand::Draw(DrawKind::Clock))
+        .expect(rt, "a value");
+    values
+        .push(letters(rt, alloc, who(customer)))
+        .expect(rt, "a value");
+    Statement::Insert {
+        table: name(rt, alloc, "sales"),
+        values,
+    }
+}
+
+/// The statement of a call that has one, and the first one of a call that has two.
 fn statement(rt: &impl Abort, alloc: Global, does: Does) -> Option<Statement> {
     match does {
-        Does::Insert(key) => Some(insert(rt, alloc, Operand::Lit(Value::Int(key)))),
+        Does::Insert(key) => Some(insert(rt, alloc, number(key))),
         Does::InsertDrawn => {
-            let drawn = Operand::Draw(DrawKind::Seq(name(rt, alloc, "s")));
-            Some(insert(rt, alloc, drawn))
+            let drawn = DrawKind::Seq(name(rt, alloc, "s"));
+            Some(insert(rt, alloc, Operand::Draw(drawn)))
         }
-        Does::InsertCommit => Some(insert(rt, alloc, Operand::Lit(Value::Int(1)))),
-        Does::Get => Some(Statement::Get {
-            table: name(rt, alloc, "acc"),
-            key: Operand::Lit(Value::Int(1)),
-        }),
-        Does::UpdateCommit => Some(update(rt, alloc)),
+        Does::InsertCommit => Some(insert(rt, alloc, number(1))),
+        Does::Read => Some(get(rt, alloc, "t", 1)),
+        Does::SelectA => Some(select(rt, alloc, "t", "name", "a")),
+        Does::Get => Some(get(rt, alloc, "acc", 1)),
+        Does::UpdateCommit => Some(add(rt, alloc, "acc", 1, "bal", 5)),
         Does::Count => Some(Statement::Count {
             table: name(rt, alloc, "t"),
         }),
         Does::ShowSet => Some(Statement::Show {
             operand: Operand::Var(name(rt, alloc, "lang")),
         }),
+        Does::ShowDrawn => Some(Statement::Show {
+            operand: Operand::Draw(DrawKind::Id),
+        }),
+        Does::GetItem(item) => Some(get(rt, alloc, "item", item)),
+        Does::Sell(item) => Some(add(rt, alloc, "item", item, "stock", -1)),
+        Does::Sales(customer) => Some(select(rt, alloc, "sales", "who", who(customer))),
         _ => None,
     }
 }
 
-/// Work: the statement that is named, and a commit where it is part of the name.
+/// Work: the statements that are named, and a commit where it is part of the name.
 fn work(rt: &impl Abort, alloc: Global, does: Does) -> Call
     ensures { IsMade result }
 {
     let mut statements = Statements::new(alloc);
     if let Some(statement) = statement(rt, alloc, does) {
         statements.push(statement).expect(rt, "a statement");
+    }
+    if let Does::Sell(customer) = does {
+        statements
+            .push(sale(rt, alloc, customer))
+            .expect(rt, "a statement");
     }
     let commit = matches!(does, Does::InsertCommit | Does::UpdateCommit | Does::Commit);
     Call::work(statements, commit).expect(rt, "a call")
@@ -118,41 +164,5 @@ pub fn call(rt: &impl Abort, alloc: Global, does: Does) -> Call
         },
         Does::Disable => Call::Disable,
         _ => work(rt, alloc, does),
-    }
-}
-
-/// An account's row: its key, 1, and this balance.
-fn rows(rt: &impl Abort, alloc: Global, balance: i64) -> Rows {
-    let mut row = Row::new(alloc);
-    row.push(Value::Int(1)).expect(rt, "a value");
-    row.push(Value::Int(balance)).expect(rt, "a value");
-    let mut rows = Rows::new(alloc);
-    rows.push(row).expect(rt, "a row");
-    rows
-}
-
-fn two(rt: &impl Abort, alloc: Global, first: Answer, second: Option<Answer>) -> Answers {
-    let mut answers = Answers::new(alloc);
-    answers.push(first).expect(rt, "an answer");
-    if let Some(second) = second {
-        answers.push(second).expect(rt, "an answer");
-    }
-    answers
-}
-
-pub fn answers(rt: &impl Abort, alloc: Global, says: Says) -> Answers {
-    match says {
-        Says::Done => two(rt, alloc, Answer::Done(1), None),
-        Says::Row(balance) => two(rt, alloc, Answer::Rows(rows(rt, alloc, balance)), None),
-        Says::Number(number) => two(rt, alloc, Answer::Number(number), None),
-        Says::Committed => two(rt, alloc, Answer::Committed, None),
-        Says::DoneConflict => two(rt, alloc, Answer::Done(1), Some(Answer::Conflict)),
-        Says::DoneInReplay => two(rt, alloc, Answer::Done(1), Some(Answer::CommitInReplay)),
-        Says::Duplicate => two(
-            rt,
-            alloc,
-            Answer::Refused(StatementFault::DuplicateKey),
-            None,
-        ),
     }
 }
