@@ -1,5 +1,5 @@
 -- What is told of an identifier, by the outcome table.
-use Rattle.std.specs.Prelude.{◌≡◌, ◌⊎◌, true, false, [], ◌∷◌, ◌++◌}
+use Rattle.std.specs.Prelude.{◌≡◌, ◌⊎◌, true, false, [], ◌∷◌, ◌++◌, Option, Some, None}
 use Rattle.svc_values.specs.declared.entry.Ltxid.{Ltxid}
 use Rattle.svc_values.specs.declared.frame.Down.{Down}
 use Rattle.svc_values.specs.declared.frame.Down.TheVariants as down
@@ -15,6 +15,11 @@ pub data Telling : Type 0 where
   Silent : Telling
   Says : (frame : Down) → Telling
   Stopped : Telling
+
+-- of an answer, which is a frame or none
+abbrev pub telling_of : Option Down → Telling
+telling_of None = Silent
+telling_of (Some frame) = Says frame
 
 -- the frame that tells a verdict. An identifier that is to be blocked is so before it is told
 abbrev pub down_of : Verdict → Down
