@@ -1,6 +1,7 @@
 pub mod Acting
 pub mod Basic
 pub mod Clients
+pub mod Coupled
 pub mod Crashing
 pub mod Cutting
 pub mod Finishing
@@ -17,14 +18,17 @@ pub mod Noting
 pub mod Number
 pub mod Observed
 pub mod Once
+pub mod OneEvent
 pub mod Opening
 pub mod Outside
 pub mod Parts
+pub mod Reached
 pub mod Reports
 pub mod Same
 pub mod Sames
 pub mod Script
 pub mod Sequences
+pub mod ServiceDid
 pub mod Serving
 pub mod Settings
 pub mod Told

@@ -15,21 +15,21 @@ use Rattle.server_model.specs.ServiceCalls.{is_failover}
 use Rattle.world_model.specs.Noting.{only_if}
 
 -- what happened: the event, with what its note says
-pub data Happened : Type 0 where
-  Went : (client : ℕ) → (did : GoNote) → Happened
-  ServedOn : (connection : ℕ) → (frame : Option FrameName) → Happened
-  CutOff : (connection up down : ℕ) → (reached : Option Reached) → Happened
-  Reaped : (connection : ℕ) → (reaped : Bool) → Happened
-  Crashed : (connection after : ℕ) → (failover down : Bool) → Happened
-  Opened : (incarnation : Option ℕ) → Happened
-  OpeningStopped : (made : Bool) → Happened
-  Ticked : Happened
-  RanOutside : (ran : Option OutsideNote) → Happened
-  Asked : (ltxid : Ltxid) → (told : Option AskResult) → Happened
-  Drained : (closed : ℕ) → Happened
+pub data Noted : Type 0 where
+  Went : (client : ℕ) → (did : GoNote) → Noted
+  ServedOn : (connection : ℕ) → (frame : Option FrameName) → Noted
+  CutOff : (connection up down : ℕ) → (reached : Option Reached) → Noted
+  Reaped : (connection : ℕ) → (reaped : Bool) → Noted
+  Crashed : (connection after : ℕ) → (failover down : Bool) → Noted
+  Opened : (incarnation : Option ℕ) → Noted
+  OpeningStopped : (made : Bool) → Noted
+  Ticked : Noted
+  RanOutside : (ran : Option OutsideNote) → Noted
+  Asked : (ltxid : Ltxid) → (told : Option AskResult) → Noted
+  Drained : (closed : ℕ) → Noted
 
 -- The note is one of this event: it is of its kind, and names what the event names.
-abbrev pub matched : Event → Note → Option Happened
+abbrev pub matched : Event → Note → Option Noted
 matched (event.Go client) (note.Go named did) = only_if (named == client) (Went client did)
 matched (event.Serve connection) (note.Serve named frame) = only_if (named == connection) (ServedOn connection frame)
 matched (event.Cut connection up down) (note.Cut named reached) = only_if (named == connection) (CutOff connection up down reached)

@@ -1,0 +1,47 @@
+-- What a state of the machine and what is seen of the service have in common, at each moment between two events.
+use Rattle.std.specs.Prelude.{◌≡◌, ◌+◌, ◌≤◌, ℕ, true, false, List, length, count_by, Option, Some, None, if◌then◌else◌}
+use Rattle.svc_values.specs.declared.entry.Entry.{Entry}
+use Rattle.svc_values.specs.declared.entry.SessionId.{SessionId}
+use Rattle.svc_values.specs.Identifiers.{same_session, session_of}
+use Rattle.server_model.specs.Base.{IsSound}
+use Rattle.server_model.specs.Laws.{stops_last}
+use Rattle.server_model.specs.Seen.{Seen, IsHistory, connection_in}
+use Rattle.world_model.specs.Links.{Link, link_at}
+use Rattle.world_model.specs.Machines.{Server}
+use Rattle.world_model.specs.Traced.{Traced}
+
+-- the session of a connection that lives, if it is one
+abbrev pub living_of : Option Link → Option (Option SessionId)
+living_of None = None
+living_of (Some link) = if link.is_living then Some link.session else None
+
+-- how many of the entries are of this session
+abbrev pub entries_in : List Entry → SessionId → ℕ
+entries_in entries session = count_by (λ entry. same_session (session_of entry.ltxid) session) entries
+
+-- a session that lives has stored what it answered Committed, and no more
+abbrev pub HasStored : List Entry → Option (Option SessionId) → ℕ → Type 0
+HasStored entries (Some (Some session)) commits = entries_in entries session ≡ commits
+HasStored entries (Some None) commits = commits ≡ 0
+HasStored entries None commits = Unit {0}
+
+-- The incarnation is that of the store. While the server is down openings may have been stopped that stored theirs.
+pub record SameServer (server : Server) (seen : Seen) : Type 0 where
+  pub is_up : server.is_up ≡ seen.is_up
+  pub per_record : server.per_record ≡ seen.per_record
+  pub opened : seen.is_up ≡ true → (server.incarnation ≡ seen.store.incarnation) × ((server.sessions ≡ seen.sessions) × (server.stopped ≡ 0))
+  pub closed : seen.is_up ≡ false → (server.incarnation ≤ seen.store.incarnation) × (seen.store.incarnation ≤ server.incarnation + server.stopped)
+
+pub record Coupled (seen : Seen) (t : Traced) : Type 0 where
+  pub history : IsHistory seen
+  pub sound : IsSound seen.start
+  -- nothing was served in an opening behind a frame that was stopped
+  pub stops : stops_last seen.history ≡ true
+  pub server : SameServer t.machine.server seen
+  -- the connections that live, with their sessions
+  pub living : (number : ℕ) → connection_in seen.living number ≡ living_of (link_at t.machine.links number)
+  pub stored : (number : ℕ) (link : Link) → link_at t.machine.links number ≡ Some link → HasStored seen.store.entries (living_of (Some link)) link.commits
+  -- the journal
+  pub entries : t.entries ≡ seen.store.entries
+  pub blocked : t.blocked ≡ seen.store.blocked
+  pub image : t.image ≡ length seen.start.entries

@@ -1,0 +1,35 @@
+-- Where a run has come to: event by event, machine and service together.
+use Rattle.std.specs.Prelude.{◌≡◌, List, [], ◌∷◌, ◌++◌, length}
+use Rattle.outage_schedule.specs.declared.document.Document.{Document}
+use Rattle.outage_schedule.specs.declared.event.Event.{Event}
+use Rattle.outage_schedule.specs.declared.note.Note.{Note}
+use Rattle.outage_schedule.specs.declared.item.Served.{Served}
+use Rattle.commit_log.specs.declared.journal.Journal.{Journal}
+use Rattle.run_clauses.specs.Before.{journal_before}
+use Rattle.run_clauses.specs.ServiceBase.{service_base}
+use Rattle.server_model.specs.Seen.{Seen}
+use Rattle.world_model.specs.Settings.{setting_of}
+use Rattle.world_model.specs.Machines.{start_of}
+use Rattle.world_model.specs.Traced.{Traced}
+use Rattle.world_model.specs.Coupled.{Coupled}
+use Rattle.world_model.specs.OneEvent.{OneEvent}
+
+-- behind the opening before event 1
+abbrev pub traced_start : Document → Traced
+traced_start document =
+    let before : Journal = journal_before document in
+    record {
+      setting = setting_of document;
+      machine = start_of document;
+      entries = before.entries;
+      image = length before.entries;
+      blocked = before.blocked;
+      outside = [];
+      outside_draws = [];
+    }
+
+-- the events so far, those of the finish among them, with their notes and all that was served
+pub data Reached (document : Document) : List Event → List Note → List Served → Seen → Traced → Type 0 where
+  Begins : (seen : Seen) → seen.start ≡ service_base document → seen.history ≡ [] → Coupled seen (traced_start document) → Reached document [] [] [] seen (traced_start document)
+  GoesOn : (events : List Event) (notes : List Note) (items more : List Served) (before after : Seen) (old new : Traced) (event : Event) (note : Note)
+      → Reached document events notes items before old → OneEvent before old event note more [] after new → Reached document (events ++ event ∷ []) (notes ++ note ∷ []) (items ++ more) after new

@@ -1,0 +1,49 @@
+-- What a service's history has of an event: the frames that were served then and the identifiers that were asked, in order.
+use Rattle.std.specs.Prelude.{◌≡◌, ℕ, List, [], ◌∷◌, ◌++◌, map, Option, Some, None, if◌then◌else◌}
+use Rattle.svc_values.specs.declared.answer.Answer.{Answer}
+use Rattle.svc_values.specs.declared.draw.Draw.{Draw}
+use Rattle.svc_values.specs.declared.entry.SessionId.{SessionId}
+use Rattle.outage_schedule.specs.declared.event.Event.{Event}
+use Rattle.outage_schedule.specs.declared.event.Event.TheVariants as event
+use Rattle.outage_schedule.specs.declared.note.Note.{Note}
+use Rattle.outage_schedule.specs.declared.note.Note.TheVariants as note
+use Rattle.outage_schedule.specs.declared.note.NoteRun.{NoteRun}
+use Rattle.outage_schedule.specs.declared.note.OutsideNote.{OutsideNote}
+use Rattle.outage_schedule.specs.declared.item.Item.{Item}
+use Rattle.outage_schedule.specs.declared.item.Item.TheVariants as item
+use Rattle.outage_schedule.specs.declared.item.Served.{Served}
+use Rattle.server_model.specs.Outcomes.{Telling, Says, Stopped, telling_of}
+use Rattle.server_model.specs.Runs.{Happened, Served as ServedFrame, Asked}
+use Rattle.server_model.specs.ServiceCalls.{RunsAre, begins_outside}
+use Rattle.world_model.specs.Machines.{Machine, next_session}
+use Rattle.world_model.specs.Serving.{Front, front_at, reply_of, outcome_frame, commits_after}
+
+-- what is told of the frame of this item, by a session that has answered so many commits: nothing at a stop
+abbrev pub item_telling : SessionId → ℕ → Item → Telling
+item_telling session commits (item.CrashedCall marked call) = Stopped
+item_telling session commits (item.CrashedOutcome asked) = Stopped
+item_telling session commits one = telling_of (reply_of session commits one)
+
+abbrev pub front_telling : Front → Served → Telling
+front_telling front served = item_telling served.session (commits_after front.link served.item) served.item
+
+-- the frame that stands first is served, as the first item says
+abbrev pub front_served : ℕ → Option Front → List Served → List Happened
+front_served now (Some front) (served ∷ items) = ServedFrame served.session now front.first.frame (front_telling front served) ∷ []
+front_served now _ _ = []
+
+abbrev pub run_of : NoteRun → List Answer × List Draw
+run_of run = (run.answers, run.draws)
+
+abbrev pub runs_of : OutsideNote → List (List Answer × List Draw)
+runs_of ran = map run_of ran.runs
+
+-- An event that serves a frame has one thing, one that runs calls outside what these did in a session of their own, a question one, and
+-- every other event has none. (The machine follows the event, so a frame that is noted stands first.)
+abbrev pub ServiceDid : Machine → Event → Note → List Served → List Happened → Type 0
+ServiceDid m (event.Serve connection) note items more = more ≡ front_served m.tick (front_at m.links connection) items
+ServiceDid m (event.Crash connection after pick) note items more = more ≡ (if m.server.is_up then front_served m.tick (front_at m.links connection) items else [])
+ServiceDid m (event.Outside calls) (note.Outside (Some ran)) items more =
+    (runs : List Happened) × ((more ≡ begins_outside (next_session m.server) m.tick ++ runs) × RunsAre (next_session m.server) m.tick calls (runs_of ran) runs)
+ServiceDid m (event.Ask x) (note.Ask named (Some told)) items more = more ≡ Asked x (Says (outcome_frame told)) ∷ []
+ServiceDid m _ _ items more = more ≡ []
