@@ -10,6 +10,7 @@ pub mod Frames
 pub mod Going
 pub mod Hold
 pub mod Invariant
+pub mod KeptLaws
 pub mod Links
 pub mod Lost
 pub mod Machines

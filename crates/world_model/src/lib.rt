@@ -1,3 +1,5 @@
 //! The world as a pure machine, in `specs/`: it walks the events of a run with their notes and the items that were served
-//! (`Followed`), and the invariant of its states is a record of tests (`Invariant`).
+//! (`Followed`), and the invariant of its states is a record of tests (`Invariant`). `laws` says what of it is proved to be kept.
 #![tactic(auto)]
+
+pub mod laws;

@@ -1,0 +1,18 @@
+-- What of the invariant is kept: it holds of the start, and of the state behind each event if the whole invariant held before.
+use Rattle.std.specs.Prelude.{Bool, IsTrue, List}
+use Rattle.svc_values.specs.declared.draw.Draw.{Draw}
+use Rattle.server_model.specs.Seen.{Seen}
+use Rattle.outage_schedule.specs.declared.document.Document.{Document}
+use Rattle.outage_schedule.specs.declared.event.Event.{Event}
+use Rattle.outage_schedule.specs.declared.note.Note.{Note}
+use Rattle.outage_schedule.specs.declared.item.Served.{Served}
+use Rattle.world_model.specs.Traced.{Traced}
+use Rattle.world_model.specs.Invariant.{Invariant}
+use Rattle.world_model.specs.OneEvent.{OneEvent}
+use Rattle.world_model.specs.Reached.{traced_start}
+
+-- a test of the state
+pub record IsKept (test : Traced → Bool) : Type 0 where
+  pub at_start : (document : Document) → IsTrue (test (traced_start document))
+  pub at_event : (granted : Draw → Bool) (before after : Seen) (old new : Traced) (event : Event) (note : Note) (items left : List Served)
+      → OneEvent before old event note items left after new → Invariant granted old → IsTrue (test new)
