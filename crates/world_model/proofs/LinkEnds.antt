@@ -22,6 +22,7 @@ use Rattle.world_model.specs.Sames.{same_up, same_sent, same_owners, is_front}
 use Rattle.world_model.specs.Wire.{up_of, is_sent_front, nothing_cut}
 use Rattle.world_model.proofs.Tests.{or_false, not_both, le_to, le_from}
 use Rattle.world_model.proofs.Ends.{shut, with_frames, has_close, ends_case, sends_case, handled_case, cut_case, fallen_case}
+use Rattle.world_model.proofs.Fronts.{same_frames, front_any}
 use Rattle.world_model.proofs.AllLinks.{IsFront, Keeps}
 
 abbrev ends_test : ℕ → Bool → Option ℕ → Bool → Bool → Bool → Bool
@@ -106,19 +107,7 @@ same_closes up.Close up.End same is = absurd (let none : ⊥ = cc in none)
 same_closes a b same is = absurd (let none : ⊥ = cc in none)
 
 sent_closes : (a b : Sent) → same_sent a b ≡ true → closes a ≡ true → closes b ≡ true
-sent_closes a b same is = same_closes a.frame b.frame (and_parts (a.call == b.call) (same_up a.frame b.frame) (and_parts (same_owners a.owner b.owner) ((a.call == b.call) && same_up a.frame b.frame) same).1).1 is
-
-either_closes : (x y : Sent) (xs ys : List Sent) → (closes x ≡ true) ⊎ (list_any closes xs ≡ true) → same_sent x y ≡ true → (list_any closes xs ≡ true → list_any closes ys ≡ true)
-    → (closes y || list_any closes ys) ≡ true
-either_closes x y xs ys (inl here) same rest = or_left (closes y) (list_any closes ys) (sent_closes x y same here)
-either_closes x y xs ys (inr later) same rest = or_right (closes y) (list_any closes ys) (rest later)
-
-front_closes : (front all : List Sent) → is_front same_sent front all ≡ true → list_any closes front ≡ true → list_any closes all ≡ true
-front_closes [] all is any = absurd (let none : ⊥ = cc in none)
-front_closes (x ∷ xs) [] is any = absurd (let none : ⊥ = cc in none)
-front_closes (x ∷ xs) (y ∷ ys) is any =
-    let parts = and_parts (same_sent x y) (is_front same_sent xs ys) is in
-    either_closes x y xs ys (or_cases (closes x) (list_any closes xs) any) parts.0 (front_closes xs ys parts.1)
+sent_closes a b same is = same_closes a.frame b.frame (same_frames a b same) is
 
 -- what may be served closes only what is closed
 first_closes : (link : Link) (first : Sent) (later : List Sent) → is_sent_front link ≡ true → link.up ≡ first ∷ later → closes first ≡ true → is_closed link ≡ true
@@ -126,7 +115,7 @@ first_closes link first later wire is here =
     let served : List Sent = map (λ (one : Handled). one.sent) link.served in
     let any : list_any closes (served ++ (first ∷ later)) ≡ true =
     list_any-append closes served (first ∷ later) ∙ or_right (list_any closes served) (closes first || list_any closes later) (or_left (closes first) (list_any closes later) here) in
-    front_closes (up_of link) link.sent (and_parts (is_front same_sent (up_of link) link.sent) _ wire).0 (subst (λ (ups : List Sent). list_any closes (served ++ ups) ≡ true) (sym is) any)
+    front_any closes sent_closes (up_of link) link.sent (and_parts (is_front same_sent (up_of link) link.sent) _ wire).0 (subst (λ (ups : List Sent). list_any closes (served ++ ups) ≡ true) (sym is) any)
 
 -- an item that ends a session, but Blocked, is that of Close
 last_item : (frame : Up) (one : Item) → is_item_of frame one ≡ true → is_last one ≡ true → is_blocked one ≡ false → is_close frame ≡ true

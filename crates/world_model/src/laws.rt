@@ -1,11 +1,12 @@
 //! What of the invariant holds of the start and is kept in each event, if the whole invariant held before it. Each law is the
 //! clause of a function with nothing to run.
 ghost use Rattle.world_model.specs.KeptLaws.{IsKept};
-ghost use Rattle.world_model.specs.Basic.{items_rise, is_down, are_ended, living_now, commits_counted, lives};
+ghost use Rattle.world_model.specs.Basic.{items_rise, items_differ, is_down, are_ended, sessions_differ, are_made, are_counted, are_named, living_now, commits_counted, lives};
 
-/// The items of a connection are in the order of their events, which are past.
+/// The items of a connection are in the order of their events, which are past. An event has one item.
 pub fn items_stay_in_order()
-    ensures { IsKept items_rise }
+    ensures rise { IsKept items_rise }
+    ensures one_item { IsKept items_differ }
 {}
 
 /// A connection is open as long as no event ended it. One that is closed or was cut is not open, and the session of one that is
@@ -21,4 +22,14 @@ pub fn sessions_live_rightly()
     ensures commits { IsKept commits_counted }
     ensures life { IsKept lives }
     ensures now { IsKept living_now }
+{}
+
+/// No two connections have one session, and none has one that was made outside. Each session was made, and the server counts
+/// those of its incarnation. A connection has its session once its Connect was served, and each of its items, and the
+/// identifier that was taken last, is of that session.
+pub fn sessions_stay_apart()
+    ensures apart { IsKept sessions_differ }
+    ensures made { IsKept are_made }
+    ensures counted { IsKept are_counted }
+    ensures named { IsKept are_named }
 {}
