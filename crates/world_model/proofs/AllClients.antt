@@ -1,0 +1,105 @@
+-- A test over the steps of all requests, by clients; and where one client goes on.
+use Rattle.std.proofs.Common.{◌≡◌, refl, sym, ap, subst, ◌∙◌, Bool, true, false, ℕ, suc, zero, ◌+◌, ◌&&◌, List, [], ◌∷◌, ◌++◌, map, Option, Some, None, if◌then◌else◌}
+use Rattle.std.specs.Prelude.{slice_get, slice_set, unwrap_or, option_map, option_and_then}
+use Rattle.std.specs.List.{list_all}
+use Rattle.std.specs.Option.{option_or, option_map_or}
+use Rattle.std.proofs.lemmas.Bool.{and_parts, and_from}
+use Rattle.std.proofs.lemmas.List.Folds.{list_all-append}
+use Rattle.client_model.specs.declared.act.Hold.{Hold}
+use Rattle.client_model.specs.declared.act.Hold.TheVariants as hold
+use Rattle.outage_schedule.specs.declared.document.Request.{Request}
+use Rattle.world_model.specs.Settings.{Setting}
+use Rattle.world_model.specs.Clients.{Step, Doing, Past, Client, client_at, with_client, after_hold, after_step, past_of, resting, script_at}
+use Rattle.world_model.specs.Traced.{Course, courses_from, courses_of_clients}
+use Rattle.world_model.proofs.AllLists.{set_all, at_all, append_all, one_all}
+
+abbrev pub now_passes : (Doing → Bool) → Option Doing → Bool
+now_passes test now = option_map_or test now true
+
+-- each request that is over passes the one test, and the one in course the other
+abbrev pub client_passes : (Past → Bool) → (Doing → Bool) → Client → Bool
+client_passes over going client = list_all over client.past && now_passes going client.now
+
+-- STEPS OF COURSES --------------------------------------------------------------------------------
+
+abbrev pub past_steps : (List Step → Bool) → Past → Bool
+past_steps test past = test past.steps
+
+abbrev pub doing_steps : (List Step → Bool) → Doing → Bool
+doing_steps test doing = test doing.steps
+
+abbrev pub course_steps : (List Step → Bool) → Course → Bool
+course_steps test course = test course.steps
+
+courses_pass : (test : List Step → Bool) (setting : Setting) (client place : ℕ) (past : List Past) (now : Option Doing)
+    → list_all (course_steps test) (courses_from setting client place past now) ≡ (list_all (past_steps test) past && now_passes (doing_steps test) now)
+courses_pass test setting client place [] None = refl
+courses_pass test setting client place [] (Some doing) = by (test doing.steps)
+  where
+    by : (b : Bool) → (b && true) ≡ b
+    by true = refl
+    by false = refl
+courses_pass test setting client place (one ∷ past) now =
+    ap (λ b. test one.steps && b) (courses_pass test setting client (place + 1) past now) ∙ sym (and_assoc (test one.steps) (list_all (past_steps test) past) (now_passes (doing_steps test) now))
+  where
+    and_assoc : (a b c : Bool) → ((a && b) && c) ≡ (a && (b && c))
+    and_assoc true b c = refl
+    and_assoc false b c = refl
+
+pub all_courses : (test : List Step → Bool) (setting : Setting) (number : ℕ) (clients : List Client)
+    → list_all (course_steps test) (courses_of_clients setting number clients) ≡ list_all (client_passes (past_steps test) (doing_steps test)) clients
+all_courses test setting number [] = refl
+all_courses test setting number (client ∷ clients) =
+    list_all-append (course_steps test) (courses_from setting number 0 client.past client.now) (courses_of_clients setting (number + 1) clients)
+    ∙ (ap (λ b. b && list_all (course_steps test) (courses_of_clients setting (number + 1) clients)) (courses_pass test setting number 0 client.past client.now)
+    ∙ ap (λ b. client_passes (past_steps test) (doing_steps test) client && b) (all_courses test setting (number + 1) clients))
+
+-- A CLIENT GOES ON --------------------------------------------------------------------------------
+
+pub at_client : (test : Client → Bool) (clients : List Client) (number : ℕ) (client : Client) → list_all test clients ≡ true → client_at clients number ≡ Some client → test client ≡ true
+at_client test clients zero client all e = absurd (let never : ⊥ = cc in never)
+at_client test clients (suc index) client all e = at_all test clients index client all e
+
+with_client_all : (test : Client → Bool) (clients : List Client) (number : ℕ) (client : Client) → list_all test clients ≡ true → test client ≡ true → list_all test (with_client clients number client) ≡ true
+with_client_all test clients zero client all here = all
+with_client_all test clients (suc index) client all here = set_all test clients index client all here
+
+-- the request goes on, or is over
+pub held_passes : (over : Past → Bool) (going : Doing → Bool) (setting : Setting) (number : ℕ) (client : Client) (doing : Doing) (held : Hold) → client_passes over going client ≡ true → going doing ≡ true
+    → over (past_of setting.terms doing) ≡ true → client_passes over going (after_hold setting number client doing held) ≡ true
+held_passes over going setting number client doing held here now past = by held
+  where
+    old : list_all over client.past ≡ true
+    old = (and_parts (list_all over client.past) (now_passes going client.now) here).0
+
+    rests : (list_all over (client.past ++ past_of setting.terms doing ∷ []) && true) ≡ true
+    rests = and_from (list_all over (client.past ++ past_of setting.terms doing ∷ [])) true (append_all over client.past (past_of setting.terms doing ∷ []) old (one_all over (past_of setting.terms doing) past)) refl
+
+    by : (held : Hold) → client_passes over going (after_hold setting number client doing held) ≡ true
+    by hold.Keep = and_from (list_all over client.past) (going doing) old now
+    by hold.GiveBack = rests
+    by hold.Drop = rests
+
+found_passes : (over : Past → Bool) (going : Doing → Bool) (setting : Setting) (clients : List Client) (number : ℕ) (doing : Doing) (held : Hold) (found : Option Client) → client_at clients number ≡ found
+    → list_all (client_passes over going) clients ≡ true → going doing ≡ true → over (past_of setting.terms doing) ≡ true
+    → list_all (client_passes over going) (option_map_or (λ client. with_client clients number (after_hold setting number client doing held)) found clients) ≡ true
+found_passes over going setting clients number doing held None is all now past = all
+found_passes over going setting clients number doing held (Some client) is all now past =
+    with_client_all (client_passes over going) clients number (after_hold setting number client doing held) all
+    (held_passes over going setting number client doing held (at_client (client_passes over going) clients number client all is) now past)
+
+pub step_passes : (over : Past → Bool) (going : Doing → Bool) (setting : Setting) (clients : List Client) (number : ℕ) (doing : Doing) (held : Hold) → list_all (client_passes over going) clients ≡ true
+    → going doing ≡ true → over (past_of setting.terms doing) ≡ true → list_all (client_passes over going) (after_step setting clients number doing held) ≡ true
+step_passes over going setting clients number doing held all now past = found_passes over going setting clients number doing held (client_at clients number) refl all now past
+
+-- the one in course
+pub doing_passes : (over : Past → Bool) (going : Doing → Bool) (clients : List Client) (number : ℕ) (client : Client) → list_all (client_passes over going) clients ≡ true → client_at clients number ≡ Some client
+    → now_passes going client.now ≡ true
+doing_passes over going clients number client all is =
+    (and_parts (list_all over client.past) (now_passes going client.now) (at_client (client_passes over going) clients number client all is)).1
+
+-- THE START ---------------------------------------------------------------------------------------
+
+pub none_yet : {A : Type 0} (over : Past → Bool) (going : Doing → Bool) (script : A → List Request) (all : List A) → list_all (client_passes over going) (map (λ one. resting (script one) []) all) ≡ true
+none_yet over going script [] = refl
+none_yet over going script (one ∷ all) = none_yet over going script all

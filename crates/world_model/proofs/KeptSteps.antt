@@ -1,0 +1,31 @@
+-- The steps of all requests rise, at the start and behind each event.
+use Rattle.std.proofs.Common.{◌≡◌, refl, sym, ◌∙◌, Bool, true, List}
+use Rattle.svc_values.specs.declared.draw.Draw.{Draw}
+use Rattle.server_model.specs.Seen.{Seen}
+use Rattle.outage_schedule.specs.declared.document.Document.{Document}
+use Rattle.outage_schedule.specs.declared.event.Event.{Event}
+use Rattle.outage_schedule.specs.declared.note.Note.{Note}
+use Rattle.outage_schedule.specs.declared.item.Served.{Served}
+use Rattle.world_model.specs.Settings.{setting_of}
+use Rattle.world_model.specs.Traced.{Traced}
+use Rattle.world_model.specs.Invariant.{Invariant}
+use Rattle.world_model.specs.OneEvent.{OneEvent}
+use Rattle.world_model.specs.Reached.{traced_start}
+use Rattle.world_model.specs.Basic.{have_risen}
+use Rattle.world_model.specs.KeptLaws.{IsKept}
+use Rattle.world_model.proofs.AllClients.{all_courses, past_steps, doing_steps, none_yet}
+use Rattle.world_model.proofs.StepsRise.{rises_at}
+use Rattle.world_model.proofs.Happened.{Followed, follow_happens}
+use Rattle.world_model.proofs.BasicSteps.{steps_kept}
+
+pub steps_law : IsKept have_risen
+steps_law = record {
+  at_start = λ document.
+      all_courses (rises_at 0 0) (setting_of document) 1 (traced_start document).machine.clients
+      ∙ none_yet (past_steps (rises_at 0 0)) (doing_steps (rises_at 0 0)) (λ client. client.requests) document.clients;
+  at_event = λ granted before after old new event note items left one inv.
+      let by : Followed old.setting old.machine event note items left new.machine = follow_happens old.setting old.machine event note items left new.machine one.follows in
+      all_courses (rises_at new.machine.event new.machine.tick) new.setting 1 new.machine.clients
+      ∙ steps_kept old.setting old.machine items left by.kind new.machine by.happens inv.basic.ended
+      (sym (all_courses (rises_at old.machine.event old.machine.tick) old.setting 1 old.machine.clients) ∙ inv.basic.steps);
+}
