@@ -1,19 +1,20 @@
 -- The book beside a journal.
-use Rattle.std.proofs.Common.{◌≡◌, ℕ, ◌==◌, ◌&&◌, Bool, true, false, not, List, [], ◌∷◌, ◌++◌, map, refl, sym, ap, subst, ◌∙◌}
-use Rattle.std.specs.Prelude.{IsTrue, nat_le}
+use Rattle.std.proofs.Common.{◌≡◌, ℕ, ◌==◌, ◌&&◌, Bool, true, false, not, List, [], ◌∷◌, ◌++◌, map, refl, sym, ap, subst, ◌∙◌, arith}
+use Rattle.std.specs.Prelude.{IsTrue, nat_le, nat_lt, max}
 use Rattle.std.proofs.lemmas.List.{map_push}
+use Rattle.std.proofs.lemmas.Bool.{ltb-true}
 use Rattle.svc_values.specs.declared.schema.Shape.{Shape}
 use Rattle.svc_values.specs.declared.entry.Entry.{Entry}
 use Rattle.svc_values.specs.declared.entry.Ltxid.{Ltxid}
 use Rattle.svc_values.specs.Fitting.{writes_fit}
-use Rattle.ltxid_book.specs.Sessions.{Contents, Sessions, sessions_in, may_commit as may_note, after_commit, after_block}
+use Rattle.ltxid_book.specs.Sessions.{Contents, Sessions, sessions_in, may_commit as may_note, after_commit, after_block, after_forgetting}
 use Rattle.ltxid_book.specs.Journal.{Committed, committed_of, book_of, BlocksStand}
-use Rattle.ltxid_book.proofs.Offered.{follows_commits, follows_blocks}
+use Rattle.ltxid_book.proofs.Offered.{follows_commits, follows_blocks, follows_forgetting}
 use Rattle.commit_log.specs.declared.journal.Journal.{Journal}
 use Rattle.commit_log.specs.declared.judge.Judge.{Judge}
 use Rattle.commit_log.specs.declared.records.Record.TheVariants as kept
 use Rattle.commit_log.specs.Bases.{schemas_of}
-use Rattle.commit_log.specs.Rules.{sessions_of, may_commit, may_block, with_record}
+use Rattle.commit_log.specs.Rules.{sessions_of, may_commit, may_block, rises, with_record}
 use Rattle.commit_log.specs.Judging.{IsBookFor, Keeps}
 
 -- whether a commit may come next, by a book that is kept beside the journal
@@ -43,6 +44,10 @@ pub first_fails : (a b c : Bool) → a ≡ false → a ≡ (a && (b && c))
 first_fails true b c fails = absurd cc
 first_fails false b c fails = refl
 
+pub second_holds : (a b : Bool) → (a && b) ≡ true → b ≡ true
+second_holds true b e = e
+second_holds false b e = absurd cc
+
 middle : (a b c : Bool) → (a && (b && c)) ≡ true → b ≡ true
 middle true true c e = refl
 middle true false c e = cc
@@ -59,10 +64,10 @@ pub notes_commit : (old new : Contents) (journal : Journal) (entry : Entry) → 
 notes_commit old new journal entry book_for may says =
     let commits = map committed_of journal.entries in
     let lets : IsTrue (may_note (sessions_of journal) entry.ltxid) = ap (λ (s : Sessions). may_note s entry.ltxid) (sym book_for.sessions) ∙ may in
-    let follows = follows_commits 0 commits journal.blocked (committed_of entry) book_for.blocks lets in
+    let follows = follows_commits journal.horizon commits journal.blocked (committed_of entry) book_for.blocks lets in
     let more : map committed_of (journal.entries ++ entry ∷ []) ≡ commits ++ committed_of entry ∷ [] = map_push committed_of journal.entries entry in
     record {
-      sessions = says ∙ ap (λ (s : Sessions). after_commit s entry.ltxid entry.completed) book_for.sessions ∙ follows.0 ∙ ap (λ (l : List Committed). book_of 0 l journal.blocked) (sym more);
+      sessions = says ∙ ap (λ (s : Sessions). after_commit s entry.ltxid entry.completed) book_for.sessions ∙ follows.0 ∙ ap (λ (l : List Committed). book_of journal.horizon l journal.blocked) (sym more);
       blocks = subst (λ (l : List Committed). BlocksStand l journal.blocked) (sym more) follows.1;
     }
 
@@ -75,5 +80,24 @@ pub notes_block : (old new : Contents) (journal : Journal) (x : Ltxid) → IsBoo
     → IsBookFor new (with_record journal (kept.Blocked x))
 notes_block old new journal x book_for may says =
     let lets : IsTrue (may_block journal x) = sym (block_beside old journal x book_for) ∙ may in
-    let follows = follows_blocks 0 (map committed_of journal.entries) journal.blocked x book_for.blocks lets in
+    let follows = follows_blocks journal.horizon (map committed_of journal.entries) journal.blocked x book_for.blocks lets in
     record { sessions = says ∙ ap (λ (s : Sessions). after_block s x) book_for.sessions ∙ follows.0; blocks = follows.1 }
+
+not_below : (a b : ℕ) → nat_lt a b ≡ true → max a b ≡ b
+not_below a b e = omega (arith, ltb-true a b e)
+
+-- a horizon that rises, or is the first, is the greater one
+pub greater : (journal : Journal) (has_horizon : Bool) (horizon : ℕ) → (has_horizon ≡ false → journal.horizon ≡ 0) → rises journal has_horizon horizon ≡ true → max journal.horizon horizon ≡ horizon
+greater journal true horizon unset up = not_below journal.horizon horizon up
+greater journal false horizon unset up = let zero : journal.horizon ≡ 0 = unset refl in omega (arith, zero)
+
+-- a book that has forgotten what is below a greater horizon, or below the first one, is one for the journal with it
+pub notes_horizon : (old new : Contents) (journal : Journal) (has_horizon : Bool) (horizon : ℕ) → IsBookFor old journal → (has_horizon ≡ false → journal.horizon ≡ 0) → rises journal has_horizon horizon ≡ true
+    → sessions_in new ≡ after_forgetting (sessions_in old) horizon → IsBookFor new (with_record journal (kept.Horizon horizon))
+notes_horizon old new journal has_horizon horizon book_for unset up says = record {
+  sessions = says
+      ∙ ap (λ (s : Sessions). after_forgetting s horizon) book_for.sessions
+      ∙ follows_forgetting journal.horizon horizon (map committed_of journal.entries) journal.blocked
+      ∙ ap (λ n. book_of n (map committed_of journal.entries) journal.blocked) (greater journal has_horizon horizon unset up);
+  blocks = book_for.blocks;
+}

@@ -2,5 +2,7 @@ pub mod Steps
 pub mod Growing
 pub mod Differing
 pub mod Committing
-pub mod Blocks
+pub mod Reserving
 pub mod Misfits
+pub mod Opening
+pub mod Offered

@@ -15,6 +15,7 @@ record_in (lent.Commit entry) = kept.Commit entry.now
 record_in (lent.Blocked x) = kept.Blocked x.now
 record_in (lent.Reserved name upto) = kept.Reserved (record { name = name.now; upto = upto })
 record_in (lent.Alert line) = kept.Alert line.now
+record_in (lent.Horizon horizon) = kept.Horizon horizon
 
 -- the image has the records of the old one, and this record last
 pub record HasAlso (old : List ℕ) (new : Record) (image : List ℕ) : Type 0 where

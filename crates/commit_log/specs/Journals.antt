@@ -5,7 +5,7 @@ use Rattle.redo_store.specs.Records.{records_of, whole_records}
 use Rattle.commit_log.specs.declared.journal.Journal.{Journal}
 use Rattle.commit_log.specs.declared.records.Record.{Record}
 use Rattle.commit_log.specs.RecordBytes.{record_at}
-use Rattle.commit_log.specs.Rules.{Progress, Empty, Begun, after}
+use Rattle.commit_log.specs.Rules.{SoFar, Empty, Begun, after}
 
 -- a record behind which no byte is left
 abbrev pub if_whole : Result (Record × List ℕ) Fault → Option Record
@@ -18,36 +18,36 @@ abbrev pub whole_record : List ℕ → Option Record
 whole_record payload = if_whole (record_at payload)
 
 -- the journal after a record with these bytes, if it may come next
-abbrev pub after_payload : Progress → List ℕ → Option Progress
+abbrev pub after_payload : SoFar → List ℕ → Option SoFar
 after_payload so_far payload = option_and_then (after so_far) (whole_record payload)
 
 -- goes on where a record may come next, and else tells its place
-abbrev pub if_next : Option Progress → ℕ → (Progress → Result Progress ℕ) → Result Progress ℕ
+abbrev pub if_next : Option SoFar → ℕ → (SoFar → Result SoFar ℕ) → Result SoFar ℕ
 if_next None place go_on = Err place
 if_next (Some next) place go_on = go_on next
 
 -- Records judged one after the other, the gate of the first at this place: the journal after all of them, or the place of
 -- the first that may not come next.
-abbrev pub judged : Progress → ℕ → List (List ℕ) → Result Progress ℕ
+abbrev pub judged : SoFar → ℕ → List (List ℕ) → Result SoFar ℕ
 judged so_far place [] = Ok so_far
 judged so_far place (payload ∷ payloads) = if_next (after_payload so_far payload) place (λ next. judged next (place + 9 + length payload) payloads)
 
 -- Whole records are judged first, and then whether a gate behind them is damaged.
-abbrev pub with_gates : Result Progress ℕ → Result (List (List ℕ)) ℕ → Result Progress ℕ
+abbrev pub with_gates : Result SoFar ℕ → Result (List (List ℕ)) ℕ → Result SoFar ℕ
 with_gates (Err place) records = Err place
 with_gates (Ok so_far) (Err place) = Err place
 with_gates (Ok so_far) (Ok records) = Ok so_far
 
 -- how far the journal of an image has come, or the first place where the image is damaged
-unfoldable pub progress_of : List ℕ → Result Progress ℕ
-progress_of image = with_gates (judged Empty 8 (whole_records image)) (records_of image)
+unfoldable pub so_far_of : List ℕ → Result SoFar ℕ
+so_far_of image = with_gates (judged Empty 8 (whole_records image)) (records_of image)
 
 -- a store without any record is damaged where its first would stand
-abbrev pub journal_in : Result Progress ℕ → Result Journal ℕ
+abbrev pub journal_in : Result SoFar ℕ → Result Journal ℕ
 journal_in (Err place) = Err place
 journal_in (Ok Empty) = Err 8
-journal_in (Ok (Begun journal is_opened)) = Ok journal
+journal_in (Ok (Begun journal is_opened has_horizon)) = Ok journal
 
 -- the journal of an image, or the first place where it is damaged
 abbrev pub journal_of : List ℕ → Result Journal ℕ
-journal_of image = journal_in (progress_of image)
+journal_of image = journal_in (so_far_of image)

@@ -1,15 +1,16 @@
--- How journals grow, and which journal a log has.
-use Rattle.std.specs.Prelude.{◌≡◌, ℕ, List, ◌++◌, Ok}
+-- How stores grow, and which journal a log has.
+use Rattle.std.specs.Prelude.{◌≡◌, ℕ, List, [], ◌++◌, Ok}
 use Rattle.disk_model.specs.Disk.{DiskState}
+use Rattle.redo_store.specs.Records.{records_of, record_count}
 use Rattle.commit_log.specs.declared.records.Record.{Record}
 use Rattle.commit_log.specs.declared.log.Log.{Log}
 use Rattle.commit_log.specs.Journals.{journal_of}
-use Rattle.commit_log.specs.Growth.{with_records, IsGrown}
-use Rattle.commit_log.specs.Logs.{CanLog}
+use Rattle.commit_log.specs.Growth.{HasAdded, IsGrown}
+use Rattle.commit_log.specs.Logs.{count_of, CanLog}
 
--- an image with the old journal has grown by none of any records
+-- an image with no record more has grown by none of any records
 abbrev pub GrowsByNone : Type 0
-GrowsByNone = (old : List ℕ) (records : List Record) (image : List ℕ) → journal_of image ≡ journal_of old → IsGrown old records image
+GrowsByNone = (old : List ℕ) (records : List Record) (image : List ℕ) → HasAdded old [] image → IsGrown old records image
 
 -- by some of the first records is by some of more
 abbrev pub GrowsByMore : Type 0
@@ -19,8 +20,14 @@ GrowsByMore = (old : List ℕ) (records more : List Record) (image : List ℕ) �
 abbrev pub GrowsOn : Type 0
 GrowsOn =
     (old : List ℕ) (records : List Record) (between : List ℕ) (more : List Record) (image : List ℕ)
-    → journal_of between ≡ with_records records (journal_of old) → IsGrown between more image → IsGrown old (records ++ more) image
+    → HasAdded old records between → IsGrown between more image → IsGrown old (records ++ more) image
 
--- the journal of a log is the one that the disk holds
+-- after all of the first records came all of the next
+abbrev pub AddsOn : Type 0
+AddsOn =
+    (old : List ℕ) (records : List Record) (between : List ℕ) (more : List Record) (image : List ℕ)
+    → HasAdded old records between → HasAdded between more image → HasAdded old (records ++ more) image
+
+-- the journal of a log is the one that the disk holds, and it counts the disk's records
 abbrev pub HasItsJournal : Type 0
-HasItsJournal = (log : Log) (disk : DiskState) (ready : CanLog log disk) → journal_of disk.now.seen ≡ Ok ready.journal
+HasItsJournal = (log : Log) (disk : DiskState) (ready : CanLog log disk) → (journal_of disk.now.seen ≡ Ok ready.journal) × (count_of log ≡ record_count (records_of disk.now.seen))

@@ -9,4 +9,5 @@ pub mod Adding
 pub mod Adds
 pub mod Judging
 pub mod Logs
+pub mod InnerOpening
 pub mod Laws

@@ -1,27 +1,37 @@
 -- When a log goes on with its disk.
-use Rattle.std.specs.Prelude.{◌≡◌, Bool, true, IsFalse, Result, Ok, Err}
+use Rattle.std.specs.Prelude.{◌≡◌, ℕ, ◌||◌, Bool, true, IsFalse, Result, Ok, Err}
 use Rattle.disk_model.specs.Disk.{DiskState}
 use Rattle.redo_store.specs.declared.fault.RedoFault.{RedoFault}
 use Rattle.redo_store.specs.declared.fault.RedoFault.TheVariants.{NoMemory, Stopped, Damaged}
-use Rattle.redo_store.specs.Redo.{is_live as is_live_store, CanAppend}
+use Rattle.redo_store.specs.Redo.{is_live as is_live_store, count_of as count_of_store, CanAppend}
 use Rattle.commit_log.specs.declared.journal.Journal.{Journal}
+use Rattle.commit_log.specs.declared.records.Record.{Record}
 use Rattle.commit_log.specs.declared.log.Log.{Log}
-use Rattle.commit_log.specs.Rules.{Begun}
-use Rattle.commit_log.specs.Journals.{progress_of}
+use Rattle.commit_log.specs.Rules.{Begun, is_opening, is_horizon}
+use Rattle.commit_log.specs.Journals.{so_far_of}
 
 -- it may be added to, as far as it knows
 abbrev pub is_live : Log → Bool
 is_live log = is_live_store log.redo
 
--- The log and the disk belong together and are ready: the store may be added to, and its journal was opened.
-pub record CanLog (log : Log) (disk : DiskState) : Type 0 where
+-- how many records its store has, as far as it knows
+abbrev pub count_of : Log → ℕ
+count_of log = count_of_store log.redo
+
+-- The log and the disk belong together: the store may be added to, its records are counted, and its journal has begun, in which
+-- the store was opened or not, and has a horizon or not.
+pub record HasBegun (is_opened has_horizon : Bool) (log : Log) (disk : DiskState) : Type 0 where
   pub append : CanAppend log.redo disk
   pub journal : Journal
-  pub opened : progress_of disk.now.seen ≡ Ok (Begun journal true)
+  pub so_far : so_far_of disk.now.seen ≡ Ok (Begun journal is_opened has_horizon)
 
--- After an answer the log goes on with its disk. But after Stopped it is not live; and no damage is told.
-abbrev pub GoesOn : Result (Unit {0}) RedoFault → Log → DiskState → Type 0
-GoesOn (Ok done) log disk = CanLog log disk
-GoesOn (Err NoMemory) log disk = CanLog log disk
-GoesOn (Err Stopped) log disk = IsFalse (is_live log)
-GoesOn (Err (Damaged place)) log disk = ⊥
+-- they are ready: the store was opened, and has a horizon
+abbrev pub CanLog : Log → DiskState → Type 0
+CanLog = HasBegun true true
+
+-- After an answer to the adding of a record the log goes on with its disk. But after Stopped it is not live; and no damage is told.
+abbrev pub GoesOnFrom : (is_opened has_horizon : Bool) → Record → Result (Unit {0}) RedoFault → Log → DiskState → Type 0
+GoesOnFrom is_opened has_horizon added (Ok done) log disk = HasBegun (is_opened || is_opening added) (has_horizon || is_horizon added) log disk
+GoesOnFrom is_opened has_horizon added (Err NoMemory) log disk = HasBegun is_opened has_horizon log disk
+GoesOnFrom is_opened has_horizon added (Err Stopped) log disk = IsFalse (is_live log)
+GoesOnFrom is_opened has_horizon added (Err (Damaged place)) log disk = ⊥

@@ -10,33 +10,35 @@ pub type Entries = Listed<Entry>;
 /// Identifiers that can commit no more, in the order in which they were blocked.
 pub type Ltxids = Listed<Ltxid>;
 
-/// A part of a sequence that was set aside for an opening: the values up to and with `upto`.
+/// A reservation: a part of a sequence that was set aside for an opening, the values up to and with `upto`.
 #[derive(PartialEq, Eq, Drop)]
-pub struct Block {
+pub struct Reservation {
     pub name: Name,
     pub upto: i64,
 }
 
-/// Parts of sequences, in the order in which they were set aside.
-pub type Blocks = Listed<Block>;
+/// Reservations, in the order in which they were made.
+pub type Blocks = Listed<Reservation>;
 
 /// Lines of text, in the order in which they were stored.
 pub type Lines = Listed<Text>;
 
-/// What the records of a store say. `incarnation` is that of the last opening, and 0 where there was none.
+/// What the records of a store say. `incarnation` is that of the last opening, and 0 where there was none. What became of
+/// the sessions of incarnations below `horizon` is forgotten; it is 0 where no record stores one.
 #[derive(PartialEq, Eq, Drop)]
 pub struct Journal {
     pub base: Base,
     pub incarnation: u64,
+    pub horizon: u64,
     pub entries: Entries,
     pub blocked: Ltxids,
     pub reserved: Blocks,
     pub alerts: Lines,
 }
 
-impl TryCopy for Block {
-    fn copy(&self, alloc: Global) -> Result<Block, NoMemory> {
-        Ok(Block {
+impl TryCopy for Reservation {
+    fn copy(&self, alloc: Global) -> Result<Reservation, NoMemory> {
+        Ok(Reservation {
             name: self.name.copy(alloc)?,
             upto: self.upto,
         })
@@ -48,6 +50,7 @@ impl TryCopy for Journal {
         Ok(Journal {
             base: self.base.copy(alloc)?,
             incarnation: self.incarnation,
+            horizon: self.horizon,
             entries: self.entries.copy(alloc)?,
             blocked: self.blocked.copy(alloc)?,
             reserved: self.reserved.copy(alloc)?,

@@ -3,14 +3,14 @@ ghost use Rattle.std.specs.Prelude.{◌≡◌, Some, None, OnOk, IfOk, IsErrOf, 
 ghost use Rattle.svc_values.specs.Fitting.{writes_fit as writes_fit_def};
 ghost use Rattle.canon_bytes.specs.Entries.{FitsEntry};
 ghost use Rattle.commit_log.specs.Bases.{shape_of as shape_of_def};
-ghost use Rattle.commit_log.specs.Rules.{Empty, new_journal as new_journal_def, after, may_open, may_commit, may_block, may_reserve};
+ghost use Rattle.commit_log.specs.Rules.{Empty, new_journal as new_journal_def, after, may_open, rises, may_forget, may_commit, may_block, may_reserve};
 ghost use Rattle.commit_log.specs.Journals.{after_payload};
-ghost use Rattle.commit_log.specs.Judging.{progress_in, Keeps};
+ghost use Rattle.commit_log.specs.Judging.{so_far_in, Keeps};
 
 use crate::base::Base;
 use crate::checks::{is_base, shape_of};
 use crate::ends::{first_ends, is_next, note};
-use crate::journal::{Block, Blocks, Entries, Journal, Lines, Ltxids};
+use crate::journal::{Blocks, Entries, Journal, Lines, Ltxids, Reservation};
 use crate::records::{Record, record_of};
 use ltxid_book::Book;
 use redo_store::RedoFault;
@@ -64,6 +64,7 @@ impl From<ListFault> for Misfit {
 pub struct Judge {
     journal: Journal,
     is_opened: bool,
+    has_horizon: bool,
     book: Book,
     shape: Shape,
     ends: Vec<i64>,
@@ -76,6 +77,7 @@ fn new_journal(alloc: Global, base: Base) -> Journal
     Journal {
         base,
         incarnation: 0,
+        horizon: 0,
         entries: Entries::new(alloc),
         blocked: Ltxids::new(alloc),
         reserved: Blocks::new(alloc),
@@ -93,7 +95,7 @@ fn writes_fit(shape: &Shape, writes: &[Write]) -> bool
 impl Judge {
     // Judges the first record, which has to be a base that keeps its rules.
     pub fn begin(alloc: Global, payload: &[u8]) -> Result<Judge, Misfit>
-        ensures begun { IfOk result (λ judge. after_payload Empty payload.now ≡ Some (progress_in judge)) }
+        ensures begun { IfOk result (λ judge. after_payload Empty payload.now ≡ Some (so_far_in judge)) }
         ensures kept { IfOk result Keeps }
         ensures misplaced { IsErrOf result Misfit.Misplaced → after_payload Empty payload.now ≡ None }
     {
@@ -108,6 +110,7 @@ impl Judge {
         Ok(Judge {
             journal: new_journal(alloc, base),
             is_opened: false,
+            has_horizon: false,
             book: Book::new(alloc),
             shape,
             ends,
@@ -118,9 +121,9 @@ impl Judge {
     // the ends of the sequences alone.
     pub fn take(&mut self, alloc: Global, payload: &[u8]) -> Result<(), Misfit>
         requires { Keeps self.old }
-        ensures taken { OnOk result (after_payload (progress_in self.old) payload.now ≡ Some (progress_in self.new)) }
+        ensures taken { OnOk result (after_payload (so_far_in self.old) payload.now ≡ Some (so_far_in self.new)) }
         ensures kept { OnOk result (Keeps self.new) }
-        ensures misplaced { IsErrOf result Misfit.Misplaced → after_payload (progress_in self.old) payload.now ≡ None }
+        ensures misplaced { IsErrOf result Misfit.Misplaced → after_payload (so_far_in self.old) payload.now ≡ None }
     {
         match record_of(alloc, payload)? {
             None => Err(Misfit::Misplaced),
@@ -128,17 +131,18 @@ impl Judge {
             Some(Record::Opened(incarnation)) => self.open(incarnation),
             Some(Record::Commit(entry)) => self.commit(entry),
             Some(Record::Blocked(x)) => self.block(x),
-            Some(Record::Reserved(block)) => self.reserve(block),
+            Some(Record::Reserved(reservation)) => self.reserve(reservation),
             Some(Record::Alert(line)) => self.alert(line),
+            Some(Record::Horizon(horizon)) => self.forget(horizon),
         }
     }
 
     // Adds an opening.
     fn open(&mut self, incarnation: u64) -> Result<(), Misfit>
         requires { Keeps self.old }
-        ensures taken { OnOk result (after (progress_in self.old) (Record.Opened incarnation) ≡ Some (progress_in self.new)) }
+        ensures taken { OnOk result (after (so_far_in self.old) (Record.Opened incarnation) ≡ Some (so_far_in self.new)) }
         ensures kept { OnOk result (Keeps self.new) }
-        ensures misplaced { IsErrOf result Misfit.Misplaced → after (progress_in self.old) (Record.Opened incarnation) ≡ None }
+        ensures misplaced { IsErrOf result Misfit.Misplaced → after (so_far_in self.old) (Record.Opened incarnation) ≡ None }
     {
         if incarnation > 1 << 63 {
             return Err(Misfit::Misplaced);
@@ -165,9 +169,9 @@ impl Judge {
     fn commit(&mut self, entry: Entry) -> Result<(), Misfit>
         requires kept { Keeps self.old }
         requires fits { FitsEntry entry }
-        ensures taken { OnOk result (after (progress_in self.old) (Record.Commit entry) ≡ Some (progress_in self.new)) }
+        ensures taken { OnOk result (after (so_far_in self.old) (Record.Commit entry) ≡ Some (so_far_in self.new)) }
         ensures kept { OnOk result (Keeps self.new) }
-        ensures misplaced { IsErrOf result Misfit.Misplaced → after (progress_in self.old) (Record.Commit entry) ≡ None }
+        ensures misplaced { IsErrOf result Misfit.Misplaced → after (so_far_in self.old) (Record.Commit entry) ≡ None }
     {
         if !self.is_opened {
             return Err(Misfit::Misplaced);
@@ -191,9 +195,9 @@ impl Judge {
     // Adds the block of an identifier.
     fn block(&mut self, x: Ltxid) -> Result<(), Misfit>
         requires { Keeps self.old }
-        ensures taken { OnOk result (after (progress_in self.old) (Record.Blocked x) ≡ Some (progress_in self.new)) }
+        ensures taken { OnOk result (after (so_far_in self.old) (Record.Blocked x) ≡ Some (so_far_in self.new)) }
         ensures kept { OnOk result (Keeps self.new) }
-        ensures misplaced { IsErrOf result Misfit.Misplaced → after (progress_in self.old) (Record.Blocked x) ≡ None }
+        ensures misplaced { IsErrOf result Misfit.Misplaced → after (so_far_in self.old) (Record.Blocked x) ≡ None }
     {
         if !self.can_block(&x) {
             return Err(Misfit::Misplaced);
@@ -203,43 +207,77 @@ impl Judge {
         Ok(())
     }
 
-    // Whether the block may be set aside next: linear in the sequences of the base, of which there are at most 32.
+    // Whether the reservation may be set aside next: linear in the sequences of the base, of which there are at most 32.
     #[tactic(auto, unfolding(crate::specs::Rules::may_reserve))]
-    pub fn can_reserve(&self, block: &Block) -> bool
+    pub fn can_reserve(&self, reservation: &Reservation) -> bool
         requires { Keeps self.now }
-        ensures { result ≡ may_reserve self.now.journal block.now }
+        ensures { result ≡ may_reserve self.now.journal reservation.now }
     {
-        is_next(self.journal.base.sequences.as_slice(), &self.ends, block)
+        is_next(
+            self.journal.base.sequences.as_slice(),
+            &self.ends,
+            reservation,
+        )
     }
 
-    // Adds a block of a sequence's values.
-    fn reserve(&mut self, block: Block) -> Result<(), Misfit>
+    // Adds a reservation of a sequence's values.
+    fn reserve(&mut self, reservation: Reservation) -> Result<(), Misfit>
         requires { Keeps self.old }
-        ensures taken { OnOk result (after (progress_in self.old) (Record.Reserved block) ≡ Some (progress_in self.new)) }
+        ensures taken { OnOk result (after (so_far_in self.old) (Record.Reserved reservation) ≡ Some (so_far_in self.new)) }
         ensures kept { OnOk result (Keeps self.new) }
-        ensures misplaced { IsErrOf result Misfit.Misplaced → after (progress_in self.old) (Record.Reserved block) ≡ None }
+        ensures misplaced { IsErrOf result Misfit.Misplaced → after (so_far_in self.old) (Record.Reserved reservation) ≡ None }
     {
-        if !self.can_reserve(&block) {
+        if !self.can_reserve(&reservation) {
             return Err(Misfit::Misplaced);
         }
         note(
             self.journal.base.sequences.as_slice(),
             &mut self.ends,
-            &block,
+            &reservation,
         );
-        self.journal.reserved.push(block)?;
+        self.journal.reserved.push(reservation)?;
         Ok(())
     }
 
     // Adds a line of text, which may come wherever it likes.
     fn alert(&mut self, line: Text) -> Result<(), Misfit>
         requires { Keeps self.old }
-        ensures taken { OnOk result (after (progress_in self.old) (Record.Alert line) ≡ Some (progress_in self.new)) }
+        ensures taken { OnOk result (after (so_far_in self.old) (Record.Alert line) ≡ Some (so_far_in self.new)) }
         ensures kept { OnOk result (Keeps self.new) }
-        ensures misplaced { IsErrOf result Misfit.Misplaced → after (progress_in self.old) (Record.Alert line) ≡ None }
+        ensures misplaced { IsErrOf result Misfit.Misplaced → after (so_far_in self.old) (Record.Alert line) ≡ None }
     {
         self.journal.alerts.push(line)?;
         Ok(())
+    }
+
+    // Adds a horizon. Linear in the sessions.
+    fn forget(&mut self, horizon: u64) -> Result<(), Misfit>
+        requires { Keeps self.old }
+        ensures taken { OnOk result (after (so_far_in self.old) (Record.Horizon horizon) ≡ Some (so_far_in self.new)) }
+        ensures kept { OnOk result (Keeps self.new) }
+        ensures misplaced { IsErrOf result Misfit.Misplaced → after (so_far_in self.old) (Record.Horizon horizon) ≡ None }
+    {
+        if !self.can_forget(horizon) {
+            return Err(Misfit::Misplaced);
+        }
+        self.book.forget(horizon);
+        self.journal.horizon = horizon;
+        self.has_horizon = true;
+        Ok(())
+    }
+
+    // Whether the horizon may come next.
+    fn can_forget(&self, horizon: u64) -> bool
+        ensures { result ≡ may_forget self.now.journal self.now.has_horizon horizon }
+    {
+        horizon.saturating_sub(1) <= self.journal.incarnation && self.is_below(horizon)
+    }
+
+    // Whether the horizon is above the one that was stored last, or is the first.
+    pub fn is_below(&self, horizon: u64) -> bool
+        ensures { result ≡ rises self.now.journal self.now.has_horizon horizon }
+    {
+        !self.has_horizon || self.journal.horizon < horizon
     }
 
     // The journal. It takes no memory.

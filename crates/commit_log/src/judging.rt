@@ -3,8 +3,8 @@ ghost use Rattle.std.specs.Prelude.{◌≡◌, ℕ, [], OnOk, IfOk, IsErrOf, Ok,
 ghost use Rattle.disk_model.specs.Disk.{IsSettled, OnlyReads};
 ghost use Rattle.redo_store.specs.Redo.{CanAppend};
 ghost use Rattle.redo_store.specs.Walk.{HasRead};
-ghost use Rattle.commit_log.specs.Journals.{progress_of, journal_of};
-ghost use Rattle.commit_log.specs.Judging.{progress_in, Keeps, HasJudged, HasJudgedAll};
+ghost use Rattle.commit_log.specs.Journals.{so_far_of, journal_of};
+ghost use Rattle.commit_log.specs.Judging.{so_far_in, Keeps, HasJudged, HasJudgedAll};
 
 use crate::judge::Judge;
 use disk_model::Disk;
@@ -52,7 +52,7 @@ fn judge_rest<D: Disk>(
 
 // Reads all records and judges them. It keeps nothing but the journal, and reads each record once.
 pub fn judge_all<D: Disk>(alloc: Global, disk: &mut D) -> Result<(Redo, Judge), RedoFault>
-    ensures judged { IfOk result (λ read. progress_of (D.state disk.old).now.seen ≡ Ok (progress_in read.1)) }
+    ensures judged { IfOk result (λ read. so_far_of (D.state disk.old).now.seen ≡ Ok (so_far_in read.1)) }
     ensures kept { IfOk result (λ read. Keeps read.1) }
     ensures damaged { (place : ℕ) → IsErrOf result (RedoFault.Damaged place) → journal_of (D.state disk.old).now.seen ≡ Err place }
     ensures ready { IsSettled (D.state disk.old) → IfOk result (λ read. CanAppend read.0 (D.state disk.new)) }

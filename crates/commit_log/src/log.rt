@@ -1,5 +1,5 @@
 //! The log: a store that is opened for commits.
-ghost use Rattle.std.specs.Prelude.{◌≡◌, ◌+◌, ◌<◌, ◌^◌, ◌⊎◌, [], ◌∷◌, ℕ, List, OnOk, IfOk, IsErrOf, Ok, Err};
+ghost use Rattle.std.specs.Prelude.{◌≡◌, ◌+◌, ◌*◌, ◌<◌, ◌≤◌, ◌^◌, ◌⊎◌, [], ◌∷◌, ℕ, Bool, List, length, OnOk, IfOk, IsErrOf, Ok, Err};
 ghost use Rattle.disk_model.specs.Disk.{Meanwhile, IsSettled, SameBytes, Lowers, Caused, OnlyReads};
 ghost use Rattle.redo_store.specs.Records.{records_of};
 ghost use Rattle.redo_store.specs.Redo.{CanAppend, StoreGoesOn};
@@ -10,13 +10,15 @@ ghost use Rattle.commit_log.specs.declared.records.Record.TheVariants as kept;
 ghost use Rattle.commit_log.specs.Bases.{IsBase};
 ghost use Rattle.commit_log.specs.RecordBytes.{IsMadeRecord};
 ghost use Rattle.commit_log.specs.Rules.{new_journal};
-ghost use Rattle.commit_log.specs.Journals.{journal_of};
+ghost use Rattle.commit_log.specs.Journals.{so_far_of, journal_of};
 ghost use Rattle.commit_log.specs.Adding.{record_in, HasAlso, IsOldOrWith};
-ghost use Rattle.commit_log.specs.Adds.{MayAdd, Adds};
-ghost use Rattle.commit_log.specs.Growth.{with_opening, opening_of, IsGrown};
+ghost use Rattle.commit_log.specs.Adds.{MayAddTo, MayAdd, AddsTo, Adds};
+ghost use Rattle.commit_log.specs.Growth.{HasAdded, IsGrown, horizon_of, first_of_opening, opening_of, with_opening};
+ghost use Rattle.commit_log.specs.Judging.{so_far_in, Keeps};
 
 use crate::base::Base;
 use crate::journal::Journal;
+use crate::judge::Judge;
 use crate::judging::judge_all;
 use crate::records::{Adding, payload_of};
 use disk_model::Disk;
@@ -32,13 +34,21 @@ pub struct Log {
 }
 
 impl Log {
-    ghost use Rattle.commit_log.specs.Logs.{is_live, CanLog};
+    ghost use Rattle.commit_log.specs.Logs.{is_live, count_of, HasBegun, CanLog};
+    ghost use Rattle.commit_log.specs.InnerOpening.{HasRaised};
 
     /// Whether a record may be added. After `Stopped` it may not, and the store is to be opened again.
     pub fn is_live(&self) -> bool
         ensures { result ≡ is_live self.now }
     {
         self.redo.is_live()
+    }
+
+    /// How many records the store has. After `Stopped` that is the number before the call that was stopped.
+    pub fn count(&self) -> u64
+        ensures { result ≡ count_of self.now }
+    {
+        self.redo.count()
     }
 
     /// Makes a store with this base on an empty disk, in six device calls.
@@ -84,38 +94,76 @@ impl Log {
         Ok(judge.into_journal())
     }
 
-    /// Opens the store: reads the journal, and adds an opening with the next incarnation, in four device calls.
+    /// Opens the store: reads the journal, stores the horizon where it rises, and adds an opening with the next incarnation,
+    /// each in four device calls.
     ///
-    /// The journal is the one with this opening. It costs what `read` does.
-    pub fn open<D: Disk>(alloc: Global, disk: &mut D) -> Result<(Log, Journal), LogFault>
+    /// A store that has no horizon gets this one, whichever it is. The sessions of incarnations below the horizon are
+    /// forgotten for good. The journal is the one with the horizon and this opening. It costs what `read` does.
+    pub fn open<D: Disk>(
+        alloc: Global,
+        disk: &mut D,
+        horizon: u64,
+    ) -> Result<(Log, Journal), LogFault>
         requires settled { IsSettled (D.state disk.old) }
-        requires room { (journal : Held) → journal_of (D.state disk.old).now.seen ≡ Ok journal → journal.incarnation < 2 ^ 63 }
+        requires room { (journal : Held) → journal_of (D.state disk.old).now.seen ≡ Ok journal → (journal.incarnation < 2 ^ 63) × (horizon ≤ journal.incarnation + 1) }
+
+        // The records that the opening adds are there, and the journal and the log are those of the disk.
+        ensures added { IfOk result (λ _. HasAdded (D.state disk.old).now.seen (opening_of horizon (so_far_of (D.state disk.old).now.seen)) (D.state disk.new).now.seen) }
+        ensures opened { IfOk result (λ opened. with_opening horizon (journal_of (D.state disk.old).now.seen) ≡ Ok opened.1) }
         ensures journal { IfOk result (λ opened. journal_of (D.state disk.new).now.seen ≡ Ok opened.1) }
-        ensures opened { IfOk result (λ opened. with_opening (journal_of (D.state disk.old).now.seen) ≡ Ok opened.1) }
         ensures ready { IfOk result (λ opened. CanLog opened.0 (D.state disk.new)) }
 
         // A damaged store is not written, and the place is the first at which the bytes are no journal.
         ensures damaged { (place : ℕ) → IsErrOf result (LogFault.Damaged place) → journal_of (D.state disk.old).now.seen ≡ Err place }
         ensures unwritten { (place : ℕ) → journal_of (D.state disk.old).now.seen ≡ Err place → SameBytes (D.state disk.old) (D.state disk.new) }
 
-        // For want of memory the journal is as it was, and nothing is pending.
-        ensures refused { IsErrOf result LogFault.NoMemory → (journal_of (D.state disk.new).now.seen ≡ journal_of (D.state disk.old).now.seen) × IsSettled (D.state disk.new) }
+        // For want of memory there is at most the horizon more, and nothing is pending.
+        ensures refused { IsErrOf result LogFault.NoMemory → IsGrown (D.state disk.old).now.seen (first_of_opening horizon (so_far_of (D.state disk.old).now.seen)) (D.state disk.new).now.seen × IsSettled (D.state disk.new) }
 
-        // A crash at any moment of the call leaves the old journal, or this journal with the opening. That the same is so
-        // of the time since it began, and of what a read gives when it has ended, is `disk_model::laws::leaves`.
-        ensures any_moment { let old = (D.state disk.old).now.seen in Meanwhile (D.state disk.old) (D.state disk.new) (IsGrown old (opening_of (journal_of old))) }
+        // A crash at any moment of the call leaves the old records, or these with the horizon, if it is stored, or with
+        // all that the opening adds. That the same is so of the time since it began, and of what a read gives when it has
+        // ended, is `disk_model::laws::leaves`.
+        ensures any_moment { let old = (D.state disk.old).now.seen in Meanwhile (D.state disk.old) (D.state disk.new) (IsGrown old (opening_of horizon (so_far_of old))) }
 
-        // It succeeds only with no stop or one of at least four; with either a quiet disk has no fault.
-        ensures stop { Lowers 4 result (D.state disk.old).stop (D.state disk.new).stop }
+        // It succeeds only with no stop or one of at least four, or eight where the horizon is stored; with either a quiet
+        // disk has no fault.
+        ensures stop { Lowers (4 * length (first_of_opening horizon (so_far_of (D.state disk.old).now.seen)) + 4) result (D.state disk.old).stop (D.state disk.new).stop }
         ensures cause { Caused (IsErrOf result LogFault.Stopped) (D.state disk.old) (D.state disk.new) }
     {
         let (redo, judge) = judge_all(alloc, disk)?;
-        let mut journal = judge.into_journal();
         let mut log = Log { alloc, redo };
+        let mut journal = log.raise(disk, judge, horizon)?;
         let incarnation = journal.incarnation + 1;
-        log.put(disk, Adding::Opened(incarnation))?;
+        log.extend(disk, Adding::Opened(incarnation))?;
         journal.incarnation = incarnation;
         Ok((log, journal))
+    }
+
+    // Stores the horizon, where it rises or is the first, and gives the journal with it.
+    fn raise<D: Disk>(
+        &mut self,
+        disk: &mut D,
+        judge: Judge,
+        horizon: u64,
+    ) -> Result<Journal, LogFault>
+        requires ready { CanAppend self.old.redo (D.state disk.old) }
+        requires judged { so_far_of (D.state disk.old).now.seen ≡ Ok (so_far_in judge) }
+        requires kept { Keeps judge }
+        requires room { horizon ≤ judge.journal.incarnation + 1 }
+        ensures raised { IfOk result (λ journal. HasRaised horizon judge journal self.new (D.state disk.old) (D.state disk.new)) }
+        ensures refused { IsErrOf result LogFault.NoMemory → HasAdded (D.state disk.old).now.seen [] (D.state disk.new).now.seen × IsSettled (D.state disk.new) }
+        ensures any_moment { Meanwhile (D.state disk.old) (D.state disk.new) (IsGrown (D.state disk.old).now.seen (horizon_of horizon judge.journal judge.has_horizon)) }
+        ensures stop { Lowers (4 * length (horizon_of horizon judge.journal judge.has_horizon)) result (D.state disk.old).stop (D.state disk.new).stop }
+        ensures cause { Caused (IsErrOf result LogFault.Stopped) (D.state disk.old) (D.state disk.new) }
+        ensures whole { (place : ℕ) → IsErrOf result (LogFault.Damaged place) → ⊥ }
+    {
+        if !judge.is_below(horizon) {
+            return Ok(judge.into_journal());
+        }
+        self.extend(disk, Adding::Horizon(horizon))?;
+        let mut journal = judge.into_journal();
+        journal.horizon = horizon;
+        Ok(journal)
     }
 
     /// Adds a committed transaction, in four device calls.
@@ -144,10 +192,10 @@ impl Log {
         self.add(disk, Adding::Blocked(x))
     }
 
-    /// Adds a block of a sequence, whose values up to and with `upto` are set aside, in four device calls.
+    /// Adds a reservation of a sequence, whose values up to and with `upto` are set aside, in four device calls.
     ///
     /// It takes the memory for the record before the first of them, in proportion to the name alone. The caller sees to it
-    /// that the block may come next in the journal of the disk.
+    /// that the reservation may come next in the journal of the disk.
     pub fn reserve<D: Disk>(&mut self, disk: &mut D, name: &Name, upto: i64) -> Result<(), LogFault>
         requires ready { CanLog self.old (D.state disk.old) }
         requires may { MayAdd (D.state disk.old) (kept.Reserved (record { name = name.now; upto = upto })) }
@@ -167,12 +215,23 @@ impl Log {
         self.add(disk, Adding::Alert(line))
     }
 
-    // Adds a record that may come next.
+    // Adds a record that may come next in a store that was opened.
     fn add<D: Disk>(&mut self, disk: &mut D, adding: Adding) -> Result<(), LogFault>
         requires ready { CanLog self.old (D.state disk.old) }
         requires made { IsMadeRecord (record_in adding) }
         requires may { MayAdd (D.state disk.old) (record_in adding) }
         ensures { Adds result self.new (D.state disk.old) (D.state disk.new) (record_in adding.entry) }
+    {
+        self.extend(disk, adding)
+    }
+
+    // Adds a record. What it says is said of one that may come next in the journal of the disk, in which the store was
+    // opened or not, and has a horizon or not.
+    fn extend<D: Disk>(&mut self, disk: &mut D, adding: Adding) -> Result<(), LogFault>
+        requires ready { CanAppend self.old.redo (D.state disk.old) }
+        requires made { IsMadeRecord (record_in adding) }
+        ensures { (is_opened has_horizon : Bool) → HasBegun is_opened has_horizon self.old (D.state disk.old) → MayAddTo is_opened has_horizon (D.state disk.old) (record_in adding.entry)
+            → AddsTo is_opened has_horizon result self.new (D.state disk.old) (D.state disk.new) (record_in adding.entry) }
     {
         self.put(disk, adding)
     }

@@ -1,25 +1,26 @@
 //! The records of a journal, and their bytes.
 ghost use Rattle.std.specs.Prelude.{◌≡◌, ◌++◌, IfOk, IfSome, OnOk};
-ghost use Rattle.commit_log.specs.RecordBytes.{spell_block, FitsBlock, block_at, block_again, spell_record, FitsRecord, record_at, record_again, IsMadeRecord};
+ghost use Rattle.commit_log.specs.RecordBytes.{spell_reservation, FitsReservation, reservation_at, reservation_again, spell_record, FitsRecord, record_at, record_again, IsMadeRecord};
 ghost use Rattle.commit_log.specs.Journals.{whole_record};
 ghost use Rattle.commit_log.specs.Adding.{record_in};
 
 use crate::base::Base;
-use crate::journal::Block;
+use crate::journal::Reservation;
 use canon_bytes::{Fault, Put, PutMade, ReadFault, Take};
 use std::alloc::Global;
 use svc_values::{Entry, Ltxid, Name, NoMemory, Text};
 
 /// A record of a journal: the base, an opening with its incarnation, a committed transaction, an identifier that can
-/// commit no more, a part of a sequence that is set aside, or a line of text.
+/// commit no more, a reservation of a sequence, a line of text, or the incarnation below which sessions are forgotten.
 #[derive(PartialEq, Eq, Drop)]
 pub enum Record {
     Base(Base),
     Opened(u64),
     Commit(Entry),
     Blocked(Ltxid),
-    Reserved(Block),
+    Reserved(Reservation),
     Alert(Text),
+    Horizon(u64),
 }
 
 // A record that is to be stored.
@@ -31,22 +32,23 @@ pub enum Adding<'a> {
     Blocked(&'a Ltxid),
     Reserved(&'a Name, i64),
     Alert(&'a Text),
+    Horizon(u64),
 }
 
-#[tactic(auto, unfolding(crate::specs::RecordBytes::block_at, crate::specs::RecordBytes::spell_block))]
-impl Take for Block {
-    ghost spelling = { spell_block };
+#[tactic(auto, unfolding(crate::specs::RecordBytes::reservation_at, crate::specs::RecordBytes::spell_reservation))]
+impl Take for Reservation {
+    ghost spelling = { spell_reservation };
 
-    ghost fits = { FitsBlock };
+    ghost fits = { FitsReservation };
 
-    ghost reading = { block_at };
+    ghost reading = { reservation_at };
 
-    ghost again = { block_again };
+    ghost again = { reservation_again };
 
-    fn take(alloc: Global, bytes: &[u8]) -> Result<(Block, &[u8]), ReadFault> {
+    fn take(alloc: Global, bytes: &[u8]) -> Result<(Reservation, &[u8]), ReadFault> {
         let (name, rest) = Name::take(alloc, bytes)?;
         let (upto, rest) = i64::take(alloc, rest)?;
-        Ok((Block { name, upto }, rest))
+        Ok((Reservation { name, upto }, rest))
     }
 }
 
@@ -80,12 +82,16 @@ impl Take for Record {
                 Ok((Record::Blocked(x), rest))
             }
             [5, rest @ ..] => {
-                let (block, rest) = Block::take(alloc, rest)?;
-                Ok((Record::Reserved(block), rest))
+                let (reservation, rest) = Reservation::take(alloc, rest)?;
+                Ok((Record::Reserved(reservation), rest))
             }
             [6, rest @ ..] => {
                 let (line, rest) = Text::take(alloc, rest)?;
                 Ok((Record::Alert(line), rest))
+            }
+            [7, rest @ ..] => {
+                let (horizon, rest) = u64::take(alloc, rest)?;
+                Ok((Record::Horizon(horizon), rest))
             }
             _ => Err(ReadFault::Fault(Fault::BadTag(bytes.len()))),
         }
@@ -105,11 +111,11 @@ pub fn record_of(alloc: Global, payload: &[u8]) -> Result<Option<Record>, NoMemo
     }
 }
 
-// Writes the spelling of a block at the end. After want of memory a part of it may stand there.
-#[tactic(auto, unfolding(crate::specs::RecordBytes::spell_block))]
-fn put_block(name: &Name, upto: i64, out: &mut Vec<u8>) -> Result<(), NoMemory>
-    ensures written { OnOk result (out.new.items ≡ out.old.items ++ spell_block (record { name = name.now; upto = upto })) }
-    ensures fitting { OnOk result (FitsBlock (record { name = name.now; upto = upto })) }
+// Writes the spelling of a reservation at the end. After want of memory a part of it may stand there.
+#[tactic(auto, unfolding(crate::specs::RecordBytes::spell_reservation))]
+fn put_reservation(name: &Name, upto: i64, out: &mut Vec<u8>) -> Result<(), NoMemory>
+    ensures written { OnOk result (out.new.items ≡ out.old.items ++ spell_reservation (record { name = name.now; upto = upto })) }
+    ensures fitting { OnOk result (FitsReservation (record { name = name.now; upto = upto })) }
 {
     name.put(out)?;
     upto.put(out)
@@ -140,11 +146,15 @@ fn put_record(adding: Adding, out: &mut Vec<u8>) -> Result<(), NoMemory>
         }
         Adding::Reserved(name, upto) => {
             out.push(5)?;
-            put_block(name, upto, out)
+            put_reservation(name, upto, out)
         }
         Adding::Alert(line) => {
             out.push(6)?;
             line.put(out)
+        }
+        Adding::Horizon(horizon) => {
+            out.push(7)?;
+            horizon.put(out)
         }
     }
 }

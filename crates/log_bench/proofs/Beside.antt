@@ -11,7 +11,7 @@ use Rattle.commit_log.specs.Bases.{schemas_of}
 use Rattle.commit_log.specs.Rules.{with_record, may_commit}
 use Rattle.commit_log.specs.Journals.{journal_of}
 use Rattle.commit_log.specs.Growth.{with_records}
-use Rattle.commit_log.proofs.Committing.{may_beside, notes_commit}
+use Rattle.commit_log.proofs.Offered.{may_beside, notes_commit}
 use Rattle.log_bench.specs.Following.{IsPlain, Follows, IsFollowed}
 
 same_journal : (a b : Journal) (image : List ℕ) → journal_of image ≡ Ok a → journal_of image ≡ Ok b → a ≡ b

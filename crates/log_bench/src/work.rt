@@ -68,7 +68,7 @@ fn commit_next<D: Disk>(
 pub fn commits_read(alloc: Global, count: u64) -> Result<u64, LogFault> {
     let mut disk = MemDisk::new(alloc);
     Log::create(alloc, &mut disk, &no_tables(alloc))?;
-    let (mut log, _) = Log::open(alloc, &mut disk)?;
+    let (mut log, _) = Log::open(alloc, &mut disk, 0)?;
     let mut book = Book::new(alloc);
     for number in 0..count.min(1 << 63) {
         let entry = commit_of(alloc, number);
@@ -76,6 +76,6 @@ pub fn commits_read(alloc: Global, count: u64) -> Result<u64, LogFault> {
             break;
         }
     }
-    let (_, journal) = Log::open(alloc, &mut disk)?;
+    let (_, journal) = Log::open(alloc, &mut disk, 0)?;
     Ok(journal.entries.len() as u64)
 }

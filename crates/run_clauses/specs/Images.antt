@@ -7,7 +7,7 @@ use Rattle.commit_log.specs.declared.journal.Journal.{Journal}
 use Rattle.commit_log.specs.Journals.{journal_of}
 use Rattle.outage_schedule.specs.declared.document.Document.{Document}
 use Rattle.outage_schedule.specs.declared.report.Report.{Report}
-use Rattle.run_clauses.specs.Before.{journal_before, horizon_of, tables_of}
+use Rattle.run_clauses.specs.Before.{journal_before, tables_of}
 use Rattle.run_clauses.specs.Comparing.{same_base, same_entry}
 use Rattle.run_clauses.specs.Serial.{same_report_table, printed_tables}
 use Rattle.run_clauses.specs.Horizons.{last_horizon}
@@ -24,7 +24,7 @@ follows before report journal =
 
 abbrev pub is_after_run : Document → Report → Result Journal ℕ → Bool
 is_after_run document report (Err place) = false
-is_after_run document report (Ok journal) = follows (journal_before document) report journal && (horizon_of journal == last_horizon document report)
+is_after_run document report (Ok journal) = follows (journal_before document) report journal && (journal.horizon == last_horizon document report)
 
 abbrev pub has_journal : Document → Report → Option (List ℕ) → Bool
 has_journal document report None = false
@@ -40,4 +40,4 @@ pub record IsAfterRun (document : Document) (report : Report) (journal : Journal
   pub entries : journal.entries ≡ (journal_before document).entries ++ report.entries
   pub blocked : journal.blocked ≡ (journal_before document).blocked ++ report.blocked
   pub alerts : journal.alerts ≡ (journal_before document).alerts ++ report.alerts
-  pub horizon : horizon_of journal ≡ last_horizon document report
+  pub horizon : journal.horizon ≡ last_horizon document report

@@ -2,16 +2,16 @@
 use Rattle.std.specs.Prelude.{List, map}
 use Rattle.mutable_values.specs.declared.grants.Grants.{Grants}
 use Rattle.commit_log.specs.declared.base.BaseSequence.{BaseSequence}
-use Rattle.commit_log.specs.declared.journal.Block.{Block}
+use Rattle.commit_log.specs.declared.journal.Reservation.{Reservation}
 use Rattle.commit_log.specs.declared.journal.Journal.{Journal}
 use Rattle.commit_log.specs.Rules.{end_of}
 use Rattle.outage_schedule.specs.declared.document.KeepOf.{KeepOf}
 use Rattle.outage_schedule.specs.declared.document.Document.{Document}
-use Rattle.run_clauses.specs.Before.{journal_before, horizon_of, start, shape}
+use Rattle.run_clauses.specs.Before.{journal_before, start, shape}
 use Rattle.server_model.specs.Base.{Sequence, Base}
 
--- A sequence goes on behind the last block that was set aside of it.
-abbrev pub sequence_of : List Block → BaseSequence → Sequence
+-- A sequence goes on behind its last reservation.
+abbrev pub sequence_of : List Reservation → BaseSequence → Sequence
 sequence_of reserved sequence = record { name = sequence.name; upto = end_of reserved sequence; keep = sequence.keep }
 
 abbrev pub sequences_of : Journal → List Sequence
@@ -33,5 +33,5 @@ service_base document =
       blocked = before.blocked;
       alerts = before.alerts;
       incarnation = before.incarnation;
-      horizon = horizon_of before;
+      horizon = before.horizon;
     }

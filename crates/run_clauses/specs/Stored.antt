@@ -12,7 +12,7 @@ use Rattle.outage_schedule.specs.declared.note.AskResult.{AskResult}
 use Rattle.outage_schedule.specs.declared.request.Outcome.{Outcome}
 use Rattle.outage_schedule.specs.declared.request.RequestReport.{RequestReport}
 use Rattle.outage_schedule.specs.declared.report.Report.{Report}
-use Rattle.run_clauses.specs.Before.{journal_before, horizon_of}
+use Rattle.run_clauses.specs.Before.{journal_before}
 use Rattle.svc_values.specs.Same.{same_bool}
 use Rattle.svc_values.specs.Identifiers.{session_of}
 use Rattle.run_clauses.specs.Transactions.{each_request}
@@ -40,7 +40,7 @@ kept_by document report =
       entries = before.entries ++ report.entries;
       blocked = before.blocked ++ report.blocked;
       stored = stored_entries report;
-      horizon = horizon_of before;
+      horizon = before.horizon;
       openings = wanted_in document report;
     }
 

@@ -4,7 +4,7 @@ use Rattle.std.specs.Str.{bytes_eq}
 use Rattle.std.proofs.Math.ListN.{length-set}
 use Rattle.std.proofs.lemmas.Int.{to_z-of_z}
 use Rattle.commit_log.specs.Rules.{end_of}
-use Rattle.commit_log.proofs.Blocks.{end_more, mapped_on}
+use Rattle.commit_log.proofs.Reserving.{end_more, mapped_on}
 use Rattle.commit_log.proofs.ends.note.Goals as goal
 
 pub loop-place-preserved : goal.loop-place-preserved
@@ -13,13 +13,13 @@ loop-place-preserved c =
     let sequence = c.index-sequences-place.result in
     let ends = c.loop-place.ends in
     let i = c.loop-place.place in
-    let block = c.args.block.now in
+    let reservation = c.args.reservation.now in
     let end = c.end_after.result in
     let same : to_z w64 (of_z w64 end) ≡ end = to_z-of_z w64 end (search rules) in
     let read : to_z w64 (of_z w64 (get_or ends i (pos 0))) ≡ get_or ends i (pos 0) = to_z-of_z w64 (get_or ends i (pos 0)) (search rules) in
     record {
       long = length-set ends i (to_z w64 (of_z w64 end)) ∙ c.loop-place.invariant.long;
-      so_far = λ blocks is.
-          mapped_on (end_of blocks) (end_of (blocks ++ block ∷ [])) sequences ends i sequence (pos 0) (to_z w64 (of_z w64 end)) c.loop-place-test.true c.index-sequences-place.is (c.loop-place.invariant.so_far blocks is)
-          (λ here. same ∙ c.end_after.ensures ∙ ap (λ (e : ℤ). if bytes_eq block.name sequence.name then block.upto else e) (read ∙ here) ∙ sym (end_more blocks block sequence));
+      so_far = λ reservations is.
+          mapped_on (end_of reservations) (end_of (reservations ++ reservation ∷ [])) sequences ends i sequence (pos 0) (to_z w64 (of_z w64 end)) c.loop-place-test.true c.index-sequences-place.is (c.loop-place.invariant.so_far reservations is)
+          (λ here. same ∙ c.end_after.ensures ∙ ap (λ (e : ℤ). if bytes_eq reservation.name sequence.name then reservation.upto else e) (read ∙ here) ∙ sym (end_more reservations reservation sequence));
     }

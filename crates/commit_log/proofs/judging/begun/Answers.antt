@@ -4,7 +4,7 @@ use Rattle.redo_store.specs.Records.{records_of, whole_records}
 use Rattle.redo_store.specs.Walk.{HasRead}
 use Rattle.commit_log.specs.Rules.{Empty}
 use Rattle.commit_log.specs.Journals.{journal_in, after_payload}
-use Rattle.commit_log.proofs.Steps.{progress_by_records, damaged_gate, damaged_record}
+use Rattle.commit_log.proofs.Steps.{so_far_by_records, damaged_gate, damaged_record}
 use Rattle.commit_log.proofs.Misfits.{placed, when_none, when_some}
 use Rattle.commit_log.proofs.judging.begun.Goals as goal
 
@@ -20,7 +20,7 @@ returns-in_default-clause-damaged g c place is =
     let end = when_none c.in_ok-payload.field-0 ((records_of seen ≡ Ok []) × (whole_records seen ≡ [])) c.in_default.is (c.in_ok-payload.ensures.end [] c.requires) in
     let told : c.place-place.result ≡ place = cc in
     let eight : 8 ≡ place = sym c.requires.stands.at_place ∙ sym c.place-place.ensures ∙ told in
-    ap journal_in (progress_by_records seen [] end.0) ∙ ap (λ (n : ℕ). Err n) eight
+    ap journal_in (so_far_by_records seen [] end.0) ∙ ap (λ (n : ℕ). Err n) eight
 
 pub returns-clause-damaged : goal.returns-clause-damaged
 returns-clause-damaged g c place is =

@@ -4,8 +4,8 @@ use Rattle.disk_model.specs.Moment.{DiskMoment, MayLeave}
 use Rattle.redo_store.specs.Records.{records_of}
 use Rattle.redo_store.specs.Walk.{HasRead}
 use Rattle.commit_log.specs.Rules.{Empty}
-use Rattle.commit_log.specs.Journals.{journal_in, progress_of}
-use Rattle.commit_log.proofs.Steps.{progress_by_records, damaged_gate}
+use Rattle.commit_log.specs.Journals.{journal_in, so_far_of}
+use Rattle.commit_log.proofs.Steps.{so_far_by_records, damaged_gate}
 use Rattle.commit_log.proofs.judging.judge_all.Goals as goal
 
 pub returns-in_err-walk-clause-damaged : goal.returns-in_err-walk-clause-damaged
@@ -18,7 +18,7 @@ pub returns-clause-judged : goal.returns-clause-judged
 returns-clause-judged g c =
     let h = c.in_ok-judge_rest.ensures.judged in
     let same = c.begun.ensures.only_reads.same.now ∙ c.begin.ensures.only_reads.same.now in
-    ap (λ (m : DiskMoment). progress_of m.seen) (sym same) ∙ progress_by_records (g.D.Disk.state c.begun.new.disk).now.seen h.judged_all.done h.all ∙ h.judged_all.judges
+    ap (λ (m : DiskMoment). so_far_of m.seen) (sym same) ∙ so_far_by_records (g.D.Disk.state c.begun.new.disk).now.seen h.judged_all.done h.all ∙ h.judged_all.judges
 
 pub returns-clause-ready : goal.returns-clause-ready
 returns-clause-ready g c settled =

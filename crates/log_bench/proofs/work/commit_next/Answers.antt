@@ -10,4 +10,4 @@ commit-requires-clause-may g c journal is =
 pub returns-in-Ok-clause-followed : goal.returns-in-Ok-clause-followed
 returns-in-Ok-clause-followed g c =
     followed_after c.args.book.now c.commit-2.new.self (g.D.Disk.state c.args.disk.now).now.seen (g.D.Disk.state c.commit.new.disk).now.seen
-    c.requires.ready.journal c.args.entry.now (ap journal_in c.requires.ready.opened) c.requires.followed (sym c.may_commit.ensures ∙ c.if-not-may_commit.false) c.in-Ok.ensures.ok c.in_ok-commit.ensures.added
+    c.requires.ready.journal c.args.entry.now (ap journal_in c.requires.ready.so_far) c.requires.followed (sym c.may_commit.ensures ∙ c.if-not-may_commit.false) c.in-Ok.ensures.ok c.in_ok-commit.ensures.added.journal

@@ -18,4 +18,4 @@ returns-clause-kept c =
     let noted = notes_block judge.book c.block.new.self judge.journal c.args.x c.requires.book_for lets c.in_ok-block.ensures.ok in
     let pushed : Journal = record judge.journal { blocked = c.push.new.self } in
     let more : with_record judge.journal (kept.Blocked c.args.x) ≡ pushed = ap (λ (l : List Ltxid). let journal : Journal = record judge.journal { blocked = l } in journal) (sym c.in_ok-push.ensures.ok) in
-    record { book_for = subst (IsBookFor c.block.new.self) more noted; shape = c.requires.shape; ends = c.requires.ends }
+    record { book_for = subst (IsBookFor c.block.new.self) more noted; shape = c.requires.shape; ends = c.requires.ends; unset = c.requires.unset }

@@ -17,4 +17,4 @@ returns-clause-kept c =
     let noted = notes_commit judge.book c.commit.new.self judge.journal c.args.entry c.requires.kept.book_for lets c.in_ok-commit.ensures.ok in
     let pushed : Journal = record judge.journal { entries = c.push.new.self } in
     let more : with_record judge.journal (kept.Commit c.args.entry) ≡ pushed = ap (λ (l : List Entry). let journal : Journal = record judge.journal { entries = l } in journal) (sym c.in_ok-push.ensures.ok) in
-    record { book_for = subst (IsBookFor c.commit.new.self) more noted; shape = c.requires.kept.shape; ends = c.requires.kept.ends }
+    record { book_for = subst (IsBookFor c.commit.new.self) more noted; shape = c.requires.kept.shape; ends = c.requires.kept.ends; unset = c.requires.kept.unset }

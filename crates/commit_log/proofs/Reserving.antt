@@ -8,7 +8,7 @@ use Rattle.std.specs.List.{list_all}
 use Rattle.std.specs.Str.{bytes_eq}
 use Rattle.commit_log.specs.declared.base.Base.{Base}
 use Rattle.commit_log.specs.declared.base.BaseSequence.{BaseSequence}
-use Rattle.commit_log.specs.declared.journal.Block.{Block}
+use Rattle.commit_log.specs.declared.journal.Reservation.{Reservation}
 use Rattle.commit_log.specs.Bases.{is_base, is_sequence, is_table, table_name, sequence_name}
 use Rattle.svc_values.specs.Names.{names_differ}
 use Rattle.commit_log.specs.Rules.{end_of}
@@ -25,13 +25,13 @@ unfolding is_base
 sequences_begin base is =
     last_of_four (names_differ (map table_name base.tables)) (names_differ (map sequence_name base.sequences)) (list_all is_table base.tables) (list_all is_sequence base.sequences) is
 
-fold_last : (f : ℤ → Block → ℤ) (end : ℤ) (blocks : List Block) (block : Block) → fold f end (blocks ++ block ∷ []) ≡ f (fold f end blocks) block
-fold_last f end [] block = refl
-fold_last f end (first ∷ blocks) block = fold_last f (f end first) blocks block
+fold_last : (f : ℤ → Reservation → ℤ) (end : ℤ) (reservations : List Reservation) (reservation : Reservation) → fold f end (reservations ++ reservation ∷ []) ≡ f (fold f end reservations) reservation
+fold_last f end [] reservation = refl
+fold_last f end (first ∷ reservations) reservation = fold_last f (f end first) reservations reservation
 
--- after one more block
-pub end_more : (blocks : List Block) (block : Block) (sequence : BaseSequence) → end_of (blocks ++ block ∷ []) sequence ≡ (if bytes_eq block.name sequence.name then block.upto else end_of blocks sequence)
-end_more blocks block sequence = fold_last _ _ blocks block
+-- after one more reservation
+pub end_more : (reservations : List Reservation) (reservation : Reservation) (sequence : BaseSequence) → end_of (reservations ++ reservation ∷ []) sequence ≡ (if bytes_eq reservation.name sequence.name then reservation.upto else end_of reservations sequence)
+end_more reservations reservation sequence = fold_last _ _ reservations reservation
 
 -- one more item of a list that is mapped in place, otherwise than before
 pub mapped_on : {X Y : Type 0} (old new : X → Y) (xs : List X) (ys : List Y) (i : ℕ) (x : X) (d y : Y)

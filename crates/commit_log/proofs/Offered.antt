@@ -1,0 +1,6 @@
+-- Lemmas on this crate's words that the crates above cite.
+
+-- whether a commit or a block may come next, by a book that is kept beside the journal, and that the book goes on beside it
+pub use Rattle.commit_log.proofs.Committing.{may_beside, notes_commit, block_beside, notes_block, notes_horizon}
+-- a run that adds some of the records of a call, one part after another
+pub use Rattle.commit_log.proofs.Growing.{grown_stays, grown_more, grown_then}
