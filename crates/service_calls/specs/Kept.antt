@@ -14,6 +14,7 @@ pub record Stays (old new : Base) (seen : Seen) : Type 0 where
 pub record Tells (base : Base) (store : Store) (journal : Journal) : Type 0 where
   pub base_of : journal.base ≡ base
   pub incarnation : journal.incarnation ≡ store.incarnation
+  pub horizon : journal.horizon ≡ store.horizon
   pub entries : journal.entries ≡ store.entries
   pub blocked : journal.blocked ≡ store.blocked
   pub alerts : journal.alerts ≡ store.alerts
