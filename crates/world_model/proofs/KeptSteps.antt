@@ -1,4 +1,4 @@
--- The steps of all requests rise, at the start and behind each event.
+-- The steps of all requests rise, and what they keep is past, at the start and behind each event.
 use Rattle.std.proofs.Common.{◌≡◌, refl, sym, ◌∙◌, Bool, true, List}
 use Rattle.svc_values.specs.declared.draw.Draw.{Draw}
 use Rattle.server_model.specs.Seen.{Seen}
@@ -11,12 +11,13 @@ use Rattle.world_model.specs.Traced.{Traced}
 use Rattle.world_model.specs.Invariant.{Invariant}
 use Rattle.world_model.specs.OneEvent.{OneEvent}
 use Rattle.world_model.specs.Reached.{traced_start}
-use Rattle.world_model.specs.Basic.{have_risen}
+use Rattle.world_model.specs.Basic.{have_risen, kept_ticks}
 use Rattle.world_model.specs.KeptLaws.{IsKept}
 use Rattle.world_model.proofs.AllClients.{all_courses, past_steps, doing_steps, none_yet}
 use Rattle.world_model.proofs.StepsRise.{rises_at}
 use Rattle.world_model.proofs.Happened.{Followed, follow_happens}
 use Rattle.world_model.proofs.BasicSteps.{steps_kept}
+use Rattle.world_model.proofs.BasicTicks.{keeps_at, clients_wanted, ticks_kept, none_now}
 
 pub steps_law : IsKept have_risen
 steps_law = record {
@@ -28,4 +29,12 @@ steps_law = record {
       all_courses (rises_at new.machine.event new.machine.tick) new.setting 1 new.machine.clients
       ∙ steps_kept old.setting old.machine items left by.kind new.machine by.happens inv.basic.ended
       (sym (all_courses (rises_at old.machine.event old.machine.tick) old.setting 1 old.machine.clients) ∙ inv.basic.steps);
+}
+
+pub ticks_law : IsKept kept_ticks
+ticks_law = record {
+  at_start = λ document. none_now (keeps_at 0 0) (λ client. client.requests) document.clients;
+  at_event = λ granted before after old new event note items left one inv.
+      let by : Followed old.setting old.machine event note items left new.machine = follow_happens old.setting old.machine event note items left new.machine one.follows in
+      ticks_kept old.setting old.machine items left by.kind new.machine by.happens inv.basic.ended (clients_wanted old inv.basic.ended inv.lost.pending) inv.basic.ticks;
 }

@@ -7,6 +7,7 @@ use Rattle.outage_schedule.specs.declared.event.Event.{Event}
 use Rattle.outage_schedule.specs.declared.note.Note.{Note}
 use Rattle.outage_schedule.specs.declared.item.Served.{Served}
 use Rattle.world_model.specs.Traced.{Traced}
+use Rattle.world_model.specs.Basic.{Basic}
 use Rattle.world_model.specs.Invariant.{Invariant}
 use Rattle.world_model.specs.OneEvent.{OneEvent}
 use Rattle.world_model.specs.Reached.{traced_start}
@@ -16,3 +17,12 @@ pub record IsKept (test : Traced → Bool) : Type 0 where
   pub at_start : (document : Document) → IsTrue (test (traced_start document))
   pub at_event : (granted : Draw → Bool) (before after : Seen) (old new : Traced) (event : Event) (note : Note) (items left : List Served)
       → OneEvent before old event note items left after new → Invariant granted old → IsTrue (test new)
+
+-- the first record as a whole
+abbrev pub BasicBegins : Type 0
+BasicBegins = (document : Document) → Basic (traced_start document)
+
+abbrev pub BasicIsKept : Type 0
+BasicIsKept =
+    (granted : Draw → Bool) (before after : Seen) (old new : Traced) (event : Event) (note : Note) (items left : List Served)
+    → OneEvent before old event note items left after new → Invariant granted old → Basic new

@@ -1,7 +1,7 @@
 //! What of the invariant holds of the start and is kept in each event, if the whole invariant held before it. Each law is the
 //! clause of a function with nothing to run.
-ghost use Rattle.world_model.specs.KeptLaws.{IsKept};
-ghost use Rattle.world_model.specs.Basic.{have_risen, items_rise, items_differ, is_down, are_ended, sessions_differ, are_made, are_counted, are_named, living_now, commits_counted, lives};
+ghost use Rattle.world_model.specs.KeptLaws.{IsKept, BasicBegins, BasicIsKept};
+ghost use Rattle.world_model.specs.Basic.{have_risen, kept_ticks, items_rise, items_differ, is_down, are_ended, sessions_differ, are_made, are_counted, are_named, living_now, commits_counted, lives};
 
 /// The items of a connection are in the order of their events, which are past. An event has one item.
 pub fn items_stay_in_order()
@@ -34,7 +34,15 @@ pub fn sessions_stay_apart()
     ensures named { IsKept are_named }
 {}
 
-/// The steps of a request are of events and ticks so far, in order.
+/// The steps of a request are of events and ticks so far, in order, and so are the ticks and the event that it keeps.
 pub fn steps_stay_in_order()
-    ensures { IsKept have_risen }
+    ensures rise { IsKept have_risen }
+    ensures ticks { IsKept kept_ticks }
+{}
+
+/// The record of ticks, events, connections and sessions as a whole: it holds of the start, and behind each event if the whole
+/// invariant held before it.
+pub fn basic_is_kept()
+    ensures start { BasicBegins }
+    ensures event { BasicIsKept }
 {}
