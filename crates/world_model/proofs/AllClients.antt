@@ -1,15 +1,14 @@
 -- A test over the steps of all requests, by clients; and where one client goes on.
-use Rattle.std.proofs.Common.{◌≡◌, refl, sym, ap, subst, ◌∙◌, Bool, true, false, ℕ, suc, zero, ◌+◌, ◌&&◌, List, [], ◌∷◌, ◌++◌, map, Option, Some, None, if◌then◌else◌}
-use Rattle.std.specs.Prelude.{slice_get, slice_set, unwrap_or, option_map, option_and_then}
+use Rattle.std.proofs.Common.{◌≡◌, refl, sym, ap, ◌∙◌, Bool, true, false, ℕ, suc, zero, ◌+◌, ◌&&◌, List, [], ◌∷◌, ◌++◌, map, Option, Some, None}
 use Rattle.std.specs.List.{list_all}
-use Rattle.std.specs.Option.{option_or, option_map_or}
+use Rattle.std.specs.Option.{option_map_or}
 use Rattle.std.proofs.lemmas.Bool.{and_parts, and_from}
 use Rattle.std.proofs.lemmas.List.Folds.{list_all-append}
 use Rattle.client_model.specs.declared.act.Hold.{Hold}
 use Rattle.client_model.specs.declared.act.Hold.TheVariants as hold
 use Rattle.outage_schedule.specs.declared.document.Request.{Request}
 use Rattle.world_model.specs.Settings.{Setting}
-use Rattle.world_model.specs.Clients.{Step, Doing, Past, Client, client_at, with_client, after_hold, after_step, past_of, resting, script_at}
+use Rattle.world_model.specs.Clients.{Step, Doing, Past, Client, client_at, with_client, after_hold, after_step, past_of, resting}
 use Rattle.world_model.specs.Traced.{Course, courses_from, courses_of_clients}
 use Rattle.world_model.proofs.AllLists.{set_all, at_all, append_all, one_all}
 

@@ -1,5 +1,5 @@
 -- A test over all connections is kept in an event if it is kept by each thing that may happen to one of them.
-use Rattle.std.proofs.Common.{◌≡◌, refl, sym, ap, subst, ◌∙◌, Bool, true, false, ℕ, suc, zero, ◌+◌, ◌&&◌, ◌||◌, List, [], ◌∷◌, ◌++◌, map, fold, Option, Some, None, if◌then◌else◌}
+use Rattle.std.proofs.Common.{◌≡◌, refl, sym, ap, subst, Bool, true, false, ℕ, suc, zero, ◌||◌, List, [], ◌∷◌, map, fold, Option, Some, None, if◌then◌else◌}
 use Rattle.std.specs.Prelude.{option_and_then, nat_le, not, slice_set, unwrap_or}
 use Rattle.std.specs.List.{list_all}
 use Rattle.std.specs.Option.{option_map_or}
@@ -19,8 +19,8 @@ use Rattle.world_model.specs.Noting.{only_if}
 use Rattle.world_model.specs.Matching.{Noted}
 use Rattle.world_model.specs.Going.{lost_at_once}
 use Rattle.world_model.specs.Serving.{Front, first_of, front_of, front_at, is_ordinary, handled, after_front}
-use Rattle.world_model.specs.Cutting.{open_at, cut_link, reaped_link, has_orphan}
-use Rattle.world_model.specs.Crashing.{is_stopped, is_over, has_stored, fallen_link, falls, after_stopped}
+use Rattle.world_model.specs.Cutting.{open_at, cut_link, reaped_link}
+use Rattle.world_model.specs.Crashing.{is_stopped, has_stored, fallen_link, falls}
 use Rattle.world_model.specs.Outside.{closed_by_drain}
 use Rattle.world_model.proofs.Kept.{only_is}
 use Rattle.world_model.proofs.AllLists.{set_all, at_all, map_all, append_all, one_all}

@@ -1,5 +1,5 @@
 -- A test that holds of each item of a list: where one is changed, where all are, and where one comes behind them.
-use Rattle.std.proofs.Common.{◌≡◌, refl, sym, ap, subst, ◌∙◌, Bool, true, false, ℕ, suc, zero, ◌&&◌, List, [], ◌∷◌, ◌++◌, map, Option, Some, None}
+use Rattle.std.proofs.Common.{◌≡◌, refl, subst, ◌∙◌, Bool, true, ℕ, suc, zero, List, [], ◌∷◌, ◌++◌, map, Some}
 use Rattle.std.specs.Prelude.{slice_get, slice_set}
 use Rattle.std.specs.List.{list_all}
 use Rattle.std.proofs.lemmas.Bool.{and_parts, and_from}

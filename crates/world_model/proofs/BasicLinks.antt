@@ -1,8 +1,7 @@
 -- What Basic says of each connection by itself is kept.
-use Rattle.std.proofs.Common.{◌≡◌, refl, sym, ap, subst, ◌∙◌, Bool, true, false, ℕ, ◌+◌, ◌||◌, List, [], ◌∷◌}
+use Rattle.std.proofs.Common.{◌≡◌, refl, sym, subst, Bool, true, false, ℕ, ◌+◌, ◌||◌, List}
 use Rattle.std.specs.List.{list_all}
-use Rattle.std.proofs.lemmas.Bool.{and_parts, or_left, or_right, cases_Bool}
-use Rattle.std.proofs.Common.{◌⊎◌, inl, inr}
+use Rattle.std.proofs.lemmas.Bool.{or_left, or_right}
 use Rattle.outage_schedule.specs.declared.item.Served.{Served}
 use Rattle.world_model.specs.Settings.{Setting}
 use Rattle.world_model.specs.Links.{Link}
@@ -19,7 +18,7 @@ use Rattle.world_model.proofs.LinkLives.{no_test, counts_commits, commits_keep, 
 use Rattle.world_model.proofs.LinkItems.{items_at, items_later, items_keep}
 use Rattle.world_model.proofs.LinkEnds.{ends_at, ends_later, ends_keep}
 use Rattle.world_model.proofs.LinkNow.{now_at, now_keep, is_down_link, up_or_down, down_keep, all_fallen, down_now}
-use Rattle.world_model.proofs.Servers.{Stands, AsBefore, Fell, Opened, IsSameRun, happens_stands, event_kept}
+use Rattle.world_model.proofs.Servers.{Stands, AsBefore, Fell, Opened, happens_stands, event_kept}
 
 module _ (setting : Setting) (m : Machine) (items left : List Served) (happened : Noted) (n : Machine) (happens : Happens setting (at_event m) items left happened n) where
   no_tests : list_all no_test m.links ≡ true

@@ -1,5 +1,5 @@
 -- What Basic says of the sessions of all connections is kept.
-use Rattle.std.proofs.Common.{◌≡◌, refl, sym, ap, subst, ◌∙◌, Bool, true, false, ℕ, ◌+◌, ◌&&◌, List, [], ◌∷◌, ◌++◌, Option, Some, None}
+use Rattle.std.proofs.Common.{◌≡◌, refl, true, ◌+◌, ◌&&◌, List, [], ◌∷◌, ◌++◌}
 use Rattle.std.specs.List.{list_all}
 use Rattle.std.proofs.lemmas.Bool.{and_parts, and_from}
 use Rattle.svc_values.specs.declared.entry.SessionId.{SessionId}

@@ -1,8 +1,7 @@
 -- What Basic says of the steps of requests is kept.
-use Rattle.std.proofs.Common.{◌≡◌, refl, sym, ap, subst, ◌∙◌, Bool, true, false, ℕ, ◌+◌, ◌≤◌, ◌&&◌, ◌||◌, List, [], ◌∷◌, ◌++◌, Option, Some, None, le_refl, arith}
+use Rattle.std.proofs.Common.{◌≡◌, refl, Bool, true, ℕ, ◌+◌, ◌≤◌, ◌&&◌, ◌||◌, List, [], Option, Some, None, le_refl, arith}
 use Rattle.std.specs.Prelude.{nat_le, unwrap_or, not, is_none}
 use Rattle.std.specs.List.{list_all}
-use Rattle.std.specs.Option.{option_map_or}
 use Rattle.std.proofs.lemmas.Bool.{and_parts, and_from}
 use Rattle.svc_values.specs.Same.{same_bool}
 use Rattle.client_model.specs.declared.input.Input.TheVariants.{Start}
@@ -10,8 +9,7 @@ use Rattle.client_model.specs.Terms.{requested}
 use Rattle.outage_schedule.specs.declared.document.Request.{Request}
 use Rattle.outage_schedule.specs.declared.item.Served.{Served}
 use Rattle.world_model.specs.Settings.{Setting}
-use Rattle.world_model.specs.Links.{Link, link_at}
-use Rattle.world_model.specs.Clients.{Step, Doing, Past, Client, step_at}
+use Rattle.world_model.specs.Clients.{Doing, Client, step_at}
 use Rattle.world_model.specs.Machines.{Machine}
 use Rattle.world_model.specs.Matching.{Noted}
 use Rattle.world_model.specs.Basic.{at_most}

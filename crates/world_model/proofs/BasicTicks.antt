@@ -1,6 +1,6 @@
 -- The ticks and events that requests keep are past, and stay so.
-use Rattle.std.proofs.Common.{◌≡◌, refl, sym, ap, subst, ◌∙◌, Bool, true, false, ℕ, ◌+◌, ◌≤◌, ◌&&◌, ◌||◌, ◌⊎◌, inl, inr, List, [], ◌∷◌, ◌++◌, map, Option, Some, None, le_refl, arith}
-use Rattle.std.specs.Prelude.{◌==◌, nat_le, not, is_none, is_some, cond, length}
+use Rattle.std.proofs.Common.{◌≡◌, refl, sym, ap, subst, ◌∙◌, Bool, true, false, ℕ, ◌+◌, ◌≤◌, ◌&&◌, ◌||◌, ◌⊎◌, inl, inr, List, [], ◌∷◌, map, Option, Some, None, le_refl, arith}
+use Rattle.std.specs.Prelude.{nat_le, not, is_none}
 use Rattle.std.specs.List.{list_all, list_any}
 use Rattle.std.specs.Option.{option_map_or}
 use Rattle.std.proofs.lemmas.Bool.{and_parts, and_from, or_cases}
@@ -10,7 +10,7 @@ use Rattle.svc_values.specs.Same.{same_bool}
 use Rattle.client_model.specs.declared.input.Input.TheVariants.{Start}
 use Rattle.client_model.specs.declared.track.Track.{Track}
 use Rattle.client_model.specs.States.{Losing}
-use Rattle.client_model.specs.Terms.{Phase, Idle, Unbegun, Queued, Seeking, Greeting, Asked, Running, Replaying, requested}
+use Rattle.client_model.specs.Terms.{Phase, Seeking, Greeting, requested}
 use Rattle.client_model.specs.Laws.{track_of}
 use Rattle.outage_schedule.specs.declared.document.Request.{Request}
 use Rattle.outage_schedule.specs.declared.item.Served.{Served}
@@ -21,8 +21,8 @@ use Rattle.world_model.specs.Machines.{Machine}
 use Rattle.world_model.specs.Matching.{Noted}
 use Rattle.world_model.specs.Traced.{Traced, Course, courses_from, courses_of_clients}
 use Rattle.world_model.specs.Parts.{is_closed, implies}
-use Rattle.world_model.specs.Basic.{at_most, waits_from, lost_in, keeps_ticks}
-use Rattle.world_model.specs.Lost.{Wanted, wanted_in, is_wanted, same_event, is_asked_for, one_pending, lost_links, open_ends, ends_unknown}
+use Rattle.world_model.specs.Basic.{at_most, waits_from, lost_in}
+use Rattle.world_model.specs.Lost.{Wanted, wanted_in, is_wanted, same_event, is_asked_for, one_pending, lost_links}
 use Rattle.world_model.proofs.Tests.{le_from, le_to, eq_from}
 use Rattle.world_model.proofs.AllLists.{weaker_all}
 use Rattle.world_model.proofs.AllLinks.{at_link}

@@ -1,17 +1,17 @@
 -- The sessions of connections and those made outside: how they grow, and that they stay apart, made and counted.
-use Rattle.std.proofs.Common.{◌≡◌, refl, sym, ap, subst, ◌∙◌, Bool, true, false, ℕ, ◌+◌, ◌≤◌, ◌<◌, ◌&&◌, ◌||◌, cond, List, [], ◌∷◌, ◌++◌, count_by, arith, ◌⊎◌, inl, inr}
+use Rattle.std.proofs.Common.{◌≡◌, refl, sym, ap, ◌∙◌, Bool, true, false, ℕ, ◌+◌, ◌<◌, ◌&&◌, ◌||◌, cond, List, [], ◌∷◌, ◌++◌, count_by, arith}
 use Rattle.std.specs.Prelude.{◌==◌, nat_le, nat_lt, not}
 use Rattle.std.specs.List.{list_all, list_any}
-use Rattle.std.proofs.lemmas.Bool.{and_parts, and_from, or_cases, or_left, or_right, not_from_false, not-true}
+use Rattle.std.proofs.lemmas.Bool.{and_parts, and_from, not_from_false, not-true}
 use Rattle.std.proofs.lemmas.Bool.Decides.{nat_tests}
 use Rattle.std.proofs.lemmas.List.Folds.{list_any-append}
 use Rattle.std.proofs.lemmas.List.Sums.{sum_by_push, sum_by-cons}
 use Rattle.svc_values.specs.declared.entry.SessionId.{SessionId}
 use Rattle.svc_values.specs.Identifiers.{same_session}
 use Rattle.world_model.specs.Sames.{each_pair}
-use Rattle.world_model.proofs.Tests.{eq_from, eq_to, le_from, le_to, lt_from, lt_to}
+use Rattle.world_model.proofs.Tests.{eq_from, eq_to}
 use Rattle.world_model.proofs.AllLists.{weaker_all, append_all, one_all}
-use Rattle.world_model.proofs.Inserted.{Inserted, all_inserted, pairs_inserted, count_inserted, count_none}
+use Rattle.world_model.proofs.Inserted.{Inserted, all_inserted, pairs_inserted, count_inserted}
 
 -- the incarnation with the count of its sessions, those of connections and those made outside
 pub record Census : Type 0 where

@@ -1,8 +1,8 @@
 -- A test over all clients is kept in an event if it is kept by each input that a request hears.
-use Rattle.std.proofs.Common.{◌≡◌, refl, sym, ap, subst, ◌∙◌, Bool, true, false, ℕ, ◌+◌, ◌≤◌, ◌&&◌, List, [], ◌∷◌, ◌++◌, Option, Some, None, if◌then◌else◌, arith}
+use Rattle.std.proofs.Common.{◌≡◌, refl, subst, Bool, true, false, ℕ, ◌≤◌, List, Option, Some, None, if◌then◌else◌, arith}
 use Rattle.std.specs.Prelude.{unwrap_or, option_map, option_and_then, nat_le}
 use Rattle.std.specs.List.{list_all}
-use Rattle.std.specs.Option.{option_or, option_map_or}
+use Rattle.std.specs.Option.{option_or}
 use Rattle.client_model.specs.declared.input.Input.{Input}
 use Rattle.client_model.specs.declared.input.Input.TheVariants.{Waiting, Lent, Opened, TryFailed, Took, Gone}
 use Rattle.client_model.specs.declared.input.Wants.{Wants}
@@ -12,12 +12,11 @@ use Rattle.outage_schedule.specs.declared.document.Request.{Request}
 use Rattle.outage_schedule.specs.declared.item.Served.{Served}
 use Rattle.world_model.specs.Settings.{Setting}
 use Rattle.world_model.specs.Links.{Link, link_at, with_link, takes}
-use Rattle.world_model.specs.Clients.{Doing, Past, Client, client_at, doing_at, doing_of, heard, begun, past_of}
+use Rattle.world_model.specs.Clients.{Doing, Past, Client, client_at, doing_at, heard, begun, past_of}
 use Rattle.world_model.specs.Acting.{steps, act_at}
 use Rattle.world_model.specs.Machines.{Machine}
 use Rattle.world_model.specs.Matching.{Noted}
 use Rattle.world_model.specs.Going.{lost_at_once}
-use Rattle.world_model.proofs.Tests.{le_to}
 use Rattle.world_model.proofs.AllClients.{client_passes, now_passes, step_passes, doing_passes}
 use Rattle.world_model.proofs.Servers.{goes_same}
 use Rattle.world_model.proofs.Moves.{with_pool, with_new, next_number, takes_one, IsDoing, Goes, Rests, Waits, Lends, Opens, Fails, Takes, Loses, ServesLast, LastNone, LastStopped, LastServed, Happens, Nothing, IsStep, Serves, Cuts, Reaps, Crashes, OpensUp, StopsOpening, Ticks, RunsOutside, Asks, Drains}

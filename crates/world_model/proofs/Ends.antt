@@ -1,9 +1,9 @@
 -- What holds of a connection that may end, by cases: it was open, or it was not.
-use Rattle.std.proofs.Common.{◌≡◌, refl, sym, Bool, true, false, ℕ, List, [], ◌∷◌, ◌++◌, Option, Some, None, if◌then◌else◌}
+use Rattle.std.proofs.Common.{◌≡◌, refl, Bool, true, false, ℕ, List, [], ◌++◌, Option, Some, if◌then◌else◌}
 use Rattle.std.specs.List.{list_any}
 use Rattle.svc_values.specs.declared.frame.Down.{Down}
 use Rattle.outage_schedule.specs.declared.item.Served.{Served}
-use Rattle.world_model.specs.Frames.{Sent, Reply, up_size, down_size, whole_front}
+use Rattle.world_model.specs.Frames.{Sent, up_size, down_size, whole_front}
 use Rattle.world_model.specs.Links.{Link, ends, sends, is_close}
 use Rattle.world_model.specs.Serving.{Front, after_front, handled, is_blocked, reply_of, commits_after}
 use Rattle.world_model.specs.Cutting.{cut_link}

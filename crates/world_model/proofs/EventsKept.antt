@@ -1,5 +1,5 @@
 -- No event has two items.
-use Rattle.std.proofs.Common.{◌≡◌, refl, sym, ap, subst, ◌∙◌, Bool, true, false, ℕ, ◌+◌, ◌≤◌, ◌<◌, ◌&&◌, ◌||◌, List, [], ◌∷◌, ◌++◌, flat_map, Option, Some, None, arith}
+use Rattle.std.proofs.Common.{◌≡◌, refl, sym, subst, Bool, true, ℕ, ◌+◌, ◌≤◌, ◌||◌, List, [], ◌∷◌, None, arith}
 use Rattle.std.specs.Prelude.{◌==◌, not, nat_le, nat_lt}
 use Rattle.std.specs.List.{list_all}
 use Rattle.std.proofs.lemmas.Bool.{and_parts, not_from_false}
@@ -22,7 +22,7 @@ use Rattle.world_model.proofs.Views.{sends_as, cut_as, view_with, view_changed, 
 use Rattle.world_model.proofs.SessionViews.{events_in, events_stay, events_new, events_fall}
 use Rattle.world_model.proofs.SessionsGrow.{IsServed, handled_is, stopped_is, more_events}
 use Rattle.world_model.proofs.AllLinks.{IsFront, front_is, IsOpen, open_is}
-use Rattle.world_model.proofs.Moves.{Goes, ServesLast, LastNone, LastStopped, LastServed, Happens, Nothing, IsStep, Serves, Cuts, Reaps, Crashes, OpensUp, StopsOpening, Ticks, RunsOutside, Asks, Drains}
+use Rattle.world_model.proofs.Moves.{ServesLast, LastNone, LastStopped, LastServed, Happens, Nothing, IsStep, Serves, Cuts, Reaps, Crashes, OpensUp, StopsOpening, Ticks, RunsOutside, Asks, Drains}
 
 -- the events of the items behind an event: those of before, or its own besides
 pub data Comes (event : ℕ) (before after : List ℕ) : Type 0 where

@@ -1,5 +1,5 @@
 -- Where the machine follows an event, it does what its kind says.
-use Rattle.std.proofs.Common.{◌≡◌, refl, sym, ap, subst, ◌∙◌, Bool, true, false, ℕ, ◌+◌, ◌&&◌, List, [], ◌∷◌, Option, Some, None, if◌then◌else◌}
+use Rattle.std.proofs.Common.{◌≡◌, refl, ap, subst, ◌∙◌, Bool, true, false, ℕ, ◌+◌, ◌&&◌, List, [], ◌∷◌, Option, Some, None, if◌then◌else◌}
 use Rattle.std.specs.Prelude.{option_and_then, not}
 use Rattle.std.proofs.lemmas.Bool.{and_parts, not-true}
 use Rattle.svc_values.specs.declared.entry.Ltxid.{Ltxid}
@@ -23,16 +23,16 @@ use Rattle.world_model.specs.Settings.{Setting}
 use Rattle.world_model.specs.Frames.{Reply}
 use Rattle.world_model.specs.Links.{Link, link_at, changed}
 use Rattle.world_model.specs.Clients.{Client, Doing, client_at, doing_of}
-use Rattle.world_model.specs.Machines.{Server, Machine, next_session}
+use Rattle.world_model.specs.Machines.{Machine, next_session}
 use Rattle.world_model.specs.Acting.{loses}
 use Rattle.world_model.specs.Noting.{only_if, same_did, same_name, name_of}
 use Rattle.world_model.specs.Matching.{Noted, Went, ServedOn, CutOff, Reaped, Crashed, Opened, OpeningStopped, Ticked, RanOutside, Asked, Drained, matched}
 use Rattle.world_model.specs.Going.{noted, tries_while, lends, takes_slot, looks, looks_at, goes_by, goes, follow_go}
-use Rattle.world_model.specs.Serving.{Front, front_at, is_ordinary, serves, follow_serve, after_served, identifier}
+use Rattle.world_model.specs.Serving.{Front, front_at, is_ordinary, serves, after_served, identifier}
 use Rattle.world_model.specs.Cutting.{open_at, cuts, follow_cut, after_cut, follow_reap, has_orphan, reaped_link}
-use Rattle.world_model.specs.Crashing.{is_stopped, is_over, serves_last, crashes, falls, follow_crash, after_stopped}
-use Rattle.world_model.specs.Opening.{may_open, opened, follow_up, follow_upcrash}
-use Rattle.world_model.specs.Outside.{ticked, after_asked, follow_outside, follow_ask, drained, follow_drain}
+use Rattle.world_model.specs.Crashing.{is_stopped, is_over, serves_last, crashes, falls, after_stopped}
+use Rattle.world_model.specs.Opening.{may_open, follow_up, follow_upcrash}
+use Rattle.world_model.specs.Outside.{ticked, follow_outside, follow_ask, drained, follow_drain}
 use Rattle.world_model.specs.Noting.{same_reached}
 use Rattle.world_model.specs.Cutting.{reached_of}
 use Rattle.svc_values.specs.Identifiers.{same_ltxid}

@@ -1,21 +1,16 @@
 -- The tests of Basic that speak of the sessions of all connections, at the start and behind each event.
-use Rattle.std.proofs.Common.{◌≡◌, refl, sym, ap, ◌∙◌, Bool, true, ◌++◌, List, [], ◌∷◌, Option, Some, None}
-use Rattle.std.proofs.lemmas.Bool.{and_parts}
+use Rattle.std.proofs.Common.{◌≡◌, refl, sym, ap, ◌∙◌, Bool, true, ◌++◌, List, [], Some, None}
 use Rattle.std.specs.List.{list_all}
 use Rattle.svc_values.specs.declared.draw.Draw.{Draw}
 use Rattle.svc_values.specs.declared.entry.SessionId.{SessionId}
 use Rattle.server_model.specs.Seen.{Seen}
-use Rattle.outage_schedule.specs.declared.document.Document.{Document}
 use Rattle.outage_schedule.specs.declared.event.Event.{Event}
 use Rattle.outage_schedule.specs.declared.event.Event.TheVariants as event
 use Rattle.outage_schedule.specs.declared.note.Note.{Note}
 use Rattle.outage_schedule.specs.declared.note.Note.TheVariants as note
 use Rattle.outage_schedule.specs.declared.item.Served.{Served}
-use Rattle.svc_values.specs.Identifiers.{same_ltxid}
-use Rattle.world_model.specs.Links.{Link}
-use Rattle.world_model.specs.Machines.{Machine}
 use Rattle.world_model.specs.Noting.{only_if}
-use Rattle.world_model.specs.Matching.{Noted, Went, ServedOn, CutOff, Reaped, Crashed, Opened, OpeningStopped, Ticked, RanOutside, Asked, Drained, matched}
+use Rattle.world_model.specs.Matching.{Noted, Went, ServedOn, CutOff, Reaped, Opened, OpeningStopped, Ticked, RanOutside, Asked, Drained, matched}
 use Rattle.world_model.specs.Traced.{Traced}
 use Rattle.world_model.specs.Invariant.{Invariant}
 use Rattle.world_model.specs.OneEvent.{OneEvent, session_outside}

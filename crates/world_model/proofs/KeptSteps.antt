@@ -1,15 +1,6 @@
 -- The steps of all requests rise, and what they keep is past, at the start and behind each event.
-use Rattle.std.proofs.Common.{◌≡◌, refl, sym, ◌∙◌, Bool, true, List}
-use Rattle.svc_values.specs.declared.draw.Draw.{Draw}
-use Rattle.server_model.specs.Seen.{Seen}
-use Rattle.outage_schedule.specs.declared.document.Document.{Document}
-use Rattle.outage_schedule.specs.declared.event.Event.{Event}
-use Rattle.outage_schedule.specs.declared.note.Note.{Note}
-use Rattle.outage_schedule.specs.declared.item.Served.{Served}
+use Rattle.std.proofs.Common.{sym, ◌∙◌}
 use Rattle.world_model.specs.Settings.{setting_of}
-use Rattle.world_model.specs.Traced.{Traced}
-use Rattle.world_model.specs.Invariant.{Invariant}
-use Rattle.world_model.specs.OneEvent.{OneEvent}
 use Rattle.world_model.specs.Reached.{traced_start}
 use Rattle.world_model.specs.Basic.{have_risen, kept_ticks}
 use Rattle.world_model.specs.KeptLaws.{IsKept}

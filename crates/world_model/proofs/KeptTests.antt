@@ -1,13 +1,10 @@
 -- The tests of Basic that speak of each connection by itself, at the start and behind each event.
-use Rattle.std.proofs.Common.{◌≡◌, refl, Bool, true, List}
-use Rattle.svc_values.specs.declared.draw.Draw.{Draw}
+use Rattle.std.proofs.Common.{refl, List}
 use Rattle.server_model.specs.Seen.{Seen}
-use Rattle.outage_schedule.specs.declared.document.Document.{Document}
 use Rattle.outage_schedule.specs.declared.event.Event.{Event}
 use Rattle.outage_schedule.specs.declared.note.Note.{Note}
 use Rattle.outage_schedule.specs.declared.item.Served.{Served}
 use Rattle.world_model.specs.Traced.{Traced}
-use Rattle.world_model.specs.Invariant.{Invariant}
 use Rattle.world_model.specs.OneEvent.{OneEvent}
 use Rattle.world_model.specs.Basic.{items_rise, is_down, are_ended, living_now, commits_counted, lives}
 use Rattle.world_model.specs.KeptLaws.{IsKept}

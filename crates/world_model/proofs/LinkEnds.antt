@@ -1,13 +1,11 @@
 -- Of each connection: it is open as long as no event ended it.
-use Rattle.std.proofs.Common.{◌≡◌, refl, sym, ap, subst, ◌∙◌, Bool, true, false, ℕ, ◌+◌, ◌≤◌, ◌&&◌, ◌||◌, List, [], ◌∷◌, ◌++◌, map, Option, Some, None, arith, le_refl, inl, inr}
-use Rattle.std.specs.Prelude.{◌==◌, ◌⊎◌, nat_le, not, is_none}
+use Rattle.std.proofs.Common.{◌≡◌, refl, sym, ap, subst, ◌∙◌, Bool, true, false, ℕ, ◌+◌, ◌≤◌, ◌&&◌, ◌||◌, List, ◌∷◌, ◌++◌, map, Option, Some, None, arith, le_refl}
+use Rattle.std.specs.Prelude.{nat_le, not, is_none}
 use Rattle.std.specs.List.{list_any}
-use Rattle.std.specs.Option.{option_map_or}
-use Rattle.std.proofs.lemmas.Bool.{and_parts, and_from, or_right, or_left, or_cases}
+use Rattle.std.proofs.lemmas.Bool.{and_parts, and_from, or_right, or_left}
 use Rattle.std.proofs.lemmas.List.Folds.{list_any-append}
 use Rattle.svc_values.specs.declared.frame.Up.{Up}
 use Rattle.svc_values.specs.declared.frame.Up.TheVariants as up
-use Rattle.svc_values.specs.declared.frame.Down.{Down}
 use Rattle.svc_values.specs.Same.{same_bool}
 use Rattle.outage_schedule.specs.declared.item.Item.{Item}
 use Rattle.outage_schedule.specs.declared.item.Item.TheVariants as item
@@ -18,12 +16,12 @@ use Rattle.world_model.specs.Machines.{Machine}
 use Rattle.world_model.specs.Serving.{Front, is_ordinary, is_of_front, is_item_of, is_last, is_blocked, after_front, handled}
 use Rattle.world_model.specs.Basic.{at_most}
 use Rattle.world_model.specs.Parts.{is_closed, implies}
-use Rattle.world_model.specs.Sames.{same_up, same_sent, same_owners, is_front}
-use Rattle.world_model.specs.Wire.{up_of, is_sent_front, nothing_cut}
+use Rattle.world_model.specs.Sames.{same_up, same_sent, is_front}
+use Rattle.world_model.specs.Wire.{up_of, is_sent_front}
 use Rattle.world_model.proofs.Tests.{or_false, not_both, le_to, le_from}
-use Rattle.world_model.proofs.Ends.{shut, with_frames, has_close, ends_case, sends_case, handled_case, cut_case, fallen_case}
+use Rattle.world_model.proofs.Ends.{with_frames, has_close, ends_case, sends_case, handled_case, cut_case, fallen_case}
 use Rattle.world_model.proofs.Fronts.{same_frames, front_any}
-use Rattle.world_model.proofs.AllLinks.{IsFront, Keeps}
+use Rattle.world_model.proofs.AllLinks.{Keeps}
 
 abbrev ends_test : ℕ → Bool → Option ℕ → Bool → Bool → Bool → Bool
 ends_test event opens ended closed cut living = same_bool opens (is_none ended) && (at_most event ended && (implies (closed || cut) (not opens) && implies opens living))

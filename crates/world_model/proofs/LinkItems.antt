@@ -1,5 +1,5 @@
 -- Of each connection: its items are in the order of their events, which are past.
-use Rattle.std.proofs.Common.{◌≡◌, refl, sym, ap, subst, ◌∙◌, Bool, true, false, ℕ, ◌+◌, ◌≤◌, ◌<◌, ◌&&◌, List, [], ◌∷◌, ◌++◌, map, Option, Some, None, arith}
+use Rattle.std.proofs.Common.{◌≡◌, refl, sym, subst, Bool, true, ℕ, ◌+◌, ◌≤◌, ◌&&◌, List, [], ◌∷◌, ◌++◌, Option, None, arith}
 use Rattle.std.specs.Prelude.{◌==◌, nat_le, nat_lt}
 use Rattle.std.specs.List.{list_all}
 use Rattle.std.proofs.lemmas.Bool.{and_parts, and_from}
@@ -9,14 +9,13 @@ use Rattle.outage_schedule.specs.declared.item.Served.{Served}
 use Rattle.world_model.specs.Frames.{Handled}
 use Rattle.world_model.specs.Links.{Link}
 use Rattle.world_model.specs.Machines.{Machine}
-use Rattle.world_model.specs.Serving.{Front, is_ordinary, is_of_front, is_served_by, is_item_of, after_front}
-use Rattle.world_model.specs.Crashing.{is_stopped, is_crashed_item}
+use Rattle.world_model.specs.Serving.{Front, is_of_front, is_served_by, is_item_of, after_front}
 use Rattle.world_model.specs.Basic.{item_events}
 use Rattle.world_model.specs.Sames.{each_pair}
 use Rattle.world_model.proofs.Tests.{eq_from, le_from, le_to, lt_to, pair_more}
 use Rattle.world_model.proofs.AllLists.{weaker_all, append_all, one_all}
 use Rattle.world_model.proofs.Ends.{sends_alike, handled_alike, cut_case, fallen_case}
-use Rattle.world_model.proofs.AllLinks.{IsFront, Keeps}
+use Rattle.world_model.proofs.AllLinks.{Keeps}
 
 abbrev pub items_at : ℕ → Link → Bool
 items_at event link = each_pair nat_lt (item_events link) && list_all (λ one. nat_le one event) (item_events link)

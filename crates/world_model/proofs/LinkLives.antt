@@ -1,5 +1,5 @@
 -- Of each connection: it counts its commits, and nothing is served behind what ends its session.
-use Rattle.std.proofs.Common.{◌≡◌, refl, sym, ap, subst, ◌∙◌, Bool, true, false, ℕ, ◌+◌, ◌&&◌, ◌||◌, cond, List, [], ◌∷◌, ◌++◌, Option, Some, None, count_by}
+use Rattle.std.proofs.Common.{◌≡◌, refl, ap, ◌∙◌, Bool, true, false, ◌&&◌, ◌||◌, List, [], ◌∷◌, ◌++◌, Option, None, count_by}
 use Rattle.std.specs.Prelude.{◌==◌, not}
 use Rattle.std.specs.List.{list_any}
 use Rattle.std.proofs.lemmas.Bool.{and_parts, and_from, or_parts, not-true, not_from_false}
@@ -10,16 +10,15 @@ use Rattle.svc_values.specs.declared.frame.Down.{Down}
 use Rattle.outage_schedule.specs.declared.item.Item.{Item}
 use Rattle.outage_schedule.specs.declared.item.Item.TheVariants as item
 use Rattle.outage_schedule.specs.declared.item.Served.{Served}
-use Rattle.world_model.specs.Frames.{Sent, Handled}
+use Rattle.world_model.specs.Frames.{Handled}
 use Rattle.world_model.specs.Links.{Link}
 use Rattle.world_model.specs.Machines.{Machine}
-use Rattle.world_model.specs.Serving.{Front, is_ordinary, is_of_front, is_item_of, is_commit, is_last, after_front, commits_after}
-use Rattle.world_model.specs.Crashing.{is_stopped as stops_at, is_crashed_item}
+use Rattle.world_model.specs.Serving.{Front, is_ordinary, is_of_front, is_item_of, is_commit, is_last, after_front}
 use Rattle.world_model.specs.Basic.{is_stopped, ends_life, none_behind, lives_rightly}
 use Rattle.world_model.specs.Parts.{implies}
-use Rattle.world_model.proofs.Tests.{or_false, or_second, not_both, count_more}
-use Rattle.world_model.proofs.Ends.{sends_alike, handled_alike, cut_case, fallen_case, with_frames, shut, as_cut, as_fallen}
-use Rattle.world_model.proofs.AllLinks.{IsFront, Keeps}
+use Rattle.world_model.proofs.Tests.{or_false, count_more}
+use Rattle.world_model.proofs.Ends.{sends_alike, handled_alike, cut_case, fallen_case}
+use Rattle.world_model.proofs.AllLinks.{Keeps}
 
 -- COMMITS -----------------------------------------------------------------------------------------
 

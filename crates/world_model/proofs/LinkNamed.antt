@@ -1,24 +1,20 @@
 -- Of each connection: it has its name once its Connect was served, and each item and identifier is of that session.
-use Rattle.std.proofs.Common.{◌≡◌, refl, sym, ap, subst, ◌∙◌, Bool, true, false, ℕ, ◌+◌, ◌&&◌, ◌||◌, length, List, [], ◌∷◌, ◌++◌, map, filter_map, Option, Some, None}
-use Rattle.std.specs.Prelude.{◌==◌, not, is_some, is_none, option_map}
-use Rattle.std.specs.List.{list_all, cons_option}
-use Rattle.std.specs.Option.{option_or, option_map_or}
-use Rattle.std.proofs.lemmas.Bool.{and_parts, and_from, or_cases, not_from_false}
-use Rattle.std.proofs.lemmas.List.Folds.{list_all-append}
+use Rattle.std.proofs.Common.{◌≡◌, refl, sym, ap, subst, Bool, true, false, ◌&&◌, length, List, [], ◌∷◌, ◌++◌, Option, Some, None}
+use Rattle.std.specs.Prelude.{◌==◌, not, is_some, is_none}
+use Rattle.std.specs.List.{list_all}
+use Rattle.std.specs.Option.{option_map_or}
+use Rattle.std.proofs.lemmas.Bool.{and_parts, and_from, not_from_false}
 use Rattle.svc_values.specs.declared.entry.SessionId.{SessionId}
 use Rattle.svc_values.specs.declared.entry.Ltxid.{Ltxid}
 use Rattle.svc_values.specs.declared.frame.Up.{Up}
 use Rattle.svc_values.specs.declared.frame.Up.TheVariants as up
-use Rattle.svc_values.specs.declared.frame.Down.{Down}
 use Rattle.svc_values.specs.Identifiers.{same_session, session_of}
 use Rattle.outage_schedule.specs.declared.item.Item.{Item}
 use Rattle.outage_schedule.specs.declared.item.Item.TheVariants as item
-use Rattle.outage_schedule.specs.declared.item.Served.{Served}
-use Rattle.world_model.specs.Frames.{Sent, Handled}
+use Rattle.world_model.specs.Frames.{Handled}
 use Rattle.world_model.specs.Links.{Link}
-use Rattle.world_model.specs.Machines.{Server, Machine}
-use Rattle.world_model.specs.Serving.{Front, is_served_by, is_item_of}
-use Rattle.world_model.specs.Crashing.{is_crashed_item}
+use Rattle.world_model.specs.Machines.{Server}
+use Rattle.world_model.specs.Serving.{is_served_by, is_item_of}
 use Rattle.world_model.specs.Basic.{is_connect, first_is_connect}
 use Rattle.world_model.specs.Hold as hold
 use Rattle.world_model.specs.Parts.{implies}

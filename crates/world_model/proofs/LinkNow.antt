@@ -1,25 +1,25 @@
 -- A session that lives is of this incarnation; while the server is down nothing is open and none lives.
-use Rattle.std.proofs.Common.{◌≡◌, refl, sym, ap, subst, ◌∙◌, Bool, true, false, ℕ, ◌&&◌, ◌||◌, List, [], ◌∷◌, ◌++◌, map, Option, Some, None, if◌then◌else◌}
+use Rattle.std.proofs.Common.{◌≡◌, refl, ap, ◌∙◌, Bool, true, false, ℕ, ◌&&◌, ◌||◌, List, map, Option, Some, None}
 use Rattle.std.specs.Prelude.{◌==◌, not}
 use Rattle.std.specs.List.{list_all}
 use Rattle.std.specs.Option.{option_map_or}
-use Rattle.std.proofs.lemmas.Bool.{and_parts, and_from, or_left, or_right}
+use Rattle.std.proofs.lemmas.Bool.{and_parts, or_left, or_right}
 use Rattle.svc_values.specs.declared.entry.SessionId.{SessionId}
 use Rattle.svc_values.specs.declared.frame.Up.{Up}
 use Rattle.svc_values.specs.declared.frame.Up.TheVariants as up
 use Rattle.svc_values.specs.declared.frame.Down.{Down}
 use Rattle.svc_values.specs.Identifiers.{same_session}
 use Rattle.outage_schedule.specs.declared.item.Served.{Served}
-use Rattle.world_model.specs.Links.{Link, sends}
+use Rattle.world_model.specs.Links.{Link}
 use Rattle.world_model.specs.Machines.{Server, Machine, next_session}
-use Rattle.world_model.specs.Serving.{Front, is_ordinary, is_of_front, is_served_by, is_item_of, is_last, after_front}
+use Rattle.world_model.specs.Serving.{Front, is_of_front, is_served_by, is_item_of, is_last, after_front}
 use Rattle.world_model.specs.Crashing.{fallen_link}
 use Rattle.world_model.specs.Parts.{implies}
 use Rattle.world_model.proofs.Tests.{eq_from, eq_to, same_session_is}
 use Rattle.world_model.proofs.AllLists.{map_all, every_all, weaker_all}
 use Rattle.world_model.proofs.Ends.{sends_alike, handled_alike, cut_case, fallen_case}
 use Rattle.world_model.proofs.LinkLives.{no_test}
-use Rattle.world_model.proofs.AllLinks.{IsFront, Keeps}
+use Rattle.world_model.proofs.AllLinks.{Keeps}
 
 -- NOW ---------------------------------------------------------------------------------------------
 

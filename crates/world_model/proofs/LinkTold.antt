@@ -1,6 +1,6 @@
 -- The identifier that comes with a reply is of the connection's session.
-use Rattle.std.proofs.Common.{◌≡◌, refl, sym, ap, subst, ◌∙◌, Bool, true, false, ℕ, ◌+◌, ◌&&◌, ◌||◌, List, [], ◌∷◌, ◌++◌, map, filter_map, Option, Some, None, ◌⊎◌, inl, inr, if◌then◌else◌}
-use Rattle.std.specs.Prelude.{◌==◌, is_none, option_map}
+use Rattle.std.proofs.Common.{◌≡◌, refl, sym, subst, ◌∙◌, Bool, true, ℕ, ◌&&◌, List, [], ◌∷◌, ◌++◌, filter_map, Option, Some, None, ◌⊎◌, inl, inr}
+use Rattle.std.specs.Prelude.{is_none, option_map}
 use Rattle.std.specs.List.{list_all, cons_option}
 use Rattle.std.specs.Option.{option_or, option_map_or}
 use Rattle.std.proofs.lemmas.Bool.{and_parts, and_from, or_cases}
@@ -11,20 +11,19 @@ use Rattle.svc_values.specs.declared.entry.SessionId.{SessionId}
 use Rattle.svc_values.specs.declared.entry.Ltxid.{Ltxid}
 use Rattle.svc_values.specs.declared.frame.Down.{Down}
 use Rattle.svc_values.specs.declared.frame.Down.TheVariants as down
-use Rattle.svc_values.specs.Identifiers.{same_session, same_ltxid, session_of}
+use Rattle.svc_values.specs.Identifiers.{same_ltxid, session_of}
 use Rattle.svc_values.specs.Same.{same_answers, same_draws}
 use Rattle.client_model.specs.declared.input.Input.TheVariants.{Took}
 use Rattle.outage_schedule.specs.declared.item.Item.{Item}
 use Rattle.outage_schedule.specs.declared.item.Item.TheVariants as item
 use Rattle.outage_schedule.specs.declared.note.AskResult.{AskResult}
 use Rattle.outage_schedule.specs.declared.note.AskResult.TheVariants as told
-use Rattle.world_model.specs.Frames.{Sent, Reply, Handled}
+use Rattle.world_model.specs.Frames.{Reply, Handled}
 use Rattle.world_model.specs.Links.{Link, told_by}
 use Rattle.world_model.specs.Serving.{is_item_of, reply_of, outcome_frame}
 use Rattle.world_model.specs.Crashing.{is_crashed_item}
 use Rattle.world_model.specs.Sames.{same_sent, same_down, same_reply, is_front}
 use Rattle.world_model.specs.Wire.{reply_to, replies_of, is_reply_front, same_replies, is_handled, counted_with, handled_from}
-use Rattle.world_model.proofs.Tests.{session_self}
 use Rattle.world_model.proofs.LinkNamed.{is_of_one, held_of}
 
 -- the identifier in a frame, if one is there, is of the session

@@ -1,10 +1,6 @@
 -- What an event does to the state, kind by kind, with what holds where it does it.
-use Rattle.std.proofs.Common.{◌≡◌, refl, sym, ap, subst, ◌∙◌, Bool, true, false, ℕ, ◌+◌, ◌&&◌, length, List, [], ◌∷◌, ◌++◌, Option, Some, None, if◌then◌else◌}
-use Rattle.std.specs.Prelude.{option_and_then, not}
-use Rattle.std.proofs.lemmas.Bool.{and_parts}
+use Rattle.std.proofs.Common.{◌≡◌, refl, Bool, true, false, ℕ, ◌+◌, length, List, [], ◌∷◌, ◌++◌, Option, Some}
 use Rattle.svc_values.specs.declared.entry.Ltxid.{Ltxid}
-use Rattle.svc_values.specs.Same.{same_bool}
-use Rattle.pool_core.specs.declared.answers.Take.{Take}
 use Rattle.pool_core.specs.declared.answers.Take.TheVariants as take
 use Rattle.pool_core.specs.Slots.{Slots, take_answer, after_take, after_opened}
 use Rattle.client_model.specs.declared.input.Input.TheVariants.{Waiting, Lent, Opened, TryFailed, Took}
@@ -23,16 +19,15 @@ use Rattle.world_model.specs.Links.{Link, new_link, link_at, with_link, changed,
 use Rattle.world_model.specs.Clients.{Client, Doing, client_at, doing_of}
 use Rattle.world_model.specs.Machines.{Machine}
 use Rattle.world_model.specs.Acting.{steps, loses}
-use Rattle.world_model.specs.Noting.{only_if, same_did, same_name, name_of}
+use Rattle.world_model.specs.Noting.{only_if}
 use Rattle.world_model.specs.Matching.{Noted, Went, ServedOn, CutOff, Reaped, Crashed, OpeningStopped, Ticked, RanOutside, Asked, Drained}
 use Rattle.world_model.specs.Matching as noted_as
-use Rattle.world_model.specs.Going.{noted, unless_open}
+use Rattle.world_model.specs.Going.{unless_open}
 use Rattle.world_model.specs.Serving.{Front, front_at, is_ordinary, after_served}
 use Rattle.world_model.specs.Cutting.{open_at, after_cut, has_orphan, reaped_link}
 use Rattle.world_model.specs.Crashing.{is_stopped, is_over, falls, after_stopped}
 use Rattle.world_model.specs.Opening.{may_open, opened}
 use Rattle.world_model.specs.Outside.{ticked, after_asked, drained}
-use Rattle.world_model.specs.Walking.{After}
 
 -- where something is reached, the test is met
 pub only_met : {A : Type 0} (test : Bool) (a b : A) → only_if test a ≡ Some b → test ≡ true

@@ -1,5 +1,5 @@
 -- A connection keeps its name.
-use Rattle.std.proofs.Common.{◌≡◌, refl, sym, ap, subst, ◌∙◌, Bool, true, false, ℕ, ◌&&◌, List, [], ◌∷◌, ◌++◌, Option, Some, None}
+use Rattle.std.proofs.Common.{◌≡◌, refl, subst, ◌∙◌, Bool, true, false, ℕ, ◌&&◌, List, Option, Some, None}
 use Rattle.std.specs.Prelude.{◌==◌}
 use Rattle.std.proofs.lemmas.Bool.{and_parts}
 use Rattle.svc_values.specs.declared.entry.SessionId.{SessionId}
@@ -12,7 +12,7 @@ use Rattle.outage_schedule.specs.declared.item.Served.{Served}
 use Rattle.world_model.specs.Frames.{Handled}
 use Rattle.world_model.specs.Links.{Link}
 use Rattle.world_model.specs.Machines.{Machine}
-use Rattle.world_model.specs.Serving.{Front, is_ordinary, is_of_front, is_served_by, is_item_of, after_front}
+use Rattle.world_model.specs.Serving.{Front, is_of_front, is_served_by, is_item_of, after_front}
 use Rattle.world_model.specs.Crashing.{is_crashed_item}
 use Rattle.world_model.specs.Basic.{is_named, is_connect}
 use Rattle.world_model.specs.Hold as hold

@@ -1,8 +1,5 @@
 -- How the sessions grow in an event, and that it has one item at most.
-use Rattle.std.proofs.Common.{◌≡◌, refl, sym, ap, subst, ◌∙◌, Bool, true, false, ℕ, suc, zero, ◌+◌, ◌&&◌, List, [], ◌∷◌, ◌++◌, map, Option, Some, None, if◌then◌else◌, append-nil}
-use Rattle.std.specs.Prelude.{not, nat_le}
-use Rattle.std.specs.List.{list_all}
-use Rattle.std.proofs.lemmas.Bool.{and_parts}
+use Rattle.std.proofs.Common.{◌≡◌, refl, sym, ap, subst, ◌∙◌, Bool, true, false, ℕ, suc, zero, ◌+◌, List, [], ◌∷◌, ◌++◌, map, Some, None, if◌then◌else◌}
 use Rattle.std.proofs.lemmas.List.{map-append}
 use Rattle.svc_values.specs.declared.entry.SessionId.{SessionId}
 use Rattle.svc_values.specs.declared.entry.Ltxid.{Ltxid}
@@ -13,30 +10,24 @@ use Rattle.outage_schedule.specs.declared.item.Item.{Item}
 use Rattle.outage_schedule.specs.declared.item.Item.TheVariants as item
 use Rattle.outage_schedule.specs.declared.item.Served.{Served}
 use Rattle.run_clauses.specs.Outcomes.{is_uncommitted}
-use Rattle.world_model.specs.Settings.{Setting}
 use Rattle.world_model.specs.Frames.{Handled}
-use Rattle.world_model.specs.Links.{Link, with_link, sends}
+use Rattle.world_model.specs.Links.{Link, with_link}
 use Rattle.world_model.specs.Machines.{Server, Machine, next_session}
 use Rattle.world_model.specs.Matching.{Noted, RanOutside}
-use Rattle.world_model.specs.Serving.{Front, front_at, is_ordinary, is_of_front, is_item_of, is_served_by, server_after, handled, after_front}
-use Rattle.world_model.specs.Cutting.{cut_link, reaped_link}
-use Rattle.world_model.specs.Crashing.{is_stopped, is_over, is_crashed_item, has_stored, with_doubt, falls, fallen_link}
-use Rattle.world_model.specs.Outside.{after_asked, closed_by_drain}
+use Rattle.world_model.specs.Serving.{Front, is_of_front, is_served_by, server_after, handled, after_front}
+use Rattle.world_model.specs.Crashing.{with_doubt}
+use Rattle.world_model.specs.Outside.{after_asked}
 use Rattle.world_model.specs.Basic.{is_named, is_connect, item_events}
 use Rattle.world_model.specs.Hold as hold
-use Rattle.world_model.proofs.Kept.{IsSameServer}
-use Rattle.world_model.proofs.Tests.{same_session_is, le_from}
+use Rattle.world_model.proofs.Tests.{same_session_is}
 use Rattle.world_model.proofs.Inserted.{Inserted, found_set, found_same, flat_set}
-use Rattle.world_model.proofs.Census.{Census, next_of, Grows, Stands, Connects, Outside, Reopens}
+use Rattle.world_model.proofs.Census.{Census, next_of, Grows, Stands, Connects, Outside}
 use Rattle.world_model.proofs.Fronts.{connect_first}
 use Rattle.world_model.proofs.Ends.{handled_alike}
-use Rattle.world_model.proofs.LinkNamed.{named_test, unnamed, other_session, connect_item}
-use Rattle.world_model.proofs.NamesKept.{is_wired, wired_sent, wired_right, serving, crashed_item}
-use Rattle.world_model.proofs.Views.{IsAlike, sends_as, cut_as, view_with, view_changed, view_each, view_goes}
-use Rattle.world_model.proofs.SessionViews.{session_of_link, sessions_in, events_in, sessions_stay, events_stay, sessions_new, events_new, sessions_fall, events_fall}
-use Rattle.world_model.proofs.Servers.{goes_same}
-use Rattle.world_model.proofs.AllLinks.{at_link, IsFront, front_is, IsOpen, open_is}
-use Rattle.world_model.proofs.Moves.{makes_outside, Goes, ServesLast, LastNone, LastStopped, LastServed, Happens, Nothing, IsStep, Serves, Cuts, Reaps, Crashes, OpensUp, StopsOpening, Ticks, RunsOutside, Asks, Drains}
+use Rattle.world_model.proofs.LinkNamed.{named_test, unnamed, other_session}
+use Rattle.world_model.proofs.NamesKept.{is_wired, wired_sent, wired_right, serving}
+use Rattle.world_model.proofs.SessionViews.{session_of_link, sessions_in, events_in}
+use Rattle.world_model.proofs.AllLinks.{IsFront}
 
 -- COUNTS OF THE SERVER ----------------------------------------------------------------------------
 

@@ -1,5 +1,5 @@
 -- Sessions stay apart, made and counted, and no event has two items.
-use Rattle.std.proofs.Common.{◌≡◌, refl, sym, ap, subst, ◌∙◌, Bool, true, false, ℕ, ◌+◌, ◌<◌, ◌&&◌, ◌||◌, List, [], ◌∷◌, ◌++◌, map, Option, Some, None, append-nil, arith}
+use Rattle.std.proofs.Common.{◌≡◌, refl, sym, ap, subst, ◌∙◌, Bool, true, false, ℕ, ◌+◌, ◌<◌, ◌||◌, List, [], ◌∷◌, ◌++◌, Some, None, append-nil, arith}
 use Rattle.std.specs.Prelude.{not, nat_le}
 use Rattle.std.specs.List.{list_all}
 use Rattle.std.proofs.lemmas.Bool.{and_parts}
@@ -13,23 +13,23 @@ use Rattle.world_model.specs.Settings.{Setting}
 use Rattle.world_model.specs.Links.{Link, with_link, changed, sends}
 use Rattle.world_model.specs.Machines.{Server, Machine}
 use Rattle.world_model.specs.Matching.{Noted, RanOutside}
-use Rattle.world_model.specs.Serving.{Front, front_at, is_ordinary, is_of_front, is_item_of, server_after, handled, after_front}
+use Rattle.world_model.specs.Serving.{Front, is_ordinary, is_of_front, is_item_of, server_after, handled, after_front}
 use Rattle.world_model.specs.Cutting.{cut_link, after_cut, reaped_link}
-use Rattle.world_model.specs.Crashing.{is_stopped, is_over, is_crashed_item, has_stored, with_doubt, falls, fallen_link}
+use Rattle.world_model.specs.Crashing.{is_crashed_item, has_stored, with_doubt, falls}
 use Rattle.world_model.specs.Outside.{closed_by_drain, ticked, after_asked, drained}
 use Rattle.world_model.specs.Basic.{is_named, is_connect}
 use Rattle.world_model.specs.Hold as hold
 use Rattle.world_model.proofs.Kept.{IsSameServer}
 use Rattle.world_model.proofs.Tests.{le_from}
-use Rattle.world_model.proofs.Census.{Census, Grows, Stands, Reopens}
+use Rattle.world_model.proofs.Census.{Grows, Reopens}
 use Rattle.world_model.proofs.LinkNamed.{connect_item}
 use Rattle.world_model.proofs.NamesKept.{is_wired, crashed_item}
-use Rattle.world_model.proofs.Views.{IsAlike, sends_as, cut_as, view_with, view_changed, view_each, view_goes}
+use Rattle.world_model.proofs.Views.{sends_as, cut_as, view_with, view_changed, view_each, view_goes}
 use Rattle.world_model.proofs.SessionViews.{sessions_in, sessions_stay, sessions_new, sessions_fall}
-use Rattle.world_model.proofs.SessionsGrow.{IsServed, handled_is, stopped_is, census, made_by, stands_by, outside_by, served_grows, other_counts, doubt_counts, asked_counts, served_incarnation, doubt_incarnation, asked_incarnation}
+use Rattle.world_model.proofs.SessionsGrow.{handled_is, stopped_is, census, made_by, stands_by, outside_by, served_grows, other_counts, doubt_counts, asked_counts, served_incarnation, doubt_incarnation, asked_incarnation}
 use Rattle.world_model.proofs.Servers.{goes_same}
 use Rattle.world_model.proofs.AllLinks.{at_link, IsFront, front_is, IsOpen, open_is}
-use Rattle.world_model.proofs.Moves.{makes_outside, Goes, ServesLast, LastNone, LastStopped, LastServed, Happens, Nothing, IsStep, Serves, Cuts, Reaps, Crashes, OpensUp, StopsOpening, Ticks, RunsOutside, Asks, Drains}
+use Rattle.world_model.proofs.Moves.{makes_outside, ServesLast, LastNone, LastStopped, LastServed, Happens, Nothing, IsStep, Serves, Cuts, Reaps, Crashes, OpensUp, StopsOpening, Ticks, RunsOutside, Asks, Drains}
 
 none_made : (m : Machine) (happened : Noted) → makes_outside happened ≡ false → made_by m.server happened ≡ []
 none_made m (RanOutside (Some ran)) quiet = absurd (let never : ⊥ = cc in never)

@@ -1,12 +1,12 @@
 -- The steps of each request are of events and ticks so far, in order.
-use Rattle.std.proofs.Common.{◌≡◌, refl, sym, ap, subst, ◌∙◌, Bool, true, false, ℕ, ◌+◌, ◌≤◌, ◌&&◌, List, [], ◌∷◌, ◌++◌, map, Option, Some, None, arith, le_refl}
+use Rattle.std.proofs.Common.{◌≡◌, sym, subst, ◌∙◌, Bool, true, ℕ, ◌≤◌, ◌&&◌, List, [], ◌∷◌, ◌++◌, map, arith}
 use Rattle.std.specs.Prelude.{nat_le}
 use Rattle.std.specs.List.{list_all}
 use Rattle.std.proofs.lemmas.Bool.{and_parts, and_from}
 use Rattle.std.proofs.lemmas.List.{map-append}
 use Rattle.std.proofs.lemmas.List.Folds.{list_all-map}
 use Rattle.world_model.specs.Clients.{Step}
-use Rattle.world_model.specs.Sames.{each_pair, rise}
+use Rattle.world_model.specs.Sames.{rise}
 use Rattle.world_model.proofs.Tests.{le_from, le_to, pair_more}
 use Rattle.world_model.proofs.AllLists.{weaker_all, append_all, one_all}
 

@@ -1,47 +1,33 @@
 -- A request's conversation keeps ticks and events that are past, whatever it hears.
-use Rattle.std.proofs.Common.{◌≡◌, refl, sym, ap, subst, ◌∙◌, le_refl}
-use Rattle.std.specs.Prelude.{ℕ, ◌+◌, ◌-◌, Bool, true, false, not, ◌&&◌, ◌||◌, nat_le, List, [], ◌∷◌, ◌++◌, length, slice_get, Option, Some, None, option_map, unwrap_or, Result, Ok, Err, if◌then◌else◌, bytes_eq}
+use Rattle.std.proofs.Common.{◌≡◌, refl, sym, subst, le_refl}
+use Rattle.std.specs.Prelude.{ℕ, ◌+◌, ◌-◌, Bool, true, false, not, ◌&&◌, nat_le, List, [], ◌∷◌, length, Option, Some, None, Ok, Err, if◌then◌else◌, bytes_eq}
 use Rattle.std.specs.Option.{option_or, option_map_or}
 use Rattle.std.proofs.lemmas.Bool.{and_parts, and_from}
-use Rattle.svc_values.specs.declared.value.Value.{Value}
 use Rattle.svc_values.specs.declared.answer.Answer.{Answer}
 use Rattle.svc_values.specs.declared.answer.Answer.TheVariants as answer
 use Rattle.svc_values.specs.declared.draw.Draw.{Draw}
 use Rattle.svc_values.specs.declared.call.Call.{Call}
-use Rattle.svc_values.specs.declared.call.Call.TheVariants as call
 use Rattle.svc_values.specs.declared.entry.Ltxid.{Ltxid}
 use Rattle.svc_values.specs.declared.frame.Up.{Up}
-use Rattle.svc_values.specs.declared.frame.Up.TheVariants as up
 use Rattle.svc_values.specs.declared.frame.Ahead.TheVariants as ahead
 use Rattle.svc_values.specs.declared.frame.Down.{Down}
 use Rattle.svc_values.specs.declared.frame.Down.TheVariants as down
-use Rattle.svc_values.specs.SettingsList.{put_setting}
-use Rattle.canon_bytes.specs.DownBytes.{spell_down}
 use Rattle.request_bounds.specs.declared.rule.Why.{Why}
 use Rattle.request_bounds.specs.declared.rule.Why.TheVariants as why
 use Rattle.request_bounds.specs.declared.rule.After.{After}
 use Rattle.request_bounds.specs.declared.rule.After.TheVariants as after
-use Rattle.request_bounds.specs.Limits.{has_waited}
 use Rattle.call_recorder.specs.declared.recorded.Recorded.{Recorded}
-use Rattle.call_recorder.specs.Recording.{noted, purged}
 use Rattle.client_model.specs.declared.track.Track.{Track}
-use Rattle.client_model.specs.declared.track.Over.{Over}
-use Rattle.client_model.specs.declared.track.Mismatch.{Mismatch}
 use Rattle.client_model.specs.Told.{Told, told_of}
 use Rattle.client_model.specs.Told as told
-use Rattle.client_model.specs.States.{Living, Losing, Asking, Repeating, lost_by, asked_on, lost_again, lost_in_replay, resumed, next_of}
-use Rattle.client_model.specs.Verifying.{compared, submitted}
+use Rattle.client_model.specs.States.{Living, Losing, Asking, Repeating, asked_on, resumed, next_of}
+use Rattle.client_model.specs.Verifying.{submitted}
 use Rattle.client_model.specs.declared.input.Input.{Input}
 use Rattle.client_model.specs.declared.input.Input.TheVariants.{Start, Waiting, Lent, Opened, TryFailed, Took, Gone}
-use Rattle.client_model.specs.declared.input.Wants.{Wants}
-use Rattle.client_model.specs.declared.input.Wants.TheVariants as wants
-use Rattle.client_model.specs.declared.act.Act.{Act}
 use Rattle.client_model.specs.declared.act.Shown.{Shown}
-use Rattle.client_model.specs.declared.act.Hold.TheVariants.{Keep, GiveBack, Drop}
-use Rattle.client_model.specs.declared.act.Failed.{Failed}
-use Rattle.client_model.specs.declared.act.Failed.TheVariants.{Disabled, Mismatch as Differs, Incomplete, Retries, ReplayTimeout, Replays, PoolWait, Unknown, BadPeer}
+use Rattle.client_model.specs.declared.act.Failed.TheVariants.{Disabled, Retries, PoolWait}
 use Rattle.client_model.specs.Terms.{Terms, Talk, Phase, Idle, Unbegun, Queued, Seeking, Greeting, Asked, Running, Replaying, unsubmitted}
-use Rattle.client_model.specs.Talk.{Step, stands, fails, ends, begin_of, sends_call, sends_or_ends, goes_on, with_submitted, next_call, with_recorded, with_reply, with_counted, with_shown, recorded_as, talk_shown, bad_peer, on_hello, on_reply, sends_marked, repeats, on_compared, on_repeated, after_completed, on_completed, on_told, takes, lost_of, loses, waits_from, on_waiting, with_tried, on_try_failed, talk_step, is_set, quiet}
+use Rattle.client_model.specs.Talk.{stands, fails, begin_of, sends_call, sends_or_ends, goes_on, with_submitted, next_call, with_recorded, with_reply, with_shown, recorded_as, talk_shown, on_hello, on_reply, sends_marked, repeats, on_compared, on_repeated, after_completed, on_completed, on_told, takes, lost_of, loses, waits_from, with_tried, talk_step, quiet}
 use Rattle.client_model.specs.Told.{uncommitted, is_late, repeated, over, completed_on}
 use Rattle.client_model.specs.Verifying.{verified_more, mismatch}
 use Rattle.request_bounds.specs.declared.clocked.Clocked.{Clocked}
@@ -49,7 +35,7 @@ use Rattle.client_model.specs.Laws.{track_of}
 use Rattle.world_model.specs.Basic.{at_most}
 use Rattle.world_model.specs.Basic as basic
 use Rattle.world_model.specs.Lost.{Wanted, wanted_in}
-use Rattle.world_model.proofs.Tests.{le_to, le_from}
+use Rattle.world_model.proofs.Tests.{le_to}
 use Rattle.world_model.proofs.ClientsKept.{is_past_input}
 
 abbrev pub first_at_most : ℕ → Option Track → Bool

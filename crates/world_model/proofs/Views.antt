@@ -1,20 +1,18 @@
 -- What is read off the sessions and the items of all connections stays, but where a frame is served.
-use Rattle.std.proofs.Common.{◌≡◌, refl, sym, ap, subst, ◌∙◌, Bool, true, false, ℕ, suc, zero, List, [], ◌∷◌, ◌++◌, map, fold, Option, Some, None, if◌then◌else◌}
+use Rattle.std.proofs.Common.{◌≡◌, refl, ◌∙◌, Bool, true, false, ℕ, suc, zero, List, [], ◌∷◌, ◌++◌, map, fold, Option, Some, None, if◌then◌else◌}
 use Rattle.std.specs.Prelude.{slice_get, slice_set, unwrap_or}
 use Rattle.std.specs.Option.{option_map_or}
 use Rattle.client_model.specs.declared.input.Input.{Input}
 use Rattle.client_model.specs.declared.input.Input.TheVariants.{Waiting, Lent, Opened, TryFailed, Took, Gone}
-use Rattle.client_model.specs.declared.act.Act.{Act}
 use Rattle.pool_core.specs.Slots.{after_take}
 use Rattle.world_model.specs.Settings.{Setting}
 use Rattle.world_model.specs.Frames.{Sent}
 use Rattle.world_model.specs.Links.{Link, new_link, link_at, with_link, changed, sends, takes}
 use Rattle.world_model.specs.Clients.{Doing, doing_at, heard}
-use Rattle.world_model.specs.Acting.{acts, steps, act_at, sent_by, owner_at, call_in, frames_of, connection_of}
+use Rattle.world_model.specs.Acting.{steps, act_at, sent_by, owner_at, call_in, frames_of, connection_of}
 use Rattle.world_model.specs.Machines.{Machine}
 use Rattle.world_model.specs.Going.{lost_at_once}
-use Rattle.world_model.specs.Cutting.{cut_link, reaped_link}
-use Rattle.world_model.specs.Crashing.{fallen_link}
+use Rattle.world_model.specs.Cutting.{cut_link}
 use Rattle.world_model.proofs.Ends.{sends_alike, cut_case}
 use Rattle.world_model.proofs.Moves.{with_pool, with_new, next_number, takes_one, Goes, Rests, Waits, Lends, Opens, Fails, Takes, Loses}
 

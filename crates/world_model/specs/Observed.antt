@@ -1,5 +1,5 @@
 -- The state that a walk has come to, with the journal that the report tells of it: for tests, before the service is there.
-use Rattle.std.specs.Prelude.{ℕ, true, nat_le, List, [], ◌++◌, length, filter, flat_map, take, fold, Some}
+use Rattle.std.specs.Prelude.{ℕ, true, nat_le, List, ◌++◌, length, filter, flat_map, take, fold}
 use Rattle.svc_values.specs.declared.entry.Ltxid.{Ltxid}
 use Rattle.svc_values.specs.declared.entry.Entry.{Entry}
 use Rattle.outage_schedule.specs.declared.document.Document.{Document}
