@@ -2,19 +2,17 @@
 use Rattle.std.proofs.Common.{◌≡◌, List, [], ◌∷◌, ◌++◌, Bool, true, false, Some, if◌then◌else◌, refl, sym, ap, ◌∙◌, subst}
 use Rattle.std.specs.Option.{option_map}
 use Rattle.std.specs.Prelude.{Result, Ok, Err, IfOk}
-use Rattle.std.proofs.lemmas.List.Elements.{All-nil}
 use Rattle.svc_values.specs.declared.statement.Statement.{Statement}
 use Rattle.svc_values.specs.declared.call.Call.{Call}
 use Rattle.svc_values.specs.declared.call.Call.TheVariants as call
 use Rattle.svc_values.specs.declared.answer.Answer.{Answer}
 use Rattle.svc_values.specs.Endings.{ends_committed}
-use Rattle.svc_values.specs.Tables.{rows_at, with_writes}
+use Rattle.svc_values.specs.Tables.{with_writes}
 use Rattle.stmt_meaning.specs.Meaning.{Meant, mean}
 use Rattle.stmt_meaning.specs.Laws.{closed_by}
 use Rattle.stmt_meaning.proofs.Offered.{commits_last, mean-tables}
 use Rattle.svc_values.proofs.Offered.{with_writes-append}
 use Rattle.table_store.specs.Stored.{Stored}
-use Rattle.stmt_meaning.specs.Reads.{Read}
 use Rattle.table_txn.specs.Transactions.{Transaction}
 use Rattle.continuity_run.specs.declared.run.Progress.{Progress}
 use Rattle.continuity_run.specs.Progress.{shape_now, run_seen, IsAlone, HasWorked, IsNoted, IsCommitted, IsNext}
@@ -58,7 +56,7 @@ noted_next old statements commit t answers all new w alone closed ends n =
       stepped = steps old (call.Work statements commit) meant (run_seen new) (call_means old statements commit t answers w)
           (stepped_by (run_seen old) (call.Work statements commit) meant false (sym (ap ends_committed same) ∙ ends) (run_seen new) is);
       alone = subst (λ (tr : Transaction). IsAlone new.tables tr) (sym n.noted)
-          (subst (λ (tables : Stored). IsAlone tables now) (sym n.same_tables) (record { fitting = alone.fitting; reads = alone.reads; notes = alone.notes; unchanged = alone.unchanged }));
+          (subst (λ (tables : Stored). IsAlone tables now) (sym n.same_tables) (record { fitting = alone.fitting; unchanged = alone.unchanged }));
       same_shape = ap (λ (tables : Stored). tables.schemas) n.same_tables;
     }
 
@@ -73,7 +71,7 @@ committed_next old statements commit t answers all new w closed ends n =
     record {
       stepped = steps old (call.Work statements commit) meant (run_seen new) (call_means old statements commit t answers w)
           (stepped_by (run_seen old) (call.Work statements commit) meant true (sym (ap ends_committed same) ∙ ends) (run_seen new) is);
-      alone = subst (λ (tr : Transaction). IsAlone new.tables tr) (sym n.next) (record { fitting = refl; reads = []; notes = λ at. tt; unchanged = All-nil (λ (read : Read). rows_at new.tables.rows read.at ≡ read.found) });
+      alone = subst (λ (tr : Transaction). IsAlone new.tables tr) (sym n.next) (record { fitting = refl; unchanged = λ at. tt });
       same_shape = ap (λ (tables : Stored). tables.schemas) n.tables;
     }
 

@@ -1,23 +1,18 @@
 -- Statements that ask for no draw, in the transaction of a session beside which none commits.
-use Rattle.std.proofs.Common.{◌≡◌, ℕ, List, [], ◌∷◌, ◌++◌, true, false, Option, Some, None, refl, sym, ◌∙◌, subst, IsTrue}
-use Rattle.std.specs.List.{list_all, AllByRecursion}
+use Rattle.std.proofs.Common.{◌≡◌, ℕ, List, [], ◌∷◌, ◌++◌, true, false, Option, Some, None, refl, sym, ◌∙◌, subst}
+use Rattle.std.specs.List.{list_all}
 use Rattle.std.specs.Option.{option_map}
-use Rattle.std.proofs.lemmas.List.Elements.{All-append, All-from_recursion}
 use Rattle.svc_values.specs.declared.draw.Draw.{Draw}
 use Rattle.svc_values.specs.declared.draw.DrawKind.{DrawKind}
 use Rattle.svc_values.specs.declared.statement.Statement.{Statement}
 use Rattle.svc_values.specs.declared.answer.Answer.{Answer}
-use Rattle.svc_values.specs.declared.tables.PlainRow.{PlainRow}
-use Rattle.svc_values.specs.declared.tables.Place.{Place}
-use Rattle.svc_values.specs.Tables.{rows_at, with_writes}
-use Rattle.svc_values.specs.Fitting.{writes_fit}
+use Rattle.svc_values.specs.Tables.{with_writes}
 use Rattle.stmt_meaning.specs.Drawing.{AsksNext}
 use Rattle.stmt_meaning.specs.Meaning.{Meant}
 use Rattle.table_store.specs.Stored.{Stored}
-use Rattle.stmt_meaning.specs.Reads.{Read, reads_at}
 use Rattle.table_txn.specs.Transactions.{Transaction, HasRun, meaning, shape_of}
 use Rattle.continuity_run.specs.DocumentForm.{has_literals}
-use Rattle.continuity_run.specs.Progress.{IsAlone, HasWorked}
+use Rattle.continuity_run.specs.Progress.{HasWorked}
 use Rattle.continuity_run.proofs.Literals.{literals_leave}
 use Rattle.svc_values.specs.SettingsList.{NamedValues}
 
@@ -33,20 +28,6 @@ worked tables names settings old statements answers draws new none literal ran =
       wrote = ran.wrote;
       same_pieces = ran.same_pieces;
     }
-
--- what is read now is so now
-unchanged_now : (rows : List PlainRow) (places : List Place) → AllByRecursion (λ (read : Read). rows_at rows read.at ≡ read.found) (reads_at rows places)
-unchanged_now rows [] = tt
-unchanged_now rows (at ∷ places) = (refl, unchanged_now rows places)
-
-pub still_alone : (tables : Stored) (names : List (List ℕ)) (settings : NamedValues) (old : Transaction) (statements : List Statement) (answers : List Answer) (draws : List Draw) (new : Transaction)
-    → IsAlone tables old → IsTrue (writes_fit tables.schemas new.writes) → HasRun tables names settings old statements answers draws new → IsAlone tables new
-still_alone tables names settings old statements answers draws new alone fitting ran = record {
-  fitting = fitting;
-  reads = alone.reads ++ reads_at tables.rows ran.meant.reads;
-  notes = ran.noted alone.reads alone.notes;
-  unchanged = All-append (λ (read : Read). rows_at tables.rows read.at ≡ read.found) alone.reads (reads_at tables.rows ran.meant.reads) alone.unchanged (All-from_recursion (λ (read : Read). rows_at tables.rows read.at ≡ read.found) (reads_at tables.rows ran.meant.reads) (unchanged_now tables.rows ran.meant.reads));
-}
 
 none_behind : (given more : List Draw) → given ++ more ≡ [] → more ≡ []
 none_behind [] more e = e

@@ -1,5 +1,5 @@
 -- The code's run so far, seen as a run.
-use Rattle.std.specs.Prelude.{◌≡◌, ◌+◌, List, [], ◌∷◌, ◌++◌, All, IsTrue, Some, length, false}
+use Rattle.std.specs.Prelude.{◌≡◌, ◌+◌, List, [], ◌∷◌, ◌++◌, IsTrue, Some, length, false}
 use Rattle.svc_values.specs.declared.schema.Shape.{Shape}
 use Rattle.svc_values.specs.declared.statement.Statement.{Statement}
 use Rattle.svc_values.specs.declared.call.Call.{Call}
@@ -7,12 +7,11 @@ use Rattle.svc_values.specs.declared.call.Call.TheVariants as call
 use Rattle.svc_values.specs.declared.answer.Answer.{Answer}
 use Rattle.svc_values.specs.Calls.{is_lone_commit}
 use Rattle.svc_values.specs.declared.tables.PlainRow.{PlainRow}
-use Rattle.svc_values.specs.Tables.{rows_at, with_writes}
+use Rattle.svc_values.specs.Tables.{with_writes}
 use Rattle.svc_values.specs.Fitting.{writes_fit}
 use Rattle.stmt_meaning.specs.Meaning.{Meant, mean}
 use Rattle.table_store.specs.Stored.{Stored}
-use Rattle.stmt_meaning.specs.Reads.{Read}
-use Rattle.table_txn.specs.Notes.{AreNotes}
+use Rattle.table_txn.specs.Readings.{AreUnchanged}
 use Rattle.table_txn.specs.Transactions.{Transaction, empty}
 use Rattle.continuity_run.specs.declared.run.Progress.{Progress}
 use Rattle.continuity_run.specs.Run.{Run, step, identifier}
@@ -38,12 +37,10 @@ run_seen progress = record {
   shown = progress.shown;
 }
 
--- A transaction beside which none commits: its writes fit the tables, and no place that it read has other rows now.
+-- A transaction beside which none commits: its writes fit the tables, and each place that it read has what it had.
 pub record IsAlone (tables : Stored) (transaction : Transaction) : Type 0 where
   pub fitting : IsTrue (writes_fit tables.schemas transaction.writes)
-  pub reads : List Read
-  pub notes : AreNotes transaction.notes reads
-  pub unchanged : All (λ read. rows_at tables.rows read.at ≡ read.found) reads
+  pub unchanged : AreUnchanged tables.rows transaction.readings
 
 -- statements that were run without a draw
 pub record HasWorked (tables : Stored) (settings : NamedValues) (old : Transaction) (statements : List Statement) (answers : List Answer) (new : Transaction) : Type 0 where

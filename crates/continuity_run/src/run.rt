@@ -74,7 +74,7 @@ fn run_statements(
     ensures alone { OnOk result (IsAlone tables.now transaction.new) }
 {
     let mut none = ListDraws::new(Names::new(alloc), Draws::new(alloc));
-    match transaction.run(tables, settings, statements, &mut none) {
+    match transaction.run_unchanged(tables, settings, statements, &mut none) {
         Ok(ran) => Ok(ran.answers),
         Err(TxnFault::NoMemory) => Err(NoMemory),
         Err(TxnFault::Stopped) => unreachable!(),
@@ -130,7 +130,7 @@ fn noted(
 }
 
 /// Commits the transaction of which this call is the last. No other session commits, so nothing that it
-/// read has changed.
+/// read has changed. What it read is given up before its writes are applied, so that they copy no table.
 fn committed(
     alloc: Global,
     progress: Progress,
@@ -148,14 +148,11 @@ fn committed(
         mut entries,
         mut shown,
     } = progress;
-    if transaction.conflicts(&tables).is_some() {
-        unreachable!();
-    }
     let commits = entries.len() as u64;
     let next = commits.checked_add(1).ok_or(NoMemory)?;
     transaction.note(piece_of(alloc, call, &answers)?)?;
-    tables.apply(transaction.writes())?;
     let (pieces, writes) = transaction.into_parts();
+    tables.apply(&writes)?;
     let entry = Entry {
         ltxid: identifier(commits),
         completed: call.is_lone_commit(),

@@ -1,6 +1,6 @@
 -- One change of the maps is a write to the tables.
 use Rattle.std.proofs.Common.{◌≡◌, ◌⊎◌, inl, inr, ℕ, Bool, true, false, cond, List, [], ◌∷◌, refl, sym, ◌∙◌, ap, subst}
-use Rattle.std.specs.Prelude.{Option, Some, None, Result, Ok, Err, OnOk, OnErr, IsSome, filter, not, ◌&&◌}
+use Rattle.std.specs.Prelude.{Option, Some, None, IsSome, filter, not, ◌&&◌}
 use Rattle.std.specs.List.{AllByRecursion, list_all}
 use Rattle.std.specs.declared.cmp.Ordering.TheVariants.{Less, Equal, Greater}
 use Rattle.std.specs.Ordering.{nat_cmp, is_eq, match_ordering}
@@ -141,14 +141,6 @@ all_with_write p tables table key (Some row) all here =
     all_put p (record { table = table; key = key; row = row }) (without tables table key) here (all_filtered p (λ r. not (is_at (place.Row table key) r)) tables all)
 
 -- ---- changes through what `get_mut` lends
-
-pub on_ok : {A E : Type 0} {P Q : Type 0} (r : Result A E) → (P → Q) → OnOk r P → OnOk r Q
-on_ok (Ok x) f h = f h
-on_ok (Err e) f h = tt
-
-pub on_err : {A E : Type 0} {P Q : Type 0} (r : Result A E) → (P → Q) → OnErr r P → OnErr r Q
-on_err (Ok x) f h = tt
-on_err (Err e) f h = f h
 
 -- a map that was changed where it stands
 pub changed_there : (old new : BTreeMap (List ℕ) Keyed) (table : List ℕ) (key : Value) (row : Option (List Value)) (kept after : Keyed)

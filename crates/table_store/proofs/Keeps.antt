@@ -1,5 +1,6 @@
 -- Stored tables stay ordered and fit what is declared.
 use Rattle.std.proofs.Common.{◌≡◌, ℕ, ◌+◌, ◌<◌, Bool, true, List, [], ◌∷◌, ◌++◌, length, take, get_or, refl, sym, ◌∙◌, ap, subst}
+use Rattle.std.proofs.lemmas.Result.{on_ok_weaker}
 use Rattle.std.proofs.lemmas.List.{take_more}
 use Rattle.std.specs.Map.{values_of}
 use Rattle.std.specs.Prelude.{Option, Some, None, Result, Ok, Err, OnOk, OnErr, IfOk, IsTrue, map, not}
@@ -20,7 +21,7 @@ use Rattle.table_store.specs.Stored.{Stored, IsStored, AreKept, AreApart}
 use Rattle.table_store.proofs.Alike.{filter_pass, filter_skip}
 use Rattle.table_store.proofs.Writes.{not_at_first, filter_put_other}
 use Rattle.table_store.proofs.Maps.{ordered_all}
-use Rattle.table_store.proofs.Changes.{FitsIfAny, rows_changed, all_with_write, on_ok, both_true}
+use Rattle.table_store.proofs.Changes.{FitsIfAny, rows_changed, all_with_write, both_true}
 
 abbrev pub fits_one : List Schema → PlainRow → Bool
 fits_one schemas one = is_row_of (schema_of schemas one.table) one.key one.row
@@ -44,7 +45,7 @@ pub seen_changed : {A E : Type 0} (r : Result A E) (schemas : List Schema) (old 
     → IsShelved old → IsShelved new → OnOk r (Changes old table key row new)
     → OnOk r (◌≡◌ {A = Stored} (record { schemas = schemas; rows = all_rows new }) (record { schemas = seen.schemas; rows = with_write seen.rows (record { table = table; key = key; row = row }) }))
 seen_changed r schemas old new seen table key row view shelved shelved_new changed =
-    on_ok r
+    on_ok_weaker r
     (λ h. ap (λ (rows : List PlainRow). let s : Stored = record { schemas = schemas; rows = rows } in s) (rows_changed old new table key row shelved shelved_new h)
     ∙ ap (λ (s : Stored). let t : Stored = record { schemas = s.schemas; rows = with_write s.rows (record { table = table; key = key; row = row }) } in t) view)
     changed

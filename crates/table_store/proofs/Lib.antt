@@ -5,3 +5,4 @@ pub mod Maps
 pub mod Changes
 pub mod Keeps
 pub mod ValueCmp
+pub mod Offered

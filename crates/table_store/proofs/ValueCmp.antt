@@ -1,35 +1,17 @@
--- `cmp` of values is their order.
-use Rattle.std.proofs.Common.{◌≡◌, refl, List, cond, subst, ap, ◌∙◌}
+-- What a map that is ordered by `cmp` has at a key.
+use Rattle.std.proofs.Common.{◌≡◌, List, cond, subst, ap, ◌∙◌}
 use Rattle.std.specs.Prelude.{Option}
 use Rattle.std.specs.BTreeMap.{is_at}
 use Rattle.std.specs.Map.{lookup}
 use Rattle.std.specs.declared.cmp.Ordering.{Ordering}
 use Rattle.std.specs.Ordering.{is_eq}
 use Rattle.svc_values.specs.declared.value.Value.{Value}
-use Rattle.svc_values.specs.declared.value.Value.TheVariants as value
 use Rattle.svc_values.specs.contracts.value.ValueOrd.TheImpl.{cmp-value}
 use Rattle.svc_values.specs.Order.{value_cmp}
+use Rattle.svc_values.proofs.Offered.{cmp_is}
 use Rattle.table_store.specs.Rows.{Keyed, keyed_of}
 
-abbrev derived : Value → Value → Ordering
-derived = cmp-value.it
-
-by_kind : (a b : Value) → derived a b ≡ value_cmp a b
-by_kind (value.Int a) (value.Int b) = refl
-by_kind (value.Int a) (value.Text b) = refl
-by_kind (value.Int a) (value.Bytes b) = refl
-by_kind (value.Text a) (value.Int b) = refl
-by_kind (value.Text a) (value.Text b) = refl
-by_kind (value.Text a) (value.Bytes b) = refl
-by_kind (value.Bytes a) (value.Int b) = refl
-by_kind (value.Bytes a) (value.Text b) = refl
-by_kind (value.Bytes a) (value.Bytes b) = refl
-
--- the derived comparison is the order of values
-pub cmp_is : ◌≡◌ {A = Value → Value → Ordering} cmp-value.it value_cmp
-cmp_is = λ i a b. by_kind a b i
-
--- what a map that is ordered by `cmp` has at a key after a change
+-- after a change
 pub keyed_changed : (new map old : Keyed) (key : Value) (row : Option (List Value)) (q : Value) → map ≡ old
     → lookup (is_at (cmp-value.it q)) new ≡ cond (is_at (cmp-value.it key) q) row (lookup (is_at (cmp-value.it q)) map)
     → keyed_of new q ≡ cond (is_eq (value_cmp key q)) row (keyed_of old q)

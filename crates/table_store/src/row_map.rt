@@ -1,5 +1,5 @@
 //! The rows of one table.
-ghost use Rattle.std.specs.Prelude.{◌≡◌, None, OnOk, OnErr, IfOk, [], if◌then◌else◌};
+ghost use Rattle.std.specs.Prelude.{◌≡◌, ◌<◌, ◌^◌, None, OnOk, OnErr, IfOk, [], length, if◌then◌else◌};
 ghost use Rattle.std.specs.Option.{option_copied};
 ghost use Rattle.std.specs.Ordering.{is_eq};
 ghost use Rattle.svc_values.specs.Order.{value_cmp};
@@ -43,6 +43,14 @@ impl RowMap {
         ensures { option_copied result ≡ keyed_of self.now key.now }
     {
         self.rows.get(key)
+    }
+
+    /// How many rows.
+    pub fn len(&self) -> usize
+        ensures is_length { result ≡ length self.now }
+        ensures small { result < 2 ^ 63 }
+    {
+        self.rows.len()
     }
 
     /// The rows as a map, to be gone over.

@@ -1,4 +1,4 @@
--- What is kept of places, as notes.
+-- What is kept of places, as readings.
 use Rattle.std.proofs.Common.{◌≡◌, ◌⊎◌, inl, inr, ℕ, Bool, true, false, not, cond, List, [], ◌∷◌, get_or, refl, sym, ap, ◌∙◌, subst}
 use Rattle.std.specs.Prelude.{Option, Some, None, IsSome, option_map, ◌&&◌, ◌||◌}
 use Rattle.std.specs.List.{All}
@@ -22,9 +22,9 @@ use Rattle.svc_values.specs.Tables.{rows_at}
 use Rattle.table_store.specs.Rows.{Keyed, plain_rows, row_if_any}
 use Rattle.table_txn.specs.declared.found.Found.{Found}
 use Rattle.table_txn.specs.declared.found.Found.TheVariants as found
-use Rattle.table_txn.specs.declared.notes.Noted.{Noted}
-use Rattle.table_txn.specs.Notes.{Note, note_of, noted, HasNoted, AreApart, first_changed}
-use Rattle.table_txn.specs.Found.{is_for, found_rows, same_optional, same_keyed, same_found, IsFoundAt, note, notes_of, are_for, IsNoted}
+use Rattle.table_txn.specs.declared.readings.ReadPlace.{ReadPlace}
+use Rattle.table_txn.specs.Readings.{Reading, reading_of, read_more, HasRead, AreApart, first_changed}
+use Rattle.table_txn.specs.Found.{is_for, found_rows, same_optional, same_keyed, same_found, IsFoundAt, reading, readings_of, are_for, IsRead}
 use Rattle.table_txn.proofs.Same.{both, both_if, cmp_place_is, same_place_decides, same_place_sym}
 
 -- ---- what is compared as the same
@@ -64,78 +64,78 @@ same_found_is (place.Table table) (found.Row a) b h k = cc
 same_found_is (place.Table table) (found.Table a) (found.Row b) h k = cc
 same_found_is (place.Table table) (found.Table a) (found.Table b) h k = same_tables_of table a b
 
--- ---- notes by their maps
+-- ---- readings by their maps
 
-abbrev Entries : Type 0
-Entries = List (Place × Noted)
+abbrev pub Entries : Type 0
+Entries = List (Place × ReadPlace)
 
-abbrev looked_up : Entries → Place → Option Noted
+abbrev pub looked_up : Entries → Place → Option ReadPlace
 looked_up entries q = lookup (is_at (cmp-place.it q)) entries
 
 at_key : (q p : Place) → is_at (cmp-place.it q) p ≡ same_place p q
 at_key q p = cmp_place_is q p ∙ same_place_sym q p
 
--- the note of a place is that of its entry
-pub note_of-lookup : (entries : Entries) (q : Place) → note_of (notes_of entries) q ≡ option_map (λ one. note (q, one)) (looked_up entries q)
-note_of-lookup [] q = refl
-note_of-lookup (entry ∷ rest) q = by_place (note_of-lookup rest q) (cases_Bool (same_place entry.0 q))
+-- the reading of a place is that of its entry
+pub reading_of-lookup : (entries : Entries) (q : Place) → reading_of (readings_of entries) q ≡ option_map (λ one. reading (q, one)) (looked_up entries q)
+reading_of-lookup [] q = refl
+reading_of-lookup (entry ∷ rest) q = by_place (reading_of-lookup rest q) (cases_Bool (same_place entry.0 q))
   where
-    by_place : note_of (notes_of rest) q ≡ option_map (λ one. note (q, one)) (looked_up rest q) → (same_place entry.0 q ≡ true) ⊎ (same_place entry.0 q ≡ false) → note_of (notes_of (entry ∷ rest)) q ≡ option_map (λ one. note (q, one)) (looked_up (entry ∷ rest) q)
+    by_place : reading_of (readings_of rest) q ≡ option_map (λ one. reading (q, one)) (looked_up rest q) → (same_place entry.0 q ≡ true) ⊎ (same_place entry.0 q ≡ false) → reading_of (readings_of (entry ∷ rest)) q ≡ option_map (λ one. reading (q, one)) (looked_up (entry ∷ rest) q)
     by_place others (inl here) =
         let same : entry.0 ≡ q = (same_place_decides entry.0 q).0 here in
-        ap (λ b. cond b (Some (note entry)) (note_of (notes_of rest) q)) here
-        ∙ ap (λ (p : Place). Some (note (p, entry.1))) same
-        ∙ sym (ap (λ b. option_map (λ one. note (q, one)) (cond b (Some entry.1) (looked_up rest q))) (at_key q entry.0 ∙ here))
+        ap (λ b. cond b (Some (reading entry)) (reading_of (readings_of rest) q)) here
+        ∙ ap (λ (p : Place). Some (reading (p, entry.1))) same
+        ∙ sym (ap (λ b. option_map (λ one. reading (q, one)) (cond b (Some entry.1) (looked_up rest q))) (at_key q entry.0 ∙ here))
     by_place others (inr apart) =
-        ap (λ b. cond b (Some (note entry)) (note_of (notes_of rest) q)) apart
+        ap (λ b. cond b (Some (reading entry)) (reading_of (readings_of rest) q)) apart
         ∙ others
-        ∙ sym (ap (λ b. option_map (λ one. note (q, one)) (cond b (Some entry.1) (looked_up rest q))) (at_key q entry.0 ∙ apart))
+        ∙ sym (ap (λ b. option_map (λ one. reading (q, one)) (cond b (Some entry.1) (looked_up rest q))) (at_key q entry.0 ∙ apart))
 
 -- a change of one entry
-has_noted : (old new : Entries) (at : Place) (one : Noted) (what : Found) → ((q : Place) → looked_up new q ≡ cond (is_at (cmp-place.it at) q) (Some one) (looked_up old q))
-    → Some (note (at, one)) ≡ Some (noted (note_of (notes_of old) at) at (found_rows at what)) → HasNoted (notes_of old) at (found_rows at what) (notes_of new)
-has_noted old new at one what changed is q = by_place (cases_Bool (same_place at q))
+has_read : (old new : Entries) (at : Place) (one : ReadPlace) (what : Found) → ((q : Place) → looked_up new q ≡ cond (is_at (cmp-place.it at) q) (Some one) (looked_up old q))
+    → Some (reading (at, one)) ≡ Some (read_more (reading_of (readings_of old) at) at (found_rows at what)) → HasRead (readings_of old) at (found_rows at what) (readings_of new)
+has_read old new at one what changed is q = by_place (cases_Bool (same_place at q))
   where
-    made : Note
-    made = noted (note_of (notes_of old) at) at (found_rows at what)
+    made : Reading
+    made = read_more (reading_of (readings_of old) at) at (found_rows at what)
 
-    there : note_of (notes_of new) q ≡ option_map (λ n. note (q, n)) (cond (same_place at q) (Some one) (looked_up old q))
-    there = note_of-lookup new q ∙ ap (option_map (λ n. note (q, n))) (changed q ∙ ap (λ b. cond b (Some one) (looked_up old q)) (cmp_place_is at q))
+    there : reading_of (readings_of new) q ≡ option_map (λ n. reading (q, n)) (cond (same_place at q) (Some one) (looked_up old q))
+    there = reading_of-lookup new q ∙ ap (option_map (λ n. reading (q, n))) (changed q ∙ ap (λ b. cond b (Some one) (looked_up old q)) (cmp_place_is at q))
 
-    by_place : (same_place at q ≡ true) ⊎ (same_place at q ≡ false) → note_of (notes_of new) q ≡ cond (same_place at q) (Some made) (note_of (notes_of old) q)
+    by_place : (same_place at q ≡ true) ⊎ (same_place at q ≡ false) → reading_of (readings_of new) q ≡ cond (same_place at q) (Some made) (reading_of (readings_of old) q)
     by_place (inl here) =
         let same : at ≡ q = (same_place_decides at q).0 here in
-        there ∙ ap (λ b. option_map (λ n. note (q, n)) (cond b (Some one) (looked_up old q))) here
-        ∙ ap (λ (p : Place). Some (note (p, one))) (sym same) ∙ is
-        ∙ sym (ap (λ b. cond b (Some made) (note_of (notes_of old) q)) here)
+        there ∙ ap (λ b. option_map (λ n. reading (q, n)) (cond b (Some one) (looked_up old q))) here
+        ∙ ap (λ (p : Place). Some (reading (p, one))) (sym same) ∙ is
+        ∙ sym (ap (λ b. cond b (Some made) (reading_of (readings_of old) q)) here)
     by_place (inr apart) =
-        there ∙ ap (λ b. option_map (λ n. note (q, n)) (cond b (Some one) (looked_up old q))) apart
-        ∙ sym (note_of-lookup old q)
-        ∙ sym (ap (λ b. cond b (Some made) (note_of (notes_of old) q)) apart)
+        there ∙ ap (λ b. option_map (λ n. reading (q, n)) (cond b (Some one) (looked_up old q))) apart
+        ∙ sym (reading_of-lookup old q)
+        ∙ sym (ap (λ b. cond b (Some made) (reading_of (readings_of old) q)) apart)
 
--- ---- each note has what its place may have
+-- ---- each reading has what its place may have
 
-abbrev fits : Place × Noted → Bool
+abbrev fits : Place × ReadPlace → Bool
 fits entry = is_for entry.0 entry.1.found
 
-lookup_fits : (entries : Entries) (at : Place) (one : Noted) → are_for entries ≡ true → looked_up entries at ≡ Some one → is_for at one.found ≡ true
+lookup_fits : (entries : Entries) (at : Place) (one : ReadPlace) → are_for entries ≡ true → looked_up entries at ≡ Some one → is_for at one.found ≡ true
 lookup_fits [] at one all there = cc
 lookup_fits (entry ∷ rest) at one all there = by_place (lookup_fits rest at one) (cases_Bool (is_at (cmp-place.it at) entry.0))
   where
     parts : (fits entry ≡ true) × (are_for rest ≡ true)
     parts = both (fits entry) (are_for rest) all
 
-    some_inj : (a b : Noted) → ◌≡◌ {A = Option Noted} (Some a) (Some b) → a ≡ b
+    some_inj : (a b : ReadPlace) → ◌≡◌ {A = Option ReadPlace} (Some a) (Some b) → a ≡ b
     some_inj a b e = cc
 
     by_place : (are_for rest ≡ true → looked_up rest at ≡ Some one → is_for at one.found ≡ true) → (is_at (cmp-place.it at) entry.0 ≡ true) ⊎ (is_at (cmp-place.it at) entry.0 ≡ false) → is_for at one.found ≡ true
     by_place others (inl here) =
         let same : entry.0 ≡ at = (same_place_decides entry.0 at).0 (sym (at_key at entry.0) ∙ here) in
         let is : entry.1 ≡ one = some_inj entry.1 one (sym (ap (λ b. cond b (Some entry.1) (looked_up rest at)) here) ∙ there) in
-        subst (λ (p : Place). is_for p one.found ≡ true) same (subst (λ (n : Noted). is_for entry.0 n.found ≡ true) is parts.0)
+        subst (λ (p : Place). is_for p one.found ≡ true) same (subst (λ (n : ReadPlace). is_for entry.0 n.found ≡ true) is parts.0)
     by_place others (inr apart) = others parts.1 (sym (ap (λ b. cond b (Some entry.1) (looked_up rest at)) apart) ∙ there)
 
-set_fits : (entries : Entries) (at : Place) (one : Noted) → are_for entries ≡ true → is_for at one.found ≡ true → are_for (set_value (is_at (cmp-place.it at)) entries one) ≡ true
+set_fits : (entries : Entries) (at : Place) (one : ReadPlace) → are_for entries ≡ true → is_for at one.found ≡ true → are_for (set_value (is_at (cmp-place.it at)) entries one) ≡ true
 set_fits [] at one all here = refl
 set_fits (entry ∷ rest) at one all fit = by_place (λ h. set_fits rest at one h fit) (cases_Bool (is_at (cmp-place.it at) entry.0))
   where
@@ -151,7 +151,7 @@ set_fits (entry ∷ rest) at one all fit = by_place (λ h. set_fits rest at one 
         ap (λ b. are_for (cond b ((entry.0, one) ∷ rest) (entry ∷ set_value (is_at (cmp-place.it at)) rest one))) apart
         ∙ both_if (fits entry) (are_for (set_value (is_at (cmp-place.it at)) rest one)) parts.0 (others parts.1)
 
-insert_fits : (entries : Entries) (at : Place) (one : Noted) → are_for entries ≡ true → is_for at one.found ≡ true → are_for (insert_entry cmp-place.it entries at one) ≡ true
+insert_fits : (entries : Entries) (at : Place) (one : ReadPlace) → are_for entries ≡ true → is_for at one.found ≡ true → are_for (insert_entry cmp-place.it entries at one) ≡ true
 insert_fits [] at one all fit = both_if (is_for at one.found) true fit refl
 insert_fits (entry ∷ rest) at one all fit = by_order (λ h. insert_fits rest at one h fit) (cmp-place.it at entry.0) refl
   where
@@ -167,48 +167,48 @@ insert_fits (entry ∷ rest) at one all fit = by_order (λ h. insert_fits rest a
 
 -- ---- one more read
 
--- of a place that was noted before
-pub noted_again : (old new : BTreeMap Place Noted) (at : Place) (there one : Noted) (what : Found) → are_for old.entries ≡ true → is_for at what ≡ true → Some there ≡ looked_up old.entries at
-    → one ≡ record { found = there.found; is_torn = there.is_torn || not (same_found there.found what) } → WritesThrough cmp-place.it (cmp-place.it at) old one new → IsNoted old.entries at what new.entries
-noted_again old new at there one what all kind found is written = record {
-  has = has_noted old.entries new.entries at one what ((written.3 (subst IsSome found refl)).0)
-      (ap (λ (n : Noted). Some (note (at, n))) is
+-- of a place that was read_more before
+pub again_read : (old new : BTreeMap Place ReadPlace) (at : Place) (there one : ReadPlace) (what : Found) → are_for old.entries ≡ true → is_for at what ≡ true → Some there ≡ looked_up old.entries at
+    → one ≡ record { found = there.found; is_torn = there.is_torn || not (same_found there.found what) } → WritesThrough cmp-place.it (cmp-place.it at) old one new → IsRead old.entries at what new.entries
+again_read old new at there one what all kind found is written = record {
+  has = has_read old.entries new.entries at one what ((written.3 (subst IsSome found refl)).0)
+      (ap (λ (n : ReadPlace). Some (reading (at, n))) is
       ∙ ap (λ b. Some (record { at = at; found = found_rows at there.found; is_torn = there.is_torn || not b })) (same_found_is at there.found what fit kind)
-      ∙ sym (ap (λ o. Some (noted o at (found_rows at what))) (note_of-lookup old.entries at ∙ ap (option_map (λ n. note (at, n))) (sym found))));
-  kinds = ap are_for written.0 ∙ set_fits old.entries at one all (ap (λ (n : Noted). is_for at n.found) is ∙ fit);
+      ∙ sym (ap (λ o. Some (read_more o at (found_rows at what))) (reading_of-lookup old.entries at ∙ ap (option_map (λ n. reading (at, n))) (sym found))));
+  kinds = ap are_for written.0 ∙ set_fits old.entries at one all (ap (λ (n : ReadPlace). is_for at n.found) is ∙ fit);
 }
   where
     fit : is_for at there.found ≡ true
     fit = lookup_fits old.entries at there all (sym found)
 
--- of a place without a note
-pub not_noted : (old : Entries) (at : Place) → None ≡ looked_up old at → note_of (notes_of old) at ≡ None
-not_noted old at away = note_of-lookup old at ∙ ap (option_map (λ n. note (at, n))) (sym away)
+-- of a place without a reading
+pub not_read : (old : Entries) (at : Place) → None ≡ looked_up old at → reading_of (readings_of old) at ≡ None
+not_read old at away = reading_of-lookup old at ∙ ap (option_map (λ n. reading (at, n))) (sym away)
 
-pub noted_first : (old new : BTreeMap Place Noted) (at : Place) (one : Noted) (what : Found) → are_for old.entries ≡ true → is_for at what ≡ true → note_of (notes_of old.entries) at ≡ None
-    → one ≡ record { found = what; is_torn = false } → Updates cmp-place.it old new at (Some one) → new.entries ≡ insert_entry cmp-place.it old.entries at one → IsNoted old.entries at what new.entries
-noted_first old new at one what all kind away is updated put = record {
-  has = has_noted old.entries new.entries at one what updated.0
-      (ap (λ (n : Noted). Some (note (at, n))) is ∙ sym (ap (λ o. Some (noted o at (found_rows at what))) away));
-  kinds = ap are_for put ∙ insert_fits old.entries at one all (ap (λ (n : Noted). is_for at n.found) is ∙ kind);
+pub first_read : (old new : BTreeMap Place ReadPlace) (at : Place) (one : ReadPlace) (what : Found) → are_for old.entries ≡ true → is_for at what ≡ true → reading_of (readings_of old.entries) at ≡ None
+    → one ≡ record { found = what; is_torn = false } → Updates cmp-place.it old new at (Some one) → new.entries ≡ insert_entry cmp-place.it old.entries at one → IsRead old.entries at what new.entries
+first_read old new at one what all kind away is updated put = record {
+  has = has_read old.entries new.entries at one what updated.0
+      (ap (λ (n : ReadPlace). Some (reading (at, n))) is ∙ sym (ap (λ o. Some (read_more o at (found_rows at what))) away));
+  kinds = ap are_for put ∙ insert_fits old.entries at one all (ap (λ (n : ReadPlace). is_for at n.found) is ∙ kind);
 }
 
 -- ---- the first that has changed
 
--- a note that was looked at
-pub changed_is : (rows : List PlainRow) (at : Place) (one : Noted) (what : Found) → is_for at one.found ≡ true → IsFoundAt rows at what
-    → (one.is_torn || not (same_found one.found what)) ≡ ((note (at, one)).is_torn || not (same_rows (note (at, one)).found (rows_at rows at)))
+-- a reading that was looked at
+pub changed_is : (rows : List PlainRow) (at : Place) (one : ReadPlace) (what : Found) → is_for at one.found ≡ true → IsFoundAt rows at what
+    → (one.is_torn || not (same_found one.found what)) ≡ ((reading (at, one)).is_torn || not (same_rows (reading (at, one)).found (rows_at rows at)))
 changed_is rows at one what fit stands = ap (λ b. one.is_torn || not b) (same_found_is at one.found what fit stands.kind ∙ ap (same_rows (found_rows at one.found)) (sym stands.stands))
 
-pub changed_here : (rows : List PlainRow) (entries rest : Entries) (at : Place) (one : Noted) (what : Found) → entries ≡ (at, one) ∷ rest → are_for entries ≡ true → IsFoundAt rows at what
-    → (b : Bool) → b ≡ (one.is_torn || not (same_found one.found what)) → first_changed rows (notes_of entries) ≡ cond b (Some at) (first_changed rows (notes_of rest))
+pub changed_here : (rows : List PlainRow) (entries rest : Entries) (at : Place) (one : ReadPlace) (what : Found) → entries ≡ (at, one) ∷ rest → are_for entries ≡ true → IsFoundAt rows at what
+    → (b : Bool) → b ≡ (one.is_torn || not (same_found one.found what)) → first_changed rows (readings_of entries) ≡ cond b (Some at) (first_changed rows (readings_of rest))
 changed_here rows entries rest at one what is all stands b tested =
     let fit = both (is_for at one.found) (are_for rest) (sym (ap are_for is) ∙ all) in
-    ap (λ l. first_changed rows (notes_of l)) is ∙ ap (λ c. cond c (Some at) (first_changed rows (notes_of rest))) (sym (tested ∙ changed_is rows at one what fit.0 stands))
+    ap (λ l. first_changed rows (readings_of l)) is ∙ ap (λ c. cond c (Some at) (first_changed rows (readings_of rest))) (sym (tested ∙ changed_is rows at one what fit.0 stands))
 
-pub rest_fits : (entries rest : Entries) (at : Place) (one : Noted) → entries ≡ (at, one) ∷ rest → are_for entries ≡ true → are_for rest ≡ true
+pub rest_fits : (entries rest : Entries) (at : Place) (one : ReadPlace) → entries ≡ (at, one) ∷ rest → are_for entries ≡ true → are_for rest ≡ true
 rest_fits entries rest at one is all = (both (is_for at one.found) (are_for rest) (sym (ap are_for is) ∙ all)).1
 
 -- no place has two entries
-pub entries_apart : (entries : Entries) → All (λ e. looked_up entries e.0 ≡ Some e.1) entries → AreApart (notes_of entries)
-entries_apart entries all = All-map (λ n. note_of (notes_of entries) n.at ≡ Some n) note entries (λ k d lt. note_of-lookup entries (get_or entries k d).0 ∙ ap (option_map (λ one. note ((get_or entries k d).0, one))) (all k d lt))
+pub entries_apart : (entries : Entries) → All (λ e. looked_up entries e.0 ≡ Some e.1) entries → AreApart (readings_of entries)
+entries_apart entries all = All-map (λ n. reading_of (readings_of entries) n.at ≡ Some n) reading entries (λ k d lt. reading_of-lookup entries (get_or entries k d).0 ∙ ap (option_map (λ one. reading ((get_or entries k d).0, one))) (all k d lt))

@@ -11,8 +11,8 @@ use Rattle.svc_values.specs.declared.value.Value.{Value}
 use Rattle.svc_values.specs.contracts.value.ValueOrd.TheImpl.{cmp-value}
 use Rattle.svc_values.specs.Order.{value_cmp}
 use Rattle.table_store.specs.Shelves.{is_place}
-use Rattle.table_store.proofs.Maps.{same_if_equal}
-use Rattle.table_store.proofs.ValueCmp.{cmp_is}
+use Rattle.table_store.proofs.Offered.{same_if_equal}
+use Rattle.svc_values.proofs.Offered.{cmp_is}
 use Rattle.table_txn.specs.Own.{Keys, Latest, place_in, keys_kept, place_kept, HasPlace, HasSamePlaces, HasKey}
 
 -- a change of a map of keys, which are compared by `cmp`

@@ -2,9 +2,11 @@ pub mod LatestLaws
 pub mod OwnLaws
 pub mod Same
 pub mod FoundLaws
-pub mod NotesLaws
+pub mod ReadingLaws
+pub mod Unchanged
 pub mod Over
 pub mod Picks
 pub mod ScanSteps
+pub mod Counts
 pub mod Statements
 pub mod Running

@@ -12,9 +12,7 @@ use Rattle.stmt_meaning.specs.Effects.{first_of}
 use Rattle.stmt_meaning.specs.Meaning.{seen_at}
 use Rattle.table_store.specs.Rows.{row_if_any}
 use Rattle.table_store.specs.Shelves.{is_place}
-use Rattle.table_store.proofs.Places.{at_place}
-use Rattle.table_store.proofs.Writes.{own_place, filter_with_write}
-use Rattle.table_store.proofs.Keeps.{with_writes-last}
+use Rattle.table_store.proofs.Offered.{at_place, own_place, filter_with_write, with_writes-last}
 use Rattle.table_txn.specs.Own.{last_at, last_write}
 use Rattle.table_txn.proofs.OwnLaws.{last_at-push, place_is, own_place as is_own, at_end}
 

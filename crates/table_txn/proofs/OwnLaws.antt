@@ -1,7 +1,7 @@
 -- The writes of a transaction with the places of the last ones.
 use Rattle.std.proofs.Common.{◌≡◌, ◌⊎◌, inl, inr, ℕ, ◌+◌, ◌<◌, Bool, true, false, cond, List, [], ◌∷◌, ◌++◌, length, take, get_or, refl, sym, ◌∙◌, ap, subst, append_assoc, append-nil, arith}
 use Rattle.std.proofs.lemmas.Option.{slice_get_within, get_or_from_slice_get}
-use Rattle.std.specs.Prelude.{Option, Some, None, IsSome, slice_get, ◌&&◌}
+use Rattle.std.specs.Prelude.{Option, Some, None, IsSome, slice_get}
 use Rattle.std.proofs.lemmas.Bool.{cases_Bool}
 use Rattle.std.proofs.lemmas.List.{take_at, take-take, length_push}
 use Rattle.std.specs.Ordering.{nat_cmp, is_eq}
@@ -10,20 +10,15 @@ use Rattle.svc_values.specs.declared.value.Value.{Value}
 use Rattle.svc_values.specs.declared.entry.Write.{Write}
 use Rattle.svc_values.specs.Order.{value_cmp}
 use Rattle.table_store.specs.Shelves.{is_place}
-use Rattle.table_store.proofs.Maps.{same_if_equal, keys_equal, equal_if_same, keys_equal_if}
-use Rattle.table_store.proofs.Changes.{both_true}
+use Rattle.table_store.proofs.Offered.{same_if_equal, keys_equal, equal_if_same, keys_equal_if}
 use Rattle.table_txn.specs.Own.{Latest, or_else, last_from, last_at, place_kept, AreLatest, AreBeforeFrom, AreBefore, AreOwn, HasPlace, HasSamePlaces}
+use Rattle.table_txn.proofs.Same.{both, both_if}
 
 -- a place is the one that it is
 pub place_is : (table : List ℕ) (key : Value) (t : List ℕ) (k : Value) → is_place table key t k ≡ true → (table ≡ t) × (key ≡ k)
 place_is table key t k here =
-    let parts = both_true (is_eq (slice_cmp nat_cmp table t)) (is_eq (value_cmp key k)) here in
+    let parts = both (is_eq (slice_cmp nat_cmp table t)) (is_eq (value_cmp key k)) here in
     (same_if_equal table t parts.0, keys_equal key k parts.1)
-
-both_if : (a b : Bool) → a ≡ true → b ≡ true → (a && b) ≡ true
-both_if true true h k = refl
-both_if true false h k = k
-both_if false b h k = h
 
 pub own_place : (table : List ℕ) (key : Value) → is_place table key table key ≡ true
 own_place table key = both_if (is_eq (slice_cmp nat_cmp table table)) (is_eq (value_cmp key key)) (equal_if_same table table refl) (keys_equal_if key key refl)

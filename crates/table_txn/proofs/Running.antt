@@ -24,10 +24,9 @@ use Rattle.stmt_meaning.specs.Meaning.{AllDone, Meant, statements_done, worked}
 use Rattle.stmt_meaning.specs.Reads.{Read, read_at, reads_at}
 use Rattle.stmt_meaning.proofs.Offered.{RanSoFar, ends_as, left_is, mean-fits, ran_all, ran_drew, ran_ended, ran_none, ran_on, ran_refusal}
 use Rattle.table_store.specs.Stored.{Stored, AreKept}
-use Rattle.table_store.proofs.Keeps.{fits_one, fits_if_any}
-use Rattle.table_store.proofs.Changes.{all_with_write}
+use Rattle.table_store.proofs.Offered.{fits_one, fits_if_any, all_with_write}
 use Rattle.table_txn.specs.InnerSteps.{HasNext}
-use Rattle.table_txn.specs.Notes.{AreNotes}
+use Rattle.table_txn.specs.Readings.{AreReadings}
 use Rattle.table_txn.specs.Transactions.{Transaction, shape_of, meaning, HasRun}
 use Rattle.table_txn.proofs.Same.{both, both_if}
 
@@ -56,7 +55,7 @@ module _ {S : Type 0} (drew : S → Drew → S → Type 0) (tables : Stored) (na
     pub reads : List Place
     pub run : RanSoFar drew shape rows settings statements before answers more_writes reads drawn (with_writes tables.rows now.writes) source left
     pub wrote : now.writes ≡ old.writes ++ more_writes
-    pub noted : (some : List Read) → AreNotes old.notes some → AreNotes now.notes (some ++ reads_at tables.rows reads)
+    pub was_read : (some : List Read) → AreReadings old.readings some → AreReadings now.readings (some ++ reads_at tables.rows reads)
     pub same_pieces : now.pieces ≡ old.pieces
 
   pub begins : (answers : List Answer) (drawn : List Draw) → answers ≡ [] → drawn ≡ [] → SoFar answers drawn old before statements
@@ -65,7 +64,7 @@ module _ {S : Type 0} (drew : S → Drew → S → Type 0) (tables : Stored) (na
     reads = [];
     run = ran_none drew shape rows settings statements before answers drawn rows none nothing refl;
     wrote = sym (append-nil old.writes);
-    noted = λ some are. subst (AreNotes old.notes) (sym (append-nil some)) are;
+    was_read = λ some are. subst (AreReadings old.readings) (sym (append-nil some)) are;
     same_pieces = refl;
   }
 
@@ -90,8 +89,8 @@ module _ {S : Type 0} (drew : S → Drew → S → Type 0) (tables : Stored) (na
     reads_push : (some : List Read) → some ++ reads_at tables.rows at.reads ++ reads_at tables.rows done.one.reads ≡ some ++ reads_at tables.rows (at.reads ++ done.one.reads)
     reads_push some = append_assoc some (reads_at tables.rows at.reads) (reads_at tables.rows done.one.reads) ∙ ap (λ l. some ++ l) (sym (map-append (read_at tables.rows) at.reads done.one.reads))
 
-    noted_longer : (some : List Read) → AreNotes old.notes some → AreNotes next.notes (some ++ reads_at tables.rows (at.reads ++ done.one.reads))
-    noted_longer some are = subst (AreNotes next.notes) (reads_push some) (done.done.noted (some ++ reads_at tables.rows at.reads) (at.noted some are))
+    read_longer : (some : List Read) → AreReadings old.readings some → AreReadings next.readings (some ++ reads_at tables.rows (at.reads ++ done.one.reads))
+    read_longer some are = subst (AreReadings next.readings) (reads_push some) (done.done.was_read (some ++ reads_at tables.rows at.reads) (at.was_read some are))
 
     wrote_longer : next.writes ≡ old.writes ++ (at.more_writes ++ done.one.writes)
     wrote_longer = done.done.wrote ∙ ap (λ w. w ++ done.one.writes) at.wrote ∙ append_assoc old.writes at.more_writes done.one.writes
@@ -103,7 +102,7 @@ module _ {S : Type 0} (drew : S → Drew → S → Type 0) (tables : Stored) (na
       run = ran_on drew shape rows settings statements before answers at.more_writes at.reads drawn here source first rest at.run done.one new longer done.done.ran (sym done.refusal ∙ kept) more done.answered (with_writes tables.rows next.writes)
           (ap (with_writes tables.rows) done.done.wrote ∙ with_writes-append tables.rows now.writes done.one.writes);
       wrote = wrote_longer;
-      noted = noted_longer;
+      was_read = read_longer;
       same_pieces = done.done.same_pieces ∙ at.same_pieces;
     }
 
@@ -119,7 +118,7 @@ module _ {S : Type 0} (drew : S → Drew → S → Type 0) (tables : Stored) (na
           used = refl;
           answered = done.answered;
           wrote = ap (λ (t : Transaction). t.writes) taken ∙ kept ∙ sym (append-nil old.writes);
-          noted = λ some are. subst (λ (t : Transaction). AreNotes t.notes (some ++ reads_at tables.rows (at.reads ++ done.one.reads))) (sym taken) (noted_longer some are);
+          was_read = λ some are. subst (λ (t : Transaction). AreReadings t.readings (some ++ reads_at tables.rows (at.reads ++ done.one.reads))) (sym taken) (read_longer some are);
           same_pieces = ap (λ (t : Transaction). t.pieces) taken ∙ done.done.same_pieces ∙ at.same_pieces;
         } in (run, ran_drew drew shape rows settings statements before answers at.more_writes at.reads drawn here source first rest at.run done.one new longer done.done.ran)
 
@@ -136,7 +135,7 @@ module _ {S : Type 0} (drew : S → Drew → S → Type 0) (tables : Stored) (na
         used = refl;
         answered = sym (append-nil answers);
         wrote = at.wrote;
-        noted = at.noted;
+        was_read = at.was_read;
         same_pieces = at.same_pieces;
       } in (run, at.run.drew_all)
 

@@ -10,32 +10,14 @@ use Rattle.std.specs.Cmp.Lexicographic.{slice_cmp, pointwise, pointwise_decides}
 use Rattle.std.proofs.lemmas.Cmp.{nat_list_cmp_total, tied_itself}
 use Rattle.std.proofs.lemmas.Map.Lookups.{exact_bytes}
 use Rattle.svc_values.specs.declared.value.Value.{Value}
-use Rattle.svc_values.specs.declared.value.Value.TheVariants as value
 use Rattle.svc_values.specs.contracts.value.ValueOrd.TheImpl.{cmp-value}
-use Rattle.svc_values.specs.contracts.value.ValuePartialEq.TheImpl.{eq-value}
 use Rattle.svc_values.specs.Same.{same_value, same_place, same_row, same_rows}
 use Rattle.svc_values.specs.SameLaws.{bytes_decide, same_value_decides}
-use Rattle.svc_values.proofs.Offered.{value_cmp_total, exact_values}
+use Rattle.svc_values.proofs.Offered.{value_cmp_total, exact_values, cmp_is}
 use Rattle.svc_values.specs.declared.tables.PlainRow.{PlainRow}
 use Rattle.svc_values.specs.declared.tables.Place.{Place}
 use Rattle.svc_values.specs.declared.tables.Place.TheVariants as place
 use Rattle.svc_values.specs.contracts.tables.PlaceOrd.TheImpl.{cmp-value as cmp-place}
-use Rattle.table_store.proofs.ValueCmp.{cmp_is}
-
-by_kind : (a b : Value) → eq-value.it a b ≡ same_value a b
-by_kind (value.Int a) (value.Int b) = refl
-by_kind (value.Int a) (value.Text b) = refl
-by_kind (value.Int a) (value.Bytes b) = refl
-by_kind (value.Text a) (value.Int b) = refl
-by_kind (value.Text a) (value.Text b) = refl
-by_kind (value.Text a) (value.Bytes b) = refl
-by_kind (value.Bytes a) (value.Int b) = refl
-by_kind (value.Bytes a) (value.Text b) = refl
-by_kind (value.Bytes a) (value.Bytes b) = refl
-
--- `==` of values
-pub eq_is : ◌≡◌ {A = Value → Value → Bool} eq-value.it same_value
-eq_is = λ i a b. by_kind a b i
 
 pub both : (a b : Bool) → (a && b) ≡ true → (a ≡ true) × (b ≡ true)
 both true true h = (refl, refl)

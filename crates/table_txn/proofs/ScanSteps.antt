@@ -17,7 +17,7 @@ use Rattle.svc_values.specs.declared.value.Value.{Value}
 use Rattle.svc_values.specs.declared.entry.Write.{Write}
 use Rattle.svc_values.specs.Order.{value_cmp}
 use Rattle.svc_values.specs.contracts.value.ValueOrd.TheImpl.{cmp-value}
-use Rattle.table_store.proofs.ValueCmp.{cmp_is}
+use Rattle.svc_values.proofs.Offered.{cmp_is}
 use Rattle.svc_values.specs.Same.{same_value}
 use Rattle.svc_values.specs.SameLaws.{bytes_decide}
 use Rattle.stmt_meaning.specs.declared.plan.TableWork.{TableWork}
@@ -32,9 +32,7 @@ use Rattle.svc_values.proofs.Offered.{AreTables-filter, AreTables-with_writes}
 use Rattle.stmt_meaning.proofs.Offered.{scanned-append, last_answer-scanned}
 use Rattle.table_store.specs.Rows.{Keyed, plain_row, plain_rows, rows_if_any, row_if_any}
 use Rattle.table_store.specs.Shelves.{is_place}
-use Rattle.table_store.proofs.Places.{at_place}
-use Rattle.table_store.proofs.Writes.{filter_with_write}
-use Rattle.table_store.proofs.Keeps.{with_writes-last}
+use Rattle.table_store.proofs.Offered.{at_place, filter_with_write, with_writes-last}
 use Rattle.table_txn.specs.Found.{keyed_or_none}
 use Rattle.table_txn.specs.Own.{last_at, last_write}
 use Rattle.table_txn.specs.Scanning.{AnswersAs}

@@ -20,20 +20,20 @@ use Rattle.stmt_meaning.specs.Operands.{Reading}
 use Rattle.stmt_meaning.specs.Plans.{place_of, plan_of}
 use Rattle.stmt_meaning.proofs.Offered.{ran_plan, ran_refused}
 use Rattle.table_store.specs.Stored.{Stored}
-use Rattle.table_txn.specs.Notes.{AreNotes, HasNotedIfAny}
+use Rattle.table_txn.specs.Readings.{AreReadings, HasReadIfAny}
 use Rattle.table_txn.specs.InnerSteps.{HasWritten, HasWorked, HasDone}
 use Rattle.table_txn.specs.Transactions.{Transaction, shape_of}
-use Rattle.table_txn.proofs.NotesLaws.{notes_after}
+use Rattle.table_txn.proofs.ReadingLaws.{readings_after}
 
--- a plan whose place was noted, and then done
-pub noted_first : (tables : Stored) (old between new : Transaction) (plan : Plan) (result : Answer) → HasNotedIfAny tables.rows old.notes (place_of plan) between.notes → between.writes ≡ old.writes → between.pieces ≡ old.pieces
+-- a plan whose place was read, and then done
+pub first_read : (tables : Stored) (old between new : Transaction) (plan : Plan) (result : Answer) → HasReadIfAny tables.rows old.readings (place_of plan) between.readings → between.writes ≡ old.writes → between.pieces ≡ old.pieces
     → HasWritten tables between plan result new → HasWorked tables old plan result new
-noted_first tables old between new plan result noted same kept written = record {
+first_read tables old between new plan result read same kept written = record {
   effected = written.effected;
   effects = subst (λ w. written.effected ≡ effect plan (seen_at (with_writes tables.rows w) (place_of plan))) same written.effects;
   answered = written.answered;
   wrote = written.wrote ∙ ap (λ w. w ++ option_to_list written.effected.write) same;
-  noted = subst (HasNotedIfAny tables.rows old.notes (place_of plan)) (sym written.same_notes) noted;
+  was_read = subst (HasReadIfAny tables.rows old.readings (place_of plan)) (sym written.same_readings) read;
   same_pieces = written.same_pieces ∙ kept;
 }
 
@@ -62,7 +62,7 @@ module _ {S : Type 0} (drew : S → Drew → S → Type 0) (tables : Stored) (na
       record {
         ran = ran_plan drew shape rows settings statement before taken plan after drawn read worked.effected worked.effects;
         wrote = worked.wrote;
-        noted = λ reads are. notes_after tables.rows old.notes new.notes (place_of plan) worked.noted reads are;
+        was_read = λ reads are. readings_after tables.rows old.readings new.readings (place_of plan) worked.was_read reads are;
         same_pieces = worked.same_pieces;
       },
     ),
@@ -77,7 +77,7 @@ module _ {S : Type 0} (drew : S → Drew → S → Type 0) (tables : Stored) (na
       record {
         ran = ran_refused drew shape rows settings statement before taken refusal after drawn read;
         wrote = sym (append-nil old.writes);
-        noted = λ reads are. subst (AreNotes old.notes) (sym (append-nil reads)) are;
+        was_read = λ reads are. subst (AreReadings old.readings) (sym (append-nil reads)) are;
         same_pieces = refl;
       },
     ),

@@ -14,8 +14,8 @@ use Rattle.table_txn.specs.declared.found.Found.{Found}
 use Rattle.table_txn.specs.declared.found.Found.TheVariants as found
 use Rattle.table_txn.specs.declared.found.Committed.{Committed}
 use Rattle.table_txn.specs.declared.found.Committed.TheVariants as committed
-use Rattle.table_txn.specs.declared.notes.Noted.{Noted}
-use Rattle.table_txn.specs.Notes.{Note, note_of, HasNoted}
+use Rattle.table_txn.specs.declared.readings.ReadPlace.{ReadPlace}
+use Rattle.table_txn.specs.Readings.{Reading, reading_of, HasRead}
 
 -- a row stands for the place of a row, and the rows of a table for a table
 abbrev pub is_for : Place → Found → Bool
@@ -58,23 +58,23 @@ pub record IsFoundAt (rows : List PlainRow) (at : Place) (what : Found) : Type 0
   pub kind : is_for at what ≡ true
   pub stands : rows_at rows at ≡ found_rows at what
 
--- notes as they are kept, by place
-abbrev pub note : Place × Noted → Note
-note entry = record { at = entry.0; found = found_rows entry.0 entry.1.found; is_torn = entry.1.is_torn }
+-- readings as they are kept, by place
+abbrev pub reading : Place × ReadPlace → Reading
+reading entry = record { at = entry.0; found = found_rows entry.0 entry.1.found; is_torn = entry.1.is_torn }
 
-abbrev pub notes_of : List (Place × Noted) → List Note
-notes_of entries = map note entries
+abbrev pub readings_of : List (Place × ReadPlace) → List Reading
+readings_of entries = map reading entries
 
 -- each has what its place may have
-abbrev pub are_for : List (Place × Noted) → Bool
+abbrev pub are_for : List (Place × ReadPlace) → Bool
 are_for entries = list_all (λ entry. is_for entry.0 entry.1.found) entries
 
--- the notes after one more read of a place, which found this
-pub record IsNoted (old : List (Place × Noted)) (at : Place) (what : Found) (new : List (Place × Noted)) : Type 0 where
-  pub has : HasNoted (notes_of old) at (found_rows at what) (notes_of new)
+-- the readings after one more read of a place, which found this
+pub record IsRead (old : List (Place × ReadPlace)) (at : Place) (what : Found) (new : List (Place × ReadPlace)) : Type 0 where
+  pub has : HasRead (readings_of old) at (found_rows at what) (readings_of new)
   pub kinds : are_for new ≡ true
 
--- a place without a note, and nothing has changed
-pub record IsNotNoted (old : List (Place × Noted)) (at : Place) (new : List (Place × Noted)) : Type 0 where
-  pub absent : note_of (notes_of old) at ≡ None
+-- a place without a reading, and nothing has changed
+pub record IsNotRead (old : List (Place × ReadPlace)) (at : Place) (new : List (Place × ReadPlace)) : Type 0 where
+  pub absent : reading_of (readings_of old) at ≡ None
   pub same : new ≡ old

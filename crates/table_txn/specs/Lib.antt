@@ -1,4 +1,4 @@
-pub mod Notes
+pub mod Readings
 pub mod Transactions
 pub mod Found
 pub mod InnerSteps

@@ -12,18 +12,18 @@ use Rattle.stmt_meaning.specs.Meaning.{Meant, mean}
 use Rattle.table_store.specs.Stored.{Stored}
 use Rattle.stmt_meaning.specs.Drawing.{Drew, Ends}
 use Rattle.stmt_meaning.specs.Reads.{Read, reads_at}
-use Rattle.table_txn.specs.Notes.{Note, AreNotes}
+use Rattle.table_txn.specs.Readings.{Reading, AreReadings}
 use Rattle.stmt_meaning.specs.declared.fault.TxnFault.{TxnFault}
 use Rattle.svc_values.specs.SettingsList.{NamedValues}
 
--- its calls so far with their answers and draws, its writes in order, and its notes
+-- its calls so far with their answers and draws, its writes in order, and its readings
 pub record Transaction : Type 0 where
   pub pieces : List Piece
   pub writes : List Write
-  pub notes : List Note
+  pub readings : List Reading
 
 abbrev pub empty : Transaction
-empty = record { pieces = []; writes = []; notes = [] }
+empty = record { pieces = []; writes = []; readings = [] }
 
 -- what exists: the tables, and the sequences of these names
 abbrev pub shape_of : Stored → List (List ℕ) → Shape
@@ -33,14 +33,14 @@ shape_of tables names = record { schemas = tables.schemas; sequences = names }
 abbrev pub meaning : Stored → List (List ℕ) → NamedValues → Transaction → List Statement → List Draw → Option Meant
 meaning tables names settings old statements draws = mean (shape_of tables names) (with_writes tables.rows old.writes) settings (call.Work statements false) draws
 
--- Statements that ran: they used exactly these draws; the answers are those of their meaning, the writes are behind those before, and what they read is noted. The pieces are as before.
+-- Statements that ran: they used exactly these draws; the answers are those of their meaning, the writes are behind those before, and what they read is kept. The pieces are as before.
 pub record HasRun (tables : Stored) (names : List (List ℕ)) (settings : NamedValues) (old : Transaction) (statements : List Statement) (answers : List Answer) (draws : List Draw) (new : Transaction) : Type 0 where
   pub meant : Meant
   pub means : meaning tables names settings old statements draws ≡ Some meant
   pub used : meant.rest ≡ []
   pub answered : answers ≡ meant.answers
   pub wrote : new.writes ≡ old.writes ++ meant.writes
-  pub noted : (reads : List Read) → AreNotes old.notes reads → AreNotes new.notes (reads ++ reads_at tables.rows meant.reads)
+  pub was_read : (reads : List Read) → AreReadings old.readings reads → AreReadings new.readings (reads ++ reads_at tables.rows meant.reads)
   pub same_pieces : new.pieces ≡ old.pieces
 
 -- A run that was ended by a fault: some draws were given, which begin those that the statements ask for, and then it ended.

@@ -4,8 +4,8 @@
 mod effects;
 mod found;
 mod latest;
-mod notes;
 mod own;
+mod readings;
 mod scanning;
 mod txn;
 

@@ -1,5 +1,5 @@
 //! What is asked of all rows of a table: those that are committed, with the transaction's own over them.
-ghost use Rattle.std.specs.Prelude.{◌≡◌, IfOk, Some, None, fold, option_to_list, option_and_then};
+ghost use Rattle.std.specs.Prelude.{◌≡◌, IfOk, Some, None, fold, length, pos, option_to_list, option_and_then};
 ghost use Rattle.std.specs.Map.{values_of};
 ghost use Rattle.std.specs.Option.{option_copied};
 ghost use Rattle.std.specs.Range.Bound.{bound_map, IsForward};
@@ -108,9 +108,54 @@ fn show_committed(
     )
 }
 
+/// How many rows are committed in a table.
+fn counted(rows: Option<&RowMap>) -> Answer
+    ensures { result ≡ Answer.Number (pos (length (keyed_or_none (option_copied rows.entry)))) }
+{
+    match rows {
+        None => Answer::Number(0),
+        Some(rows) => Answer::Number(rows.len() as i64),
+    }
+}
+
+/// The answer from all rows of a table in which nothing was written. A count goes over none of them.
+fn committed_answer(
+    alloc: Global,
+    tables: &Tables,
+    own: &OwnWrites,
+    table: &Name,
+    work: TableWork,
+) -> Result<Answer, NoMemory>
+    requires { (key : Key) → last_at own.now table.now key ≡ None }
+    ensures { IfOk result (λ answer. answer ≡ table_answer work (seen_at (with_writes tables.now.rows own.now) (Some (place.Table table.now)))) }
+{
+    if let TableWork::Count = work {
+        return Ok(counted(tables.row_map(table)));
+    }
+    let scan = Scan::new(alloc, work);
+    Ok(show_committed(alloc, scan, tables, own, table)?.answer())
+}
+
+/// The answer from all rows of a table in which these keys were written.
+fn answer_over(
+    alloc: Global,
+    tables: &Tables,
+    own: &OwnWrites,
+    table: &Name,
+    keys: &Keys,
+    work: TableWork,
+) -> Result<Answer, NoMemory>
+    requires ordered { AreTables tables.now.rows }
+    requires keys { (key : Key) → place_in (Some keys.now) key ≡ last_at own.now table.now key }
+    ensures { IfOk result (λ answer. answer ≡ table_answer work (seen_at (with_writes tables.now.rows own.now) (Some (place.Table table.now)))) }
+{
+    let scan = Scan::new(alloc, work);
+    Ok(show_over(alloc, scan, tables, own, table, keys)?.answer())
+}
+
 /// The answer from all rows of a table, as the transaction sees them. Linear in the committed rows, and
 /// in the transaction's own of that table by the logarithm of the committed ones, up to a row that
-/// settles it.
+/// settles it; a count where it wrote none takes as long as a lookup.
 pub(crate) fn scan_table(
     alloc: Global,
     tables: &Tables,
@@ -121,9 +166,8 @@ pub(crate) fn scan_table(
     requires { AreTables tables.now.rows }
     ensures { IfOk result (λ answer. answer ≡ table_answer work (seen_at (with_writes tables.now.rows own.now) (Some (place.Table table.now)))) }
 {
-    let scan = Scan::new(alloc, work);
     match own.keys(table) {
-        None => Ok(show_committed(alloc, scan, tables, own, table)?.answer()),
-        Some(keys) => Ok(show_over(alloc, scan, tables, own, table, keys)?.answer()),
+        None => committed_answer(alloc, tables, own, table, work),
+        Some(keys) => answer_over(alloc, tables, own, table, keys, work),
     }
 }

@@ -8,13 +8,13 @@ ghost use Rattle.stmt_meaning.specs.Plans.{place_of};
 ghost use Rattle.stmt_meaning.specs.Drawing.{DrewAll, Ends};
 ghost use Rattle.stmt_meaning.specs.InnerRunning.{one_left};
 ghost use Rattle.stmt_meaning.specs.Reads.{Read, IsConflict};
-ghost use Rattle.table_txn.specs.Notes.{AreNotes, HasNotedIfAny};
+ghost use Rattle.table_txn.specs.Readings.{AreReadings, AreUnchanged, StayUnchanged, HasReadIfAny};
 ghost use Rattle.table_txn.specs.Transactions.{empty, shape_of, HasRun, HasEnded};
 ghost use Rattle.table_txn.specs.InnerSteps.{HasDone, HasNext, HasWorked, HasWritten};
 
 use crate::effects::effect_on;
-use crate::notes::Notes;
 use crate::own::OwnWrites;
+use crate::readings::Readings;
 use std::alloc::Global;
 use std::marker::Model;
 use stmt_meaning::{DrawFrom, Effect, Plan, Stop, TxnFault, is_refusal, plan_of};
@@ -37,7 +37,7 @@ pub struct Ran {
 pub struct Txn {
     pieces: Pieces,
     own: OwnWrites,
-    notes: Notes,
+    readings: Readings,
     alloc: Global,
 }
 
@@ -46,19 +46,19 @@ impl Model for Txn {
 
     ghost Value = { Transaction };
 
-    ghost view = { λ a. record { pieces = a.pieces; writes = a.own; notes = a.notes } };
+    ghost view = { λ a. record { pieces = a.pieces; writes = a.own; readings = a.readings } };
 }
 
 impl Txn {
     /// A transaction that has done nothing. It takes no memory.
     pub fn new(alloc: Global) -> Txn
         ensures empty { result ≡ empty }
-        ensures no_reads { AreNotes empty.notes [] }
+        ensures no_reads { AreReadings empty.readings [] }
     {
         Txn {
             pieces: Pieces::new(alloc),
             own: OwnWrites::new(alloc),
-            notes: Notes::new(alloc),
+            readings: Readings::new(alloc),
             alloc,
         }
     }
@@ -100,7 +100,7 @@ impl Txn {
     /// Gives up all that was done and read. It takes no memory.
     pub fn roll_back(&mut self)
         ensures empty { self.new ≡ empty }
-        ensures no_reads { AreNotes empty.notes [] }
+        ensures no_reads { AreReadings empty.readings [] }
     {
         *self = Txn::new(self.alloc);
     }
@@ -109,9 +109,9 @@ impl Txn {
     /// which found different things; `None` exactly where there is no such place. Linear in the
     /// places that were read, and in the rows of the tables that were read whole. No memory is taken.
     pub fn conflicts(&self, tables: &Tables) -> Option<&Place>
-        ensures { (reads : List Read) → AreNotes self.now.notes reads → IsConflict reads tables.now.rows (option_copied result) }
+        ensures { (reads : List Read) → AreReadings self.now.readings reads → IsConflict reads tables.now.rows (option_copied result) }
     {
-        self.notes.first_changed(tables)
+        self.readings.first_changed(tables)
     }
 
     /// Runs the statements of a call, each on the committed tables with the transaction's own writes
@@ -130,6 +130,48 @@ impl Txn {
         ensures ran { IfOk result (λ ran. HasRun tables.now (F.names draws.old) settings.now self.old statements.now ran.answers ran.draws self.new × DrewAll F.drew draws.old ran.draws draws.new) }
         ensures ended { IfErr result (λ ended. HasEnded tables.now (F.names draws.old) settings.now self.old statements.now F.drew draws.old ended draws.new) }
         ensures fits { OnOk result (IsTrue (writes_fit tables.now.schemas self.new.writes)) }
+        ensures unchanged { OnOk result (StayUnchanged tables.now.rows self.old.readings self.new.readings) }
+        ensures names { F.names draws.new ≡ F.names draws.old }
+    {
+        self.run_on(tables, settings, statements, draws, false)
+    }
+
+    /// The same where each place that was read has what it had, as in a session beside which none
+    /// committed since: a table that was read before is not compared.
+    pub fn run_unchanged<F: DrawFrom>(
+        &mut self,
+        tables: &Tables,
+        settings: &Settings,
+        statements: &Statements,
+        draws: &mut F,
+    ) -> Result<Ran, TxnFault>
+        requires fits { IsTrue (writes_fit tables.now.schemas self.old.writes) }
+        requires unchanged { AreUnchanged tables.now.rows self.old.readings }
+        ensures ran { IfOk result (λ ran. HasRun tables.now (F.names draws.old) settings.now self.old statements.now ran.answers ran.draws self.new × DrewAll F.drew draws.old ran.draws draws.new) }
+        ensures ended { IfErr result (λ ended. HasEnded tables.now (F.names draws.old) settings.now self.old statements.now F.drew draws.old ended draws.new) }
+        ensures fits { OnOk result (IsTrue (writes_fit tables.now.schemas self.new.writes)) }
+        ensures unchanged { OnOk result (StayUnchanged tables.now.rows self.old.readings self.new.readings) }
+        ensures names { F.names draws.new ≡ F.names draws.old }
+    {
+        self.run_on(tables, settings, statements, draws, true)
+    }
+
+    /// Runs the statements on tables in which each place that was read is known to have what it had,
+    /// or is not.
+    fn run_on<F: DrawFrom>(
+        &mut self,
+        tables: &Tables,
+        settings: &Settings,
+        statements: &Statements,
+        draws: &mut F,
+        is_unchanged: bool,
+    ) -> Result<Ran, TxnFault>
+        requires fits { IsTrue (writes_fit tables.now.schemas self.old.writes) }
+        requires unchanged { IsTrue is_unchanged → AreUnchanged tables.now.rows self.old.readings }
+        ensures ran { IfOk result (λ ran. HasRun tables.now (F.names draws.old) settings.now self.old statements.now ran.answers ran.draws self.new × DrewAll F.drew draws.old ran.draws draws.new) }
+        ensures ended { IfErr result (λ ended. HasEnded tables.now (F.names draws.old) settings.now self.old statements.now F.drew draws.old ended draws.new) }
+        ensures fits { OnOk result (IsTrue (writes_fit tables.now.schemas self.new.writes)) }
+        ensures unchanged { OnOk result (StayUnchanged tables.now.rows self.old.readings self.new.readings) }
         ensures names { F.names draws.new ≡ F.names draws.old }
     {
         let _ = tables.schemas();
@@ -142,6 +184,7 @@ impl Txn {
                 settings,
                 statement,
                 draws,
+                is_unchanged,
                 &mut answers,
                 &mut drawn,
             )?;
@@ -175,15 +218,18 @@ impl Txn {
         settings: &Settings,
         statement: &Statement,
         source: &mut F,
+        is_unchanged: bool,
         answers: &mut Vec<Answer>,
         drawn: &mut Vec<Draw>,
     ) -> Result<bool, TxnFault>
-        requires { AreTables tables.now.rows }
+        requires ordered { AreTables tables.now.rows }
+        requires unchanged { IsTrue is_unchanged → AreUnchanged tables.now.rows self.old.readings }
         ensures done { IfOk result (λ is_refused. HasNext F.drew tables.now (F.names source.old) settings.now self.old statement.now source.old answers.old.items drawn.old.items is_refused self.new source.new answers.new.items drawn.new.items) }
+        ensures unchanged { OnOk result (StayUnchanged tables.now.rows self.old.readings self.new.readings) }
         ensures ended { IfErr result (λ ended. Ends F.drew (one_left (shape_of tables.now (F.names source.old)) (with_writes tables.now.rows self.old.writes) settings.now statement.now) source.old ended source.new) }
         ensures names { F.names source.new ≡ F.names source.old }
     {
-        let answer = self.run_statement(tables, settings, statement, source, drawn)?;
+        let answer = self.run_statement(tables, settings, statement, source, is_unchanged, drawn)?;
         let is_refused = is_refusal(&answer);
         answers.push(answer)?;
         Ok(is_refused)
@@ -196,38 +242,49 @@ impl Txn {
         settings: &Settings,
         statement: &Statement,
         source: &mut F,
+        is_unchanged: bool,
         drawn: &mut Vec<Draw>,
     ) -> Result<Answer, TxnFault>
-        requires { AreTables tables.now.rows }
+        requires ordered { AreTables tables.now.rows }
+        requires unchanged { IsTrue is_unchanged → AreUnchanged tables.now.rows self.old.readings }
         ensures done { IfOk result (λ answer. (one : OneDone) × ((answer ≡ one.answer) × HasDone F.drew tables.now (F.names source.old) settings.now self.old statement.now source.old drawn.old.items one self.new source.new drawn.new.items)) }
+        ensures unchanged { OnOk result (StayUnchanged tables.now.rows self.old.readings self.new.readings) }
         ensures ended { IfErr result (λ ended. Ends F.drew (one_left (shape_of tables.now (F.names source.old)) (with_writes tables.now.rows self.old.writes) settings.now statement.now) source.old ended source.new) }
         ensures names { F.names source.new ≡ F.names source.old }
     {
         let schemas = tables.schemas().as_slice();
         match plan_of(self.alloc, schemas, settings, statement, source, drawn) {
-            Ok(plan) => Ok(self.work(tables, plan)?),
+            Ok(plan) => Ok(self.work(tables, plan, is_unchanged)?),
             Err(Stop::Refused(fault)) => Ok(Answer::Refused(fault)),
             Err(Stop::Ended(fault)) => Err(fault),
         }
     }
 
-    /// Notes the place of a plan, and does it.
-    fn work(&mut self, tables: &Tables, plan: Plan) -> Result<Answer, NoMemory>
-        requires { AreTables tables.now.rows }
-        ensures { IfOk result (λ answer. HasWorked tables.now self.old plan answer self.new) }
+    /// Reads the place of a plan, and does it.
+    fn work(&mut self, tables: &Tables, plan: Plan, is_unchanged: bool) -> Result<Answer, NoMemory>
+        requires ordered { AreTables tables.now.rows }
+        requires unchanged { IsTrue is_unchanged → AreUnchanged tables.now.rows self.old.readings }
+        ensures worked { IfOk result (λ answer. HasWorked tables.now self.old plan answer self.new) }
+        ensures unchanged { OnOk result (StayUnchanged tables.now.rows self.old.readings self.new.readings) }
     {
-        self.note_place(tables, &plan)?;
+        self.read_place(tables, &plan, is_unchanged)?;
         self.do_plan(tables, plan)
     }
 
-    /// Notes the place of a plan, with what is committed there.
-    fn note_place(&mut self, tables: &Tables, plan: &Plan) -> Result<(), NoMemory>
-        ensures noted { OnOk result (HasNotedIfAny tables.now.rows self.old.notes (place_of plan.now) self.new.notes) }
+    /// Reads the place of a plan: what is committed there.
+    fn read_place(
+        &mut self,
+        tables: &Tables,
+        plan: &Plan,
+        is_unchanged: bool,
+    ) -> Result<(), NoMemory>
+        requires { IsTrue is_unchanged → AreUnchanged tables.now.rows self.old.readings }
+        ensures read { OnOk result (HasReadIfAny tables.now.rows self.old.readings (place_of plan.now) self.new.readings) }
         ensures writes { self.new.writes ≡ self.old.writes }
         ensures pieces { self.new.pieces ≡ self.old.pieces }
     {
         let place = plan.place(self.alloc)?;
-        self.notes.note_if_any(tables, place)
+        self.readings.add_if_any(tables, place, is_unchanged)
     }
 
     /// Does a plan, on the committed tables with the transaction's own writes over them.

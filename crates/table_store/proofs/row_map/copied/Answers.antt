@@ -1,5 +1,5 @@
 use Rattle.table_store.proofs.Maps.{copied_more}
-use Rattle.table_store.proofs.ValueCmp.{cmp_is}
+use Rattle.svc_values.proofs.Offered.{cmp_is}
 use Rattle.table_store.proofs.row_map.copied.Goals as goal
 
 pub loop-key-preserved-in_ok-insert : goal.loop-key-preserved-in_ok-insert

@@ -1,17 +1,18 @@
 use Rattle.std.proofs.Common.{Some}
-use Rattle.table_store.proofs.Changes.{on_ok, on_err, changed_there, unchanged_there, shelved_there, changed_anew, all_with_entry}
+use Rattle.std.proofs.lemmas.Result.{on_ok_weaker, on_err_weaker}
+use Rattle.table_store.proofs.Changes.{changed_there, unchanged_there, shelved_there, changed_anew, all_with_entry}
 use Rattle.table_store.specs.Rows.{KeysRise}
 use Rattle.table_store.proofs.shelves.put.Goals as goal
 
 pub returns-in-Some-clause-ok : goal.returns-in-Some-clause-ok
 returns-in-Some-clause-ok c =
-    on_ok c.put.result
+    on_ok_weaker c.put.result
     (changed_there c.args.shelves.now (c.get_mut.follows.lender c.put.new.self) c.args.table.now c.args.key (Some c.args.row) c.in-Some.rows.now c.put.new.self c.in-Some.ensures.value (c.get_mut.follows.holds c.put.new.self))
     c.put.ensures.ok
 
 pub returns-in-Some-clause-err : goal.returns-in-Some-clause-err
 returns-in-Some-clause-err c =
-    on_err c.put.result
+    on_err_weaker c.put.result
     (unchanged_there c.args.shelves.now (c.get_mut.follows.lender c.put.new.self) c.args.table.now c.in-Some.rows.now c.put.new.self c.in-Some.ensures.value (c.get_mut.follows.holds c.put.new.self))
     c.put.ensures.err
 

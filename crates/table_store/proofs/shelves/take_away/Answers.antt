@@ -1,16 +1,17 @@
 use Rattle.std.proofs.Common.{None}
-use Rattle.table_store.proofs.Changes.{on_ok, on_err, changed_there, unchanged_there, shelved_there, nothing_there}
+use Rattle.std.proofs.lemmas.Result.{on_ok_weaker, on_err_weaker}
+use Rattle.table_store.proofs.Changes.{changed_there, unchanged_there, shelved_there, nothing_there}
 use Rattle.table_store.proofs.shelves.take_away.Goals as goal
 
 pub returns-in-Some-clause-ok : goal.returns-in-Some-clause-ok
 returns-in-Some-clause-ok c =
-    on_ok c.take_away.result
+    on_ok_weaker c.take_away.result
     (changed_there c.args.shelves.now (c.get_mut.follows.lender c.take_away.new.self) c.args.table.now c.args.key.now None c.in-Some.rows.now c.take_away.new.self c.in-Some.ensures.value (c.get_mut.follows.holds c.take_away.new.self))
     c.take_away.ensures.ok
 
 pub returns-in-Some-clause-err : goal.returns-in-Some-clause-err
 returns-in-Some-clause-err c =
-    on_err c.take_away.result
+    on_err_weaker c.take_away.result
     (unchanged_there c.args.shelves.now (c.get_mut.follows.lender c.take_away.new.self) c.args.table.now c.in-Some.rows.now c.take_away.new.self c.in-Some.ensures.value (c.get_mut.follows.holds c.take_away.new.self))
     c.take_away.ensures.err
 

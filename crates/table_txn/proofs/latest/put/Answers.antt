@@ -1,17 +1,17 @@
 use Rattle.std.proofs.Common.{Some}
-use Rattle.table_store.proofs.Changes.{on_ok, on_err}
+use Rattle.std.proofs.lemmas.Result.{on_ok_weaker, on_err_weaker}
 use Rattle.table_txn.proofs.LatestLaws.{changed_there, unchanged_there, changed_anew}
 use Rattle.table_txn.proofs.latest.put.Goals as goal
 
 pub returns-in-Some-clause-ok : goal.returns-in-Some-clause-ok
 returns-in-Some-clause-ok c =
-    on_ok c.put_key.result
+    on_ok_weaker c.put_key.result
     (changed_there c.args.latest.now (c.get_mut.follows.lender c.put_key.new.keys) c.args.table.now c.args.key.now (Some c.args.at) c.in-Some.keys.now c.put_key.new.keys c.in-Some.ensures.value (c.get_mut.follows.holds c.put_key.new.keys))
     c.put_key.ensures.ok
 
 pub returns-in-Some-clause-err : goal.returns-in-Some-clause-err
 returns-in-Some-clause-err c =
-    on_err c.put_key.result
+    on_err_weaker c.put_key.result
     (unchanged_there c.args.latest.now (c.get_mut.follows.lender c.put_key.new.keys) c.args.table.now c.in-Some.keys.now c.put_key.new.keys c.in-Some.ensures.value (c.get_mut.follows.holds c.put_key.new.keys))
     c.put_key.ensures.err
 

@@ -8,7 +8,7 @@ use Rattle.std.specs.BTreeMap.Range.{entries_between, IsLeBy, IsLtBy}
 use Rattle.svc_values.specs.declared.value.Value.{Value}
 use Rattle.svc_values.specs.Order.{value_cmp}
 use Rattle.stmt_meaning.specs.InnerScans.{next_scan, last_answer}
-use Rattle.table_store.proofs.ValueCmp.{cmp_is}
+use Rattle.svc_values.proofs.Offered.{cmp_is}
 use Rattle.table_txn.specs.Found.{keyed_or_none}
 use Rattle.table_txn.proofs.scanning.show_between.Goals as goal
 

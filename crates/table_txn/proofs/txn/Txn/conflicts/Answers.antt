@@ -1,11 +1,11 @@
 use Rattle.std.proofs.Common.{ap, subst, ◌∙◌}
 use Rattle.std.specs.Option.{option_copied}
-use Rattle.table_txn.specs.Notes.{AreApart, first_changed}
+use Rattle.table_txn.specs.Readings.{AreApart, first_changed}
 use Rattle.table_txn.specs.Transactions.{Transaction}
-use Rattle.table_txn.proofs.NotesLaws.{tells_conflict}
+use Rattle.table_txn.proofs.ReadingLaws.{tells_conflict}
 use Rattle.table_txn.proofs.txn.Txn.conflicts.Goals as goal
 
 pub returns : goal.returns
 returns c =
-    let notes = ap (λ (t : Transaction). t.notes) c.self.view_is in
-    tells_conflict c.args.tables.now.rows c.args.self.now.notes (subst AreApart notes c.first_changed.ensures.apart) (option_copied c.first_changed.result) (c.first_changed.ensures.first ∙ ap (first_changed c.args.tables.now.rows) notes)
+    let readings = ap (λ (t : Transaction). t.readings) c.self.view_is in
+    tells_conflict c.args.tables.now.rows c.args.self.now.readings (subst AreApart readings c.first_changed.ensures.apart) (option_copied c.first_changed.result) (c.first_changed.ensures.first ∙ ap (first_changed c.args.tables.now.rows) readings)

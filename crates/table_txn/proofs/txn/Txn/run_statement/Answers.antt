@@ -11,7 +11,7 @@ returns-in_ok-work-in-Ok-clause-done g c =
     let names = g.F.DrawFrom.names c.args.source.now in
     let read = subst (λ (s : List Schema). ReadsAll g.F.DrawFrom.drew (λ given. plan_of (record { schemas = s; sequences = names }) c.args.settings.now c.args.statement.now given) c.args.source.now c.args.drawn.now.items (Ok c.in-Ok.plan) c.plan_of.new.source c.plan_of.new.drawn.items)
     (c.as_slice-schemas.ensures.items ∙ c.schemas.ensures.schemas) c.in-Ok.ensures.read in
-    done_plan g.F.DrawFrom.drew c.args.tables.now names c.args.settings.now c.args.self.now c.args.statement.now c.args.source.now c.args.drawn.now.items c.in-Ok.plan c.plan_of.new.source c.plan_of.new.drawn.items read c.in_ok-work-in-Ok.field-0 c.work.new.self c.in_ok-work-in-Ok.ensures
+    done_plan g.F.DrawFrom.drew c.args.tables.now names c.args.settings.now c.args.self.now c.args.statement.now c.args.source.now c.args.drawn.now.items c.in-Ok.plan c.plan_of.new.source c.plan_of.new.drawn.items read c.in_ok-work-in-Ok.field-0 c.work.new.self c.in_ok-work-in-Ok.ensures.worked
 
 pub returns-in-Err-Refused-clause-done : goal.returns-in-Err-Refused-clause-done
 returns-in-Err-Refused-clause-done g c =

@@ -1,0 +1,13 @@
+-- Lemmas on this crate's words that the crates above cite.
+
+-- a row that stands at a place has its table and key
+pub use Rattle.table_store.proofs.Places.{at_place}
+-- a write leaves what stands elsewhere, and has its row at its own place
+pub use Rattle.table_store.proofs.Writes.{own_place, filter_with_write}
+-- a write behind others
+pub use Rattle.table_store.proofs.Keeps.{with_writes-last}
+-- names and keys that compare as equal are the same
+pub use Rattle.table_store.proofs.Maps.{same_if_equal, equal_if_same, keys_equal, keys_equal_if}
+-- tables that fit what is declared fit it after a write that does
+pub use Rattle.table_store.proofs.Keeps.{fits_one, fits_if_any}
+pub use Rattle.table_store.proofs.Changes.{all_with_write}

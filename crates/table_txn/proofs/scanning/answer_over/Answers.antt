@@ -1,0 +1,13 @@
+use Rattle.std.proofs.Common.{ap, ◌∙◌}
+use Rattle.std.specs.Prelude.{Some, fold}
+use Rattle.svc_values.specs.declared.tables.Place.TheVariants as place
+use Rattle.stmt_meaning.specs.Meaning.{seen_at}
+use Rattle.stmt_meaning.specs.InnerScans.{next_scan, last_answer}
+use Rattle.svc_values.specs.Tables.{with_writes}
+use Rattle.table_txn.proofs.ScanSteps.{answer_is}
+use Rattle.table_txn.proofs.scanning.answer_over.Goals as goal
+
+pub returns : goal.returns
+returns c =
+    let rows = seen_at (with_writes c.args.tables.now.rows c.args.own.now) (Some (place.Table c.args.table.now)) in
+    c.answer.ensures ∙ answer_is c.args.work rows c.in_ok-show_over.field-0 (c.in_ok-show_over.ensures ∙ ap (λ s. last_answer (fold next_scan s rows)) c.new-scan.ensures)
