@@ -1,6 +1,7 @@
 //! What of the invariant holds of the start and is kept in each event, if the whole invariant held before it. Each law is the
 //! clause of a function with nothing to run.
 ghost use Rattle.world_model.specs.KeptLaws.{IsKept, BasicBegins, BasicIsKept};
+ghost use Rattle.world_model.specs.Wire.{are_handled};
 ghost use Rattle.world_model.specs.Basic.{have_risen, kept_ticks, items_rise, items_differ, is_down, are_ended, sessions_differ, are_made, are_counted, are_named, living_now, commits_counted, lives};
 
 /// The items of a connection are in the order of their events, which are past. An event has one item.
@@ -45,4 +46,9 @@ pub fn steps_stay_in_order()
 pub fn basic_is_kept()
     ensures start { BasicBegins }
     ensures event { BasicIsKept }
+{}
+
+/// Each item is that of its frame, or the frame was stopped; and the reply that a session gave is that of the item.
+pub fn items_fit_frames()
+    ensures { IsKept are_handled }
 {}
