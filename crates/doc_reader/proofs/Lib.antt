@@ -1,0 +1,11 @@
+pub mod CallItems
+pub mod Naming
+pub mod Parts
+pub mod ReadNumbers
+pub mod ReadTables
+pub mod ReadSequences
+pub mod ReadService
+pub mod ReadCalls
+pub mod ReadScripts
+pub mod ReadEvents
+pub mod ReadDocuments

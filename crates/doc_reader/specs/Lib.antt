@@ -1,0 +1,13 @@
+pub mod Values
+pub mod Items
+pub mod Calls
+pub mod Built
+pub mod Tables
+pub mod Service
+pub mod Scripts
+pub mod Events
+pub mod Images
+pub mod Counts
+pub mod Counting
+pub mod Documents
+pub mod Keeping

@@ -1,0 +1,173 @@
+//! Reader of the whole document.
+ghost use Rattle.std.specs.Prelude.{◌≡◌, IfOk, codes, [], option_map};
+ghost use Rattle.serde_json.specs.View.{view};
+ghost use Rattle.json_form.specs.Faults.{Gives};
+ghost use Rattle.json_form.specs.Objects.{members_at, without, read_or};
+ghost use Rattle.doc_reader.specs.Events.{schedule_of};
+ghost use Rattle.doc_reader.specs.Keeping.{IsDocument};
+ghost use Rattle.doc_reader.specs.Documents.{store_of, begin_of, document_with as document_with_def, clients_of, rest_of, document_of, document_at};
+
+use crate::counts::small;
+use crate::event::ScheduleReader;
+use crate::image::ImageReader;
+use crate::script::ClientReader;
+use crate::sequence::SequencesReader;
+use crate::service::{ServiceReader, usual_service};
+use crate::table::TablesReader;
+use json_form::{DocFault, Flag, Members, Reader, array_from, json_from, object_with, within};
+use outage_schedule::{Clients, DocSequences, DocTables, Document, Events, Image, ServiceOf};
+use serde_json::Value as Json;
+use std::alloc::Global;
+use svc_values::Listed;
+
+/// The greatest length of a document in bytes: 8 MiB.
+pub const DOCUMENT_LIMIT: usize = 8_388_608;
+
+/// What a run's store begins with.
+#[derive(Drop)]
+pub struct Store {
+    pub tables: DocTables,
+    pub sequences: DocSequences,
+    pub image: Option<Image>,
+}
+
+/// What the store begins with, among the members of the document, which are taken out.
+#[tactic(auto, unfolding(crate::specs::Documents::store_of), using(json_form::proofs::Offered::others_stay))]
+fn store_from(alloc: Global, members: &mut Members) -> Result<Store, DocFault>
+    ensures read { Gives result (store_of (members_at members.old)) }
+    ensures left { IfOk result (λ _. members_at members.new ≡ without (codes "image") (without (codes "sequences") (without (codes "tables") (members_at members.old)))) }
+{
+    let alone = !members.has("tables") && !members.has("sequences");
+    let tables = members.optional(alloc, "tables", &TablesReader, Listed::new(alloc))?;
+    let sequences = members.optional(alloc, "sequences", &SequencesReader, Listed::new(alloc))?;
+    let image = members.optional(alloc, "image", &ImageReader { alone }, None)?;
+    Ok(Store {
+        tables,
+        sequences,
+        image,
+    })
+}
+
+/// What a run begins with.
+#[derive(Drop)]
+pub struct Begin {
+    pub service: ServiceOf,
+    pub store: Store,
+    pub print_image: bool,
+}
+
+/// What a run begins with, among the members of the document, which are taken out.
+#[tactic(auto, unfolding(crate::specs::Documents::begin_of), using(json_form::proofs::Offered::others_stay, crate::proofs::Parts::parts_stay))]
+fn begin_from(alloc: Global, members: &mut Members) -> Result<Begin, DocFault>
+    ensures read { Gives result (begin_of (members_at members.old)) }
+    ensures left { IfOk result (λ _. members_at members.new ≡ without (codes "print_image") (without (codes "image") (without (codes "sequences")
+        (without (codes "tables") (without (codes "service") (members_at members.old)))))) }
+{
+    let service = members.optional(alloc, "service", &ServiceReader, usual_service())?;
+    let store = store_from(alloc, members)?;
+    let print_image = members.optional(alloc, "print_image", &Flag, false)?;
+    Ok(Begin {
+        service,
+        store,
+        print_image,
+    })
+}
+
+fn document_with(begin: Begin, clients: Clients, schedule: Events) -> Document
+    ensures { result ≡ document_with_def begin clients schedule }
+{
+    let Begin {
+        service,
+        store,
+        print_image,
+    } = begin;
+    let Store {
+        tables,
+        sequences,
+        image,
+    } = store;
+    Document {
+        service,
+        tables,
+        sequences,
+        image,
+        print_image,
+        clients,
+        schedule,
+    }
+}
+
+/// The clients, at most 64.
+fn clients_from(alloc: Global, value: Json) -> Result<Clients, DocFault>
+    ensures { Gives result (clients_of (view value)) }
+{
+    let clients = array_from(alloc, value, 0, 64, &ClientReader)?;
+    Ok(Listed::from_vec(clients))
+}
+
+/// The events of a document with so many clients, and with a second store or not.
+fn schedule_from(
+    alloc: Global,
+    schedule: Option<Json>,
+    clients: u64,
+    standby: bool,
+) -> Result<Events, DocFault>
+    ensures { Gives result (read_or (codes "schedule") [] (schedule_of clients standby) (option_map view schedule)) }
+{
+    match schedule {
+        Some(value) => {
+            let reader = ScheduleReader { clients, standby };
+            within(alloc, "schedule", reader.read(alloc, value))
+        }
+        None => Ok(Listed::new(alloc)),
+    }
+}
+
+/// The clients and the events, behind what the run begins with.
+#[tactic(auto, unfolding(crate::specs::Documents::rest_of))]
+fn rest_from(
+    alloc: Global,
+    schedule: Option<Json>,
+    clients: Json,
+    begin: Begin,
+) -> Result<Document, DocFault>
+    ensures { Gives result (rest_of (option_map view schedule) (view clients) begin) }
+{
+    let clients = within(alloc, "clients", clients_from(alloc, clients))?;
+    let standby = begin.service.standby;
+    let events = schedule_from(alloc, schedule, clients.len() as u64, standby)?;
+    small(alloc, document_with(begin, clients, events))
+}
+
+const MEMBERS: [&str; 7] = [
+    "service",
+    "tables",
+    "sequences",
+    "image",
+    "print_image",
+    "clients",
+    "schedule",
+];
+
+#[tactic(auto, unfolding(crate::specs::Documents::document_of), using(crate::proofs::Parts::parts_stay))]
+fn document_from(alloc: Global, value: Json) -> Result<Document, DocFault>
+    ensures { Gives result (document_of (view value)) }
+{
+    let mut members = object_with(alloc, value, &MEMBERS)?;
+    let clients = members.required(alloc, "clients")?;
+    let begin = begin_from(alloc, &mut members)?;
+    let schedule = members.take("schedule");
+    rest_from(alloc, schedule, clients, begin)
+}
+
+/// The document that the bytes spell as JSON (RFC 8259), of at most 8 MiB, or the first fault and its
+/// place. The texts of the document are moved out of the JSON value, which goes as it is read. The cost
+/// is linear in the number of bytes, but for the n log n comparisons of the keys of each table's n rows
+/// and of the names of each list of n names.
+pub fn read_document(alloc: Global, bytes: &[u8]) -> Result<Document, DocFault>
+    ensures read { Gives result (document_at bytes.now) }
+    ensures document { IfOk result IsDocument }
+{
+    let value = json_from(alloc, bytes, DOCUMENT_LIMIT)?;
+    document_from(alloc, value)
+}

@@ -1,0 +1,274 @@
+//! Readers of tables: columns, rows that fit them, and the columns by which the rows are indexed.
+ghost use Rattle.std.specs.Prelude.{◌≡◌, ◌≤◌, List, [], length, IfOk, IfErr, string_bytes};
+ghost use Rattle.std.specs.Str.{bytes_eq};
+ghost use Rattle.serde_json.specs.View.{view, items_view};
+ghost use Rattle.json_form.specs.Faults.{Gives, GivesBy};
+ghost use Rattle.json_form.specs.Arrays.{is_key, each_after};
+ghost use Rattle.json_form.specs.Texts.{word_of};
+ghost use Rattle.doc_reader.specs.Tables.{column_of, columns_of, kind_words, field_of, fitting, row_of, rows_of, known_column as known_column_def, indexed_of, index_of, table_of, tables_of};
+ghost use Rattle.svc_values.specs.Schemas.{key_of as key_of_row};
+ghost use Rattle.json_form.specs.declared.fault.DocFault.TheVariants.{NoMemory};
+
+use crate::built::{LateForm, built};
+use crate::value::{NewNameReader, ValueReader, copied};
+use json_form::{
+    DocCode, DocFault, KeyedReader, Reader, Taken, distinct_from, distinct_list, exact_from, fixed,
+    object_with, text_from, within, within_item, word_from,
+};
+use outage_schedule::{DocRows, DocTable, DocTables, IndexColumns};
+use serde_json::Value as Json;
+use std::alloc::Global;
+use svc_values::{Column, Columns, Kind, Limited, Listed, Name, Row, Schema, Value, has_column};
+
+/// Reads the word for a kind.
+struct KindReader;
+
+impl Reader<Kind> for KindReader {
+    ghost reads = { λ s. word_of kind_words };
+
+    fn read(&self, alloc: Global, value: Json) -> Result<Kind, DocFault> {
+        word_from(
+            alloc,
+            value,
+            &[
+                ("int", Kind::Int),
+                ("text", Kind::Text),
+                ("bytes", Kind::Bytes),
+            ],
+        )
+    }
+}
+
+/// Reads a column whose name does not stand before.
+struct ColumnReader;
+
+impl KeyedReader<Column> for ColumnReader {
+    type Key = Name;
+
+    ghost reads = { λ s. column_of };
+
+    ghost key_of = { λ column. column.name };
+
+    fn key(&self, alloc: Global, item: &Column) -> Result<Name, DocFault> {
+        copied(alloc, &item.name)
+    }
+
+    #[tactic(auto, unfolding(crate::specs::Tables::column_of), using(json_form::proofs::Offered::others_stay))]
+    fn read(&self, alloc: Global, taken: &Taken<Name>, value: Json) -> Result<Column, DocFault> {
+        let mut parts = fixed(alloc, value, 2)?;
+        let name = parts.read(alloc, 0, &NewNameReader { taken })?;
+        let kind = parts.read(alloc, 1, &KindReader)?;
+        Ok(Column { name, kind })
+    }
+}
+
+fn columns_from(alloc: Global, value: Json) -> Result<Columns, DocFault>
+    ensures { Gives result (columns_of (view value)) }
+{
+    let columns = distinct_from(alloc, value, 1, 8, &ColumnReader)?;
+    Ok(Limited::from_vec(columns))
+}
+
+/// One value of a row: the first is the key, which does not stand before.
+fn field_from(
+    alloc: Global,
+    taken: &Taken<Value>,
+    before: &[Value],
+    value: Json,
+) -> Result<Value, DocFault>
+    ensures { Gives result
+        (field_of (is_key ⟦<Value as PartialEq>⟧.eq taken.now) before.now (view value)) }
+{
+    let field = ValueReader.read(alloc, value)?;
+    if before.is_empty() {
+        taken.fresh(alloc, &field)?;
+    }
+    Ok(field)
+}
+
+/// The values of a row.
+fn fields_from(
+    alloc: Global,
+    taken: &Taken<Value>,
+    values: Vec<Json>,
+) -> Result<Vec<Value>, DocFault>
+    ensures read { GivesBy (λ v. v.items) result
+        (each_after (field_of (is_key ⟦<Value as PartialEq>⟧.eq taken.now)) [] (items_view values.items)) }
+    ensures count { IfOk result (λ v. length v.items ≡ length values.items) }
+{
+    let mut found = Vec::with_capacity(alloc, values.len())?;
+    for value in values {
+        let field = field_from(alloc, taken, found.as_slice(), value);
+        let field = within_item(alloc, found.len(), field)?;
+        found.push(field)?;
+    }
+    Ok(found)
+}
+
+/// The row, if it fits the columns.
+fn fitting_row(alloc: Global, schema: &Schema, row: Row) -> Result<Row, DocFault>
+    ensures { Gives result (fitting schema.now.columns row) }
+{
+    if !schema.fits(&row) {
+        return Err(DocFault::here(alloc, DocCode::WrongKind));
+    }
+    Ok(row)
+}
+
+/// The key of a row: its first value.
+fn key_from(alloc: Global, row: &[Value]) -> Result<Value, DocFault>
+    ensures made { IfOk result (λ key. key ≡ key_of_row row.now) }
+    ensures refused { IfErr result (λ e. e ≡ NoMemory) }
+{
+    match row {
+        [] => Ok(Value::Int(0)),
+        [key, ..] => copied(alloc, key),
+    }
+}
+
+/// Reads a row of a table, whose key does not stand before. Its values are read in order, the key
+/// tested at its turn, before their kinds are looked at.
+#[derive(Drop)]
+struct RowReader<'a> {
+    schema: &'a Schema,
+}
+
+impl KeyedReader<Row> for RowReader<'_> {
+    type Key = Value;
+
+    ghost reads = { λ s. row_of s.schema.now.columns };
+
+    ghost key_of = { key_of_row };
+
+    fn key(&self, alloc: Global, item: &Row) -> Result<Value, DocFault> {
+        key_from(alloc, item.as_slice())
+    }
+
+    #[tactic(auto, unfolding(crate::specs::Tables::row_of))]
+    fn read(&self, alloc: Global, taken: &Taken<Value>, value: Json) -> Result<Row, DocFault> {
+        let values = exact_from(alloc, value, self.schema.columns.len())?;
+        let fields = fields_from(alloc, taken, values)?;
+        fitting_row(alloc, self.schema, Limited::from_vec(fields))
+    }
+}
+
+/// Reads the rows of a table that is declared so.
+#[derive(Drop)]
+struct RowsReader<'a> {
+    schema: &'a Schema,
+}
+
+impl Reader<DocRows> for RowsReader<'_> {
+    ghost reads = { λ s. rows_of s.schema.now.columns };
+
+    fn read(&self, alloc: Global, value: Json) -> Result<DocRows, DocFault> {
+        let schema = self.schema;
+        let rows = distinct_from(alloc, value, 0, 10_000, &RowReader { schema })?;
+        Ok(Listed::from_vec(rows))
+    }
+}
+
+/// The column's name that the text is. A text that is no name is that of no column.
+fn known_column(alloc: Global, columns: &[Column], text: String) -> Result<Name, DocFault>
+    ensures { Gives result (known_column_def columns.now (string_bytes text)) }
+{
+    let Ok(name) = Name::from_string(text) else {
+        return Err(DocFault::here(alloc, DocCode::Unknown));
+    };
+    if !has_column(columns, &name) {
+        return Err(DocFault::here(alloc, DocCode::Unknown));
+    }
+    Ok(name)
+}
+
+/// Reads the name of a column that does not stand before.
+#[derive(Drop)]
+struct IndexedReader<'a> {
+    columns: &'a Columns,
+}
+
+impl KeyedReader<Name> for IndexedReader<'_> {
+    type Key = Name;
+
+    ghost reads = { λ s. indexed_of s.columns.now };
+
+    ghost key_of = { λ name. name };
+
+    fn key(&self, alloc: Global, item: &Name) -> Result<Name, DocFault> {
+        copied(alloc, item)
+    }
+
+    #[tactic(auto, unfolding(crate::specs::Tables::indexed_of))]
+    fn read(&self, alloc: Global, taken: &Taken<Name>, value: Json) -> Result<Name, DocFault> {
+        let text = text_from(alloc, value)?;
+        let name = known_column(alloc, self.columns.as_slice(), text)?;
+        taken.fresh(alloc, &name)?;
+        Ok(name)
+    }
+}
+
+/// Reads the columns by which a table of these columns is indexed.
+#[derive(Drop)]
+struct IndexReader<'a> {
+    columns: &'a Columns,
+}
+
+impl Reader<IndexColumns> for IndexReader<'_> {
+    ghost reads = { λ s. index_of s.columns.now };
+
+    #[tactic(auto, unfolding(crate::specs::Tables::index_of))]
+    fn read(&self, alloc: Global, value: Json) -> Result<IndexColumns, DocFault> {
+        built(alloc, LateForm::Index)?;
+        let columns = self.columns;
+        let names = distinct_list(alloc, value, &IndexedReader { columns })?;
+        Ok(Listed::from_vec(names))
+    }
+}
+
+/// Reads a table whose name does not stand before. For n rows the cost is n log n comparisons of keys.
+struct TableReader;
+
+impl KeyedReader<DocTable> for TableReader {
+    type Key = Name;
+
+    ghost reads = { λ s. table_of };
+
+    ghost key_of = { λ table. table.name };
+
+    fn key(&self, alloc: Global, item: &DocTable) -> Result<Name, DocFault> {
+        copied(alloc, &item.name)
+    }
+
+    #[tactic(auto, unfolding(crate::specs::Tables::table_of), using(json_form::proofs::Offered::others_stay))]
+    fn read(&self, alloc: Global, taken: &Taken<Name>, value: Json) -> Result<DocTable, DocFault> {
+        let mut members = object_with(alloc, value, &["name", "columns", "rows", "index"])?;
+        let name = members.required(alloc, "name")?;
+        let columns = members.required(alloc, "columns")?;
+        let name = within(alloc, "name", NewNameReader { taken }.read(alloc, name))?;
+        let columns = within(alloc, "columns", columns_from(alloc, columns))?;
+        let schema = Schema { name, columns };
+        let reader = RowsReader { schema: &schema };
+        let rows = members.optional(alloc, "rows", &reader, Listed::new(alloc))?;
+        let columns = &schema.columns;
+        let index = members.optional(alloc, "index", &IndexReader { columns }, Listed::new(alloc))?;
+        let Schema { name, columns } = schema;
+        Ok(DocTable {
+            name,
+            columns,
+            rows,
+            index,
+        })
+    }
+}
+
+/// Reads at most 32 tables of different names.
+pub(crate) struct TablesReader;
+
+impl Reader<DocTables> for TablesReader {
+    ghost reads = { λ s. tables_of };
+
+    fn read(&self, alloc: Global, value: Json) -> Result<DocTables, DocFault> {
+        let tables = distinct_from(alloc, value, 0, 32, &TableReader)?;
+        Ok(Listed::from_vec(tables))
+    }
+}
