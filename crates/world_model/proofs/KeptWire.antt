@@ -1,5 +1,5 @@
 -- Of Wire: items and replies are those of their frames, at the start and behind each event.
-use Rattle.std.proofs.Common.{◌≡◌, refl}
+use Rattle.std.proofs.Common.{refl}
 use Rattle.world_model.specs.KeptLaws.{IsKept}
 use Rattle.world_model.specs.Wire.{are_handled}
 use Rattle.world_model.proofs.Happened.{Followed, follow_happens, at_event}

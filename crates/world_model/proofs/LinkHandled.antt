@@ -1,7 +1,6 @@
 -- Of each connection: each item is that of its frame, or the frame was stopped, and each reply is that of the item.
-use Rattle.std.proofs.Common.{◌≡◌, refl, sym, ap, subst, ◌∙◌, Bool, true, false, ℕ, ◌+◌, ◌&&◌, ◌||◌, cond, List, [], ◌∷◌, ◌++◌, count_by, Option, Some, None, if◌then◌else◌, arith}
-use Rattle.std.specs.Prelude.{◌==◌, is_none}
-use Rattle.std.specs.List.{list_all}
+use Rattle.std.proofs.Common.{◌≡◌, refl, sym, ap, subst, ◌∙◌, Bool, true, false, ℕ, ◌+◌, ◌&&◌, cond, List, [], ◌∷◌, ◌++◌, count_by, Option, None, if◌then◌else◌, arith}
+use Rattle.std.specs.Prelude.{is_none}
 use Rattle.std.proofs.lemmas.Bool.{and_parts, and_from, or_left, or_right}
 use Rattle.std.proofs.lemmas.List.Sums.{sum_by-cons}
 use Rattle.svc_values.specs.declared.frame.Down.{Down}
@@ -11,13 +10,13 @@ use Rattle.world_model.specs.Frames.{Handled}
 use Rattle.world_model.specs.Links.{Link, ends}
 use Rattle.world_model.specs.Machines.{Machine}
 use Rattle.world_model.specs.Serving.{Front, is_ordinary, is_of_front, is_item_of, is_commit, is_blocked, reply_of, commits_after, after_front, handled}
-use Rattle.world_model.specs.Crashing.{is_stopped, is_crashed_item}
+use Rattle.world_model.specs.Crashing.{is_crashed_item}
 use Rattle.world_model.specs.Wire.{same_replies, is_handled, counted_with, handled_from}
 use Rattle.world_model.proofs.Tests.{eq_from}
 use Rattle.world_model.proofs.SameSelf.{reply_self}
 use Rattle.world_model.proofs.Ends.{ends_case, sends_alike, cut_case, fallen_case}
 use Rattle.world_model.proofs.LinkLives.{counts_commits}
-use Rattle.world_model.proofs.AllLinks.{IsFront, Keeps}
+use Rattle.world_model.proofs.AllLinks.{Keeps}
 
 abbrev pub is_all_handled : Link → Bool
 is_all_handled link = handled_from 0 link.served
