@@ -4,6 +4,10 @@
 #[cfg(test)]
 mod disks;
 #[cfg(test)]
+mod images;
+#[cfg(test)]
+mod opening;
+#[cfg(test)]
 mod records;
 #[cfg(test)]
 mod sessions;
