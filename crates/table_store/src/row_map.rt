@@ -79,6 +79,7 @@ impl RowMap {
         ensures err { OnErr result (self.new ≡ self.old) }
         ensures rising { KeysRise self.new }
     {
+        let row = exact(row);
         match Rc::get_mut(&mut self.rows) {
             Some(rows) => {
                 rows.insert(key, row)?;
@@ -110,6 +111,15 @@ impl RowMap {
         }
         Ok(())
     }
+}
+
+/// The same row without spare room. It takes no memory.
+fn exact(row: Row) -> Row
+    ensures { result ≡ row }
+{
+    let mut values = row.into_vec();
+    values.shrink_to_fit();
+    Row::from_vec(values)
 }
 
 /// The same rows in a map of their own.
