@@ -8,6 +8,8 @@ mod images;
 #[cfg(test)]
 mod opening;
 #[cfg(test)]
+mod openings;
+#[cfg(test)]
 mod records;
 #[cfg(test)]
 mod sessions;
