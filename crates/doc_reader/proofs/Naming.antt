@@ -12,7 +12,7 @@ use Rattle.svc_values.specs.Names.{is_name_of}
 use Rattle.svc_values.specs.declared.statement.Operand.{Operand}
 use Rattle.outage_schedule.specs.declared.document.Document.{Document}
 use Rattle.doc_reader.specs.Counts.{with_others, different, names_in_operand, names_in, has_few_names}
-use Rattle.doc_reader.specs.Counting.{noted, noted_all, if_few_names}
+use Rattle.doc_reader.specs.InnerCounting.{noted, noted_all, if_few_names}
 
 ends : {A : Type 0} (r : Result A Fault) → (r >>= λ x. Ok x) ≡ r
 ends (Ok x) = refl

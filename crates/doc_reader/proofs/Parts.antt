@@ -1,11 +1,11 @@
 -- What is read of an object in a part of its own changes nothing for the others.
-use Rattle.std.proofs.Common.{◌≡◌, ℕ, List, false, Result, Ok, Err, codes, refl, sym, ap, subst, ◌∙◌, rules}
+use Rattle.std.proofs.Common.{◌≡◌, ℕ, List, false, Result, Ok, codes, refl, sym, ap, subst, ◌∙◌, rules}
 use Rattle.std.specs.Prelude.{Bool, Option}
 use Rattle.std.specs.Str.{bytes_eq}
 use Rattle.serde_json.specs.Data.{Data}
 use Rattle.json_form.specs.declared.fault.DocFault.{DocFault}
 use Rattle.json_form.specs.declared.fault.DocFault.TheVariants.{NoMemory, At}
-use Rattle.json_form.specs.Faults.{Fault, ◌>>=◌, Fails, Gives}
+use Rattle.json_form.specs.Faults.{Fault, ◌>>=◌, Fails}
 use Rattle.json_form.specs.Values.{bool_of}
 use Rattle.json_form.specs.Objects.{Named, object_with, required, optional, without}
 use Rattle.json_form.specs.Texts.{word_of}
@@ -14,7 +14,6 @@ use Rattle.outage_schedule.specs.declared.document.Failover.TheVariants as failo
 use Rattle.outage_schedule.specs.declared.document.Consistency.{Consistency}
 use Rattle.outage_schedule.specs.declared.document.Consistency.TheVariants as consistency
 use Rattle.outage_schedule.specs.declared.document.ServiceOf.{ServiceOf}
-use Rattle.outage_schedule.specs.declared.document.Document.{Document}
 use Rattle.doc_reader.specs.declared.document.Store.{Store}
 use Rattle.doc_reader.specs.declared.document.Begin.{Begin}
 use Rattle.doc_reader.specs.declared.service.Words.{Words}

@@ -1,5 +1,5 @@
 -- What a document that was read keeps to.
-use Rattle.std.proofs.Common.{◌≡◌, ◌≤◌, ℕ, ◌&&◌, ◌==◌, List, [], ◌∷◌, length, Bool, true, false, cond, Option, Some, None, Result, Ok, Err, codes, refl, sym, ap, subst, ◌∙◌, arith}
+use Rattle.std.proofs.Common.{◌≡◌, ℕ, ◌==◌, List, [], length, Bool, true, false, Option, Some, None, Result, Ok, Err, codes, refl, sym, ap, subst}
 use Rattle.std.specs.Prelude.{not, is_some, IfOk}
 use Rattle.serde_json.specs.Data.{Data}
 use Rattle.json_form.specs.declared.fault.DocCode.TheVariants.{Limit, Rule}
@@ -29,7 +29,7 @@ use Rattle.doc_reader.specs.Keeping.{is_service, is_begin, IsDocument}
 use Rattle.json_form.proofs.Offered.{after, ok_is, within_ok, passed, both_true, first_true, second_true, optional_keeps}
 use Rattle.doc_reader.proofs.ReadSequences.{AreTables, tables_read, no_tables, AreSequences, sequences_read, no_sequences}
 use Rattle.doc_reader.proofs.ReadService.{service_read, usual_is}
-use Rattle.doc_reader.proofs.ReadScripts.{AreClients, clients_read}
+use Rattle.doc_reader.proofs.ReadScripts.{clients_read}
 use Rattle.doc_reader.proofs.ReadEvents.{AreEvents, schedule_read, no_events}
 
 -- an image was read only where it stands alone

@@ -1,5 +1,5 @@
 -- What events that were read keep to.
-use Rattle.std.proofs.Common.{◌≡◌, ◌≤◌, ℕ, ◌+◌, ◌&&◌, ◌||◌, nat_le, List, [], ◌∷◌, length, Bool, true, false, Result, Ok, Err, refl, sym, ap, ◌∙◌, arith}
+use Rattle.std.proofs.Common.{◌≡◌, ◌≤◌, ℕ, ◌+◌, ◌||◌, nat_le, List, [], length, Bool, true, false, Result, Ok, refl, sym, ap, ◌∙◌, arith}
 use Rattle.std.specs.List.{list_all}
 use Rattle.std.proofs.lemmas.Bool.{le-leb, leb-true}
 use Rattle.serde_json.specs.Data.{Data}
@@ -8,7 +8,6 @@ use Rattle.json_form.specs.Faults.{Fault, ◌>>=◌, here}
 use Rattle.json_form.specs.Values.{whole_of}
 use Rattle.json_form.specs.Arrays.{Placed, each_of, array_of, fixed, part}
 use Rattle.json_form.specs.Texts.{head_of}
-use Rattle.svc_values.specs.declared.call.Call.{Call}
 use Rattle.svc_values.specs.declared.entry.Ltxid.{Ltxid}
 use Rattle.outage_schedule.specs.declared.event.Event.{Event}
 use Rattle.outage_schedule.specs.declared.event.Event.TheVariants as event
@@ -18,10 +17,10 @@ use Rattle.doc_reader.specs.declared.event.EventWord.TheVariants as word
 use Rattle.doc_reader.specs.Built.{built}
 use Rattle.doc_reader.specs.Calls.{call_of}
 use Rattle.doc_reader.specs.Events.{count_of, pick_of, lost_pick_of, go_of, serve_of, reap_of, cut_of, crash_of, upcrash_of, bare_of, outside_of, ltxid_of, ask_of, if_second, failover_of, event_words, event_by, event_of, schedule_of}
-use Rattle.doc_reader.specs.Keeping.{is_between, is_count, is_asked, is_pick, is_event}
+use Rattle.doc_reader.specs.Keeping.{is_count, is_asked, is_event}
 use Rattle.json_form.proofs.Offered.{after, ok_is, given, passed, part_read, each_long, read_array, all_read, both_true, second_true}
 use Rattle.doc_reader.proofs.ReadNumbers.{part_whole, whole_read}
-use Rattle.doc_reader.proofs.ReadScripts.{AreCalls, calls_read}
+use Rattle.doc_reader.proofs.ReadScripts.{calls_read}
 
 count_read : (i : ℕ) (ds : Placed) (n : ℕ) → part i count_of ds ≡ Ok n → is_count n ≡ true
 count_read i ds n h = second_true _ _ (part_whole i 0 4611686018427387904 ds n h)

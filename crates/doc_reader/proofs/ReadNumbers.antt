@@ -1,8 +1,8 @@
 -- What numbers that were read keep to.
-use Rattle.std.proofs.Common.{◌≡◌, ℕ, ℤ, pos, negsuc, ◌&&◌, nat_le, List, Bool, true, Result, Ok, Err, ap, sym, ◌∙◌}
+use Rattle.std.proofs.Common.{◌≡◌, ℕ, ℤ, pos, negsuc, ◌&&◌, nat_le, List, true, Ok, ap, sym, ◌∙◌}
 use Rattle.serde_json.specs.Data.{Data}
 use Rattle.json_form.specs.declared.fault.DocCode.TheVariants.{Limit}
-use Rattle.json_form.specs.Faults.{Fault, ◌>>=◌, here}
+use Rattle.json_form.specs.Faults.{here}
 use Rattle.json_form.specs.Values.{number_of, in_limits, whole_of}
 use Rattle.json_form.specs.Arrays.{Placed, part}
 use Rattle.json_form.specs.Objects.{Named, optional}

@@ -12,7 +12,7 @@ use Rattle.outage_schedule.specs.declared.document.DocTable.{DocTable}
 use Rattle.outage_schedule.specs.declared.document.DocSequence.{DocSequence}
 use Rattle.doc_reader.specs.Values.{name_of, new_name}
 use Rattle.doc_reader.specs.Tables.{table_of, tables_of, start_of, sequence_of, sequences_of}
-use Rattle.doc_reader.specs.Keeping.{is_between, is_table, is_sequence}
+use Rattle.doc_reader.specs.Keeping.{is_table, is_sequence}
 use Rattle.json_form.proofs.Offered.{after, ok_is, within_ok, each_long, read_array, new_key}
 use Rattle.json_form.proofs.Offered.{distinct_read, distinct_all}
 use Rattle.doc_reader.proofs.ReadNumbers.{whole_read}

@@ -1,12 +1,12 @@
 -- What tables that were read keep to.
-use Rattle.std.proofs.Common.{◌≡◌, ◌≤◌, ℕ, ◌&&◌, List, [], ◌∷◌, ◌++◌, length, Bool, true, false, cond, Option, Some, None, Result, Ok, Err, codes, refl, sym, ap, ◌∙◌, decimal, arith, subst}
+use Rattle.std.proofs.Common.{◌≡◌, ◌≤◌, ℕ, ◌&&◌, List, [], ◌∷◌, ◌++◌, length, Bool, true, false, Result, Ok, codes, refl, sym, ap, ◌∙◌, arith, subst}
 use Rattle.std.specs.Prelude.{not}
 use Rattle.std.specs.List.{list_all}
 use Rattle.std.specs.Str.{bytes_eq}
 use Rattle.std.proofs.lemmas.Bool.{le-leb}
 use Rattle.serde_json.specs.Data.{Data}
 use Rattle.json_form.specs.declared.fault.DocCode.TheVariants.{WrongKind, Unknown}
-use Rattle.json_form.specs.Faults.{Fault, ◌>>=◌, here, within, within_item}
+use Rattle.json_form.specs.Faults.{Fault, ◌>>=◌, here, within}
 use Rattle.json_form.specs.Pointers.{escaped}
 use Rattle.json_form.specs.Objects.{Named, object_with, required, optional}
 use Rattle.json_form.specs.Arrays.{Placed, each_after, fixed, distinct, fresh, exact_of, part, have_distinct_keys}

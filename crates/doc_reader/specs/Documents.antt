@@ -7,8 +7,6 @@ use Rattle.json_form.specs.Objects.{Named, object_with, has, required, optional,
 use Rattle.json_form.specs.Arrays.{each_of, array_of}
 use Rattle.json_form.specs.Texts.{json_at}
 use Rattle.outage_schedule.specs.declared.document.Client.{Client}
-use Rattle.outage_schedule.specs.declared.document.DocTable.{DocTable}
-use Rattle.outage_schedule.specs.declared.document.DocSequence.{DocSequence}
 use Rattle.outage_schedule.specs.declared.document.Document.{Document}
 use Rattle.outage_schedule.specs.declared.event.Event.{Event}
 use Rattle.doc_reader.specs.declared.document.Store.{Store}

@@ -1,8 +1,7 @@
 -- How the items of a call stand in a document: arrays that begin with a word.
-use Rattle.std.specs.Prelude.{ℕ, List, [], ◌∷◌, ◌++◌, true, false, Result, Ok, Err, codes}
+use Rattle.std.specs.Prelude.{ℕ, List, [], ◌∷◌, Result, Ok, codes}
 use Rattle.serde_json.specs.Data.{Data}
-use Rattle.json_form.specs.declared.fault.DocCode.TheVariants.{Rule}
-use Rattle.json_form.specs.Faults.{Fault, ◌>>=◌, here}
+use Rattle.json_form.specs.Faults.{Fault, ◌>>=◌}
 use Rattle.json_form.specs.Arrays.{array_of, each_of, fixed, part}
 use Rattle.json_form.specs.Texts.{head_of, word_of}
 use Rattle.svc_values.specs.declared.statement.Operand.{Operand}
@@ -10,10 +9,7 @@ use Rattle.svc_values.specs.declared.statement.Change.{Change}
 use Rattle.svc_values.specs.declared.statement.Change.TheVariants as change
 use Rattle.svc_values.specs.declared.statement.Test.{Test}
 use Rattle.svc_values.specs.declared.statement.Test.TheVariants as test
-use Rattle.svc_values.specs.declared.statement.Statement.{Statement}
 use Rattle.svc_values.specs.declared.statement.Statement.TheVariants as statement
-use Rattle.svc_values.specs.declared.call.Call.{Call}
-use Rattle.svc_values.specs.declared.call.Call.TheVariants as call
 use Rattle.doc_reader.specs.declared.item.Item.{Item}
 use Rattle.doc_reader.specs.declared.item.Item.TheVariants as item
 use Rattle.doc_reader.specs.declared.item.ChangeWord.{ChangeWord}

@@ -1,5 +1,5 @@
 -- What a document that was read keeps to.
-use Rattle.std.specs.Prelude.{ℕ, pos, ◌+◌, ◌≤◌, ◌==◌, Bool, true, ◌&&◌, ◌||◌, nat_le, int_le, List, [], length, Option, Some, None, IsTrue}
+use Rattle.std.specs.Prelude.{ℕ, pos, ◌≤◌, ◌==◌, Bool, true, ◌&&◌, ◌||◌, nat_le, int_le, List, length, Option, Some, None, IsTrue}
 use Rattle.std.specs.List.{list_all}
 use Rattle.std.specs.Str.{bytes_eq}
 use Rattle.json_form.specs.Arrays.{have_distinct_keys}
@@ -9,7 +9,6 @@ use Rattle.svc_values.specs.Kinds.{row_fits, has_column}
 use Rattle.svc_values.specs.Same.{same_value}
 use Rattle.svc_values.specs.Schemas.{is_declared, key_of}
 use Rattle.svc_values.specs.Calls.{is_made}
-use Rattle.outage_schedule.specs.declared.document.PoolOf.{PoolOf}
 use Rattle.outage_schedule.specs.declared.document.ServiceOf.{ServiceOf}
 use Rattle.outage_schedule.specs.declared.document.DocTable.{DocTable}
 use Rattle.outage_schedule.specs.declared.document.DocSequence.{DocSequence}

@@ -8,6 +8,6 @@ pub mod Scripts
 pub mod Events
 pub mod Images
 pub mod Counts
-pub mod Counting
+pub mod InnerCounting
 pub mod Documents
 pub mod Keeping

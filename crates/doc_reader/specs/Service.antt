@@ -1,5 +1,5 @@
 -- How the service and its drivers are described in a document. Each member may be missing.
-use Rattle.std.specs.Prelude.{ℕ, List, [], ◌∷◌, Bool, true, false, Result, Ok, codes}
+use Rattle.std.specs.Prelude.{ℕ, List, [], ◌∷◌, Bool, false, Result, Ok, codes}
 use Rattle.serde_json.specs.Data.{Data}
 use Rattle.json_form.specs.Faults.{Fault, ◌>>=◌}
 use Rattle.json_form.specs.Values.{whole_of, bool_of}

@@ -5,7 +5,7 @@ ghost use Rattle.json_form.specs.declared.fault.DocFault.TheVariants.{NoMemory};
 ghost use Rattle.json_form.specs.Faults.{Gives};
 ghost use Rattle.svc_values.specs.Calls.{operand_of};
 ghost use Rattle.doc_reader.specs.Counts.{calls_in_request, calls_in_client, calls_in_event, names_in_operand, names_in_statement, names_in_call, names_in_request, names_in_client, names_in_event, names_in, has_few_calls as has_few_calls_def, if_small};
-ghost use Rattle.doc_reader.specs.Counting.{left_of, noted as noted_def, noted_all, if_few_names};
+ghost use Rattle.doc_reader.specs.InnerCounting.{left_of, noted as noted_def, noted_all, if_few_names};
 
 use crate::value::copied;
 use json_form::{DocCode, DocFault};

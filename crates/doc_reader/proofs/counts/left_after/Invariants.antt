@@ -1,6 +1,6 @@
 use Rattle.std.proofs.Common.{◌≡◌, drop, length}
 use Rattle.std.specs.List.{flat_map}
-use Rattle.doc_reader.specs.Counting.{left_of}
+use Rattle.doc_reader.specs.InnerCounting.{left_of}
 use Rattle.doc_reader.proofs.counts.left_after.Given as goal
 
 abbrev pub invariant-loop-item : goal.invariant-loop-item

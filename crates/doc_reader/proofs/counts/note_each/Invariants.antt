@@ -1,6 +1,6 @@
 use Rattle.std.proofs.Common.{◌≡◌, drop}
 use Rattle.std.specs.List.{flat_map}
-use Rattle.doc_reader.specs.Counting.{noted_all}
+use Rattle.doc_reader.specs.InnerCounting.{noted_all}
 use Rattle.doc_reader.proofs.counts.note_each.Given as goal
 
 abbrev pub invariant-loop-item : goal.invariant-loop-item

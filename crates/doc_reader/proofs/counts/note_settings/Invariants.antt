@@ -1,5 +1,5 @@
 use Rattle.std.proofs.Common.{◌≡◌, map}
-use Rattle.doc_reader.specs.Counting.{noted_all}
+use Rattle.doc_reader.specs.InnerCounting.{noted_all}
 use Rattle.doc_reader.proofs.counts.note_settings.Given as goal
 
 abbrev pub invariant-loop-name : goal.invariant-loop-name

@@ -4,7 +4,7 @@ use Rattle.json_form.specs.declared.fault.DocCode.TheVariants.{Limit}
 use Rattle.json_form.specs.Faults.{Fault, ◌>>=◌, here}
 use Rattle.svc_values.specs.Names.{is_name_of}
 use Rattle.outage_schedule.specs.declared.document.Document.{Document}
-use Rattle.doc_reader.specs.Counts.{has_few_calls, has_few_names}
+use Rattle.doc_reader.specs.Counts.{has_few_names}
 
 -- how many are left of so many, if as many are there
 abbrev pub left_of : ℕ → ℕ → Option ℕ
