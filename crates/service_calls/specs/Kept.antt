@@ -1,26 +1,29 @@
--- What every call of a service keeps, and what a reading of its store gives.
+-- What every call of a service keeps, and what the bytes of its store say.
 use Rattle.std.specs.Prelude.{◌≡◌, ℕ, List, Ok}
-use Rattle.commit_log.specs.declared.base.Base.{Base}
 use Rattle.commit_log.specs.declared.journal.Journal.{Journal}
 use Rattle.commit_log.specs.Journals.{journal_of}
 use Rattle.server_model.specs.Seen.{Store, Seen, IsHistory}
 
--- The history is one of the plain server, which ends with the store; and the store's base stays.
-pub record Stays (old new : Base) (seen : Seen) : Type 0 where
-  pub history : IsHistory seen
-  pub base : new ≡ old
-
 -- the journal says what the store holds
-pub record Tells (base : Base) (store : Store) (journal : Journal) : Type 0 where
-  pub base_of : journal.base ≡ base
+pub record Tells (store : Store) (journal : Journal) : Type 0 where
   pub incarnation : journal.incarnation ≡ store.incarnation
   pub horizon : journal.horizon ≡ store.horizon
   pub entries : journal.entries ≡ store.entries
   pub blocked : journal.blocked ≡ store.blocked
   pub alerts : journal.alerts ≡ store.alerts
 
--- the bytes are an image of that journal
-pub record Pictures (base : Base) (store : Store) (image : List ℕ) : Type 0 where
+-- the bytes are those of a journal that says so
+pub record Pictures (store : Store) (bytes : List ℕ) : Type 0 where
   pub journal : Journal
-  pub reads : journal_of image ≡ Ok journal
-  pub tells : Tells base store journal
+  pub reads : journal_of bytes ≡ Ok journal
+  pub tells : Tells store journal
+
+-- both are of journals with one base
+abbrev pub HaveOneBase : List ℕ → List ℕ → Type 0
+HaveOneBase old new = (journal other : Journal) → journal_of old ≡ Ok journal → journal_of new ≡ Ok other → other.base ≡ journal.base
+
+-- The history is one of the plain server, which ends with the store; the bytes of the store say what it holds; and its base stays.
+pub record Stays (old new : List ℕ) (seen : Seen) : Type 0 where
+  pub history : IsHistory seen
+  pub pictures : Pictures seen.store new
+  pub base : HaveOneBase old new

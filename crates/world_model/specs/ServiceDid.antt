@@ -1,20 +1,17 @@
 -- What a service's history has of an event: the frames that were served then and the identifiers that were asked, in order.
-use Rattle.std.specs.Prelude.{◌≡◌, ℕ, List, [], ◌∷◌, ◌++◌, map, Option, Some, if◌then◌else◌}
-use Rattle.svc_values.specs.declared.answer.Answer.{Answer}
-use Rattle.svc_values.specs.declared.draw.Draw.{Draw}
+use Rattle.std.specs.Prelude.{◌≡◌, ℕ, List, [], ◌∷◌, ◌++◌, Option, Some, if◌then◌else◌}
 use Rattle.svc_values.specs.declared.entry.SessionId.{SessionId}
 use Rattle.outage_schedule.specs.declared.event.Event.{Event}
 use Rattle.outage_schedule.specs.declared.event.Event.TheVariants as event
 use Rattle.outage_schedule.specs.declared.note.Note.{Note}
 use Rattle.outage_schedule.specs.declared.note.Note.TheVariants as note
-use Rattle.outage_schedule.specs.declared.note.NoteRun.{NoteRun}
-use Rattle.outage_schedule.specs.declared.note.OutsideNote.{OutsideNote}
 use Rattle.outage_schedule.specs.declared.item.Item.{Item}
 use Rattle.outage_schedule.specs.declared.item.Item.TheVariants as item
 use Rattle.outage_schedule.specs.declared.item.Served.{Served}
 use Rattle.server_model.specs.Outcomes.{Telling, Says, Stopped, telling_of}
 use Rattle.server_model.specs.Runs.{Happened, Served as ServedFrame, Asked}
 use Rattle.server_model.specs.ServiceCalls.{RunsAre, begins_outside}
+use Rattle.service_calls.specs.Answers.{runs_of}
 use Rattle.world_model.specs.Machines.{Machine, next_session}
 use Rattle.world_model.specs.Serving.{Front, front_at, reply_of, outcome_frame, commits_after}
 
@@ -31,12 +28,6 @@ front_telling front served = item_telling served.session (commits_after front.li
 abbrev pub front_served : ℕ → Option Front → List Served → List Happened
 front_served now (Some front) (served ∷ items) = ServedFrame served.session now front.first.frame (front_telling front served) ∷ []
 front_served now _ _ = []
-
-abbrev pub run_of : NoteRun → List Answer × List Draw
-run_of run = (run.answers, run.draws)
-
-abbrev pub runs_of : OutsideNote → List (List Answer × List Draw)
-runs_of ran = map run_of ran.runs
 
 -- An event that serves a frame has one thing, one that runs calls outside what these did in a session of their own, a question one, and
 -- every other event has none. (The machine follows the event, so a frame that is noted stands first.)
