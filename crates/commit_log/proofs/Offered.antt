@@ -4,3 +4,5 @@
 pub use Rattle.commit_log.proofs.Committing.{may_beside, notes_commit, block_beside, notes_block, notes_horizon}
 -- a run that adds some of the records of a call, one part after another
 pub use Rattle.commit_log.proofs.Growing.{grown_stays, grown_more, grown_then}
+-- no record more, records behind records, and none of any records
+pub use Rattle.commit_log.proofs.Growing.{has_itself, adds_on, grows_by_none}

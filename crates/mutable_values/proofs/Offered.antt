@@ -9,6 +9,8 @@ pub use Rattle.mutable_values.proofs.Draws.{may_reserve_next}
 -- the sequence that is found has the name, and passes each test that all pass
 pub use Rattle.mutable_values.proofs.Histories.{found_name}
 pub use Rattle.mutable_values.proofs.Given.{found_passes}
+-- a value that is given is of the kind and name that is asked for
+pub use Rattle.mutable_values.proofs.Given.{gives_as_asked}
 -- a change of one sequence: what is found afterwards, and that names and keeps stay
 pub use Rattle.mutable_values.proofs.Places.{change_of}
 pub use Rattle.mutable_values.proofs.Histories.{sequence_changed}

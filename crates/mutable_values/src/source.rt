@@ -203,8 +203,9 @@ impl Source {
         }
     }
 
-    /// Whether what is asked for is there: the clock and identifiers always are.
-    fn is_there(&self, kind: &DrawKind) -> bool
+    /// Whether what is asked for is there: the clock and identifiers always are. Linear in the
+    /// sequences; it takes no memory.
+    pub fn is_there(&self, kind: &DrawKind) -> bool
         ensures { result ≡ is_there_def (names_of self.now.sequences) kind.now }
     {
         match kind {

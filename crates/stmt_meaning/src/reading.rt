@@ -23,8 +23,10 @@ fn draw_value<F: DrawFrom>(
     source: &mut F,
     drawn: &mut Vec<Draw>,
 ) -> Result<Value, Stop>
+    requires { F.is_ready source.old }
     ensures read { HasRead F.drew (λ given. taken (wanted_draw (F.names source.old) kind.now) given) source.old drawn.old.items result source.new drawn.new.items }
     ensures names { F.names source.new ≡ F.names source.old }
+    ensures ready { F.is_ready source.new }
 {
     let draw = source.draw(alloc, kind)?;
     let value = drawn_value(alloc, &draw)?;
@@ -40,8 +42,10 @@ fn value_of<F: DrawFrom>(
     source: &mut F,
     drawn: &mut Vec<Draw>,
 ) -> Result<Value, Stop>
+    requires { F.is_ready source.old }
     ensures read { HasRead F.drew (λ given. value_of_def (F.names source.old) settings.now operand.now given) source.old drawn.old.items result source.new drawn.new.items }
     ensures names { F.names source.new ≡ F.names source.old }
+    ensures ready { F.is_ready source.new }
 {
     match operand {
         Operand::Lit(value) => Ok(value.copy(alloc)?),
@@ -61,8 +65,10 @@ fn values_of<F: DrawFrom>(
     source: &mut F,
     drawn: &mut Vec<Draw>,
 ) -> Result<Row, Stop>
+    requires { F.is_ready source.old }
     ensures read { HasRead F.drew (λ given. values_of_def (F.names source.old) settings.now (operands_of statement.now) given) source.old drawn.old.items result source.new drawn.new.items }
     ensures names { F.names source.new ≡ F.names source.old }
+    ensures ready { F.is_ready source.new }
 {
     let mut values = Vec::new(alloc);
     while let Some(operand) = operand_at(statement, values.len()) {
@@ -82,8 +88,10 @@ pub fn plan_of<F: DrawFrom>(
     source: &mut F,
     drawn: &mut Vec<Draw>,
 ) -> Result<Plan, Stop>
+    requires { F.is_ready source.old }
     ensures read { HasRead F.drew (λ given. plan_of_def (record { schemas = schemas.now; sequences = F.names source.old }) settings.now statement.now given) source.old drawn.old.items result source.new drawn.new.items }
     ensures names { F.names source.new ≡ F.names source.old }
+    ensures ready { F.is_ready source.new }
 {
     let target = target_of(schemas, statement)?;
     let values = values_of(alloc, settings, statement, source, drawn)?;

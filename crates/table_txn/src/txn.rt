@@ -126,12 +126,14 @@ impl Txn {
         statements: &Statements,
         draws: &mut F,
     ) -> Result<Ran, TxnFault>
-        requires { IsTrue (writes_fit tables.now.schemas self.old.writes) }
+        requires fits { IsTrue (writes_fit tables.now.schemas self.old.writes) }
+        requires ready { F.is_ready draws.old }
         ensures ran { IfOk result (λ ran. HasRun tables.now (F.names draws.old) settings.now self.old statements.now ran.answers ran.draws self.new × DrewAll F.drew draws.old ran.draws draws.new) }
         ensures ended { IfErr result (λ ended. HasEnded tables.now (F.names draws.old) settings.now self.old statements.now F.drew draws.old ended draws.new) }
         ensures fits { OnOk result (IsTrue (writes_fit tables.now.schemas self.new.writes)) }
         ensures unchanged { OnOk result (StayUnchanged tables.now.rows self.old.readings self.new.readings) }
         ensures names { F.names draws.new ≡ F.names draws.old }
+        ensures ready { F.is_ready draws.new }
     {
         self.run_on(tables, settings, statements, draws, false)
     }
@@ -147,11 +149,13 @@ impl Txn {
     ) -> Result<Ran, TxnFault>
         requires fits { IsTrue (writes_fit tables.now.schemas self.old.writes) }
         requires unchanged { AreUnchanged tables.now.rows self.old.readings }
+        requires ready { F.is_ready draws.old }
         ensures ran { IfOk result (λ ran. HasRun tables.now (F.names draws.old) settings.now self.old statements.now ran.answers ran.draws self.new × DrewAll F.drew draws.old ran.draws draws.new) }
         ensures ended { IfErr result (λ ended. HasEnded tables.now (F.names draws.old) settings.now self.old statements.now F.drew draws.old ended draws.new) }
         ensures fits { OnOk result (IsTrue (writes_fit tables.now.schemas self.new.writes)) }
         ensures unchanged { OnOk result (StayUnchanged tables.now.rows self.old.readings self.new.readings) }
         ensures names { F.names draws.new ≡ F.names draws.old }
+        ensures ready { F.is_ready draws.new }
     {
         self.run_on(tables, settings, statements, draws, true)
     }
@@ -168,11 +172,13 @@ impl Txn {
     ) -> Result<Ran, TxnFault>
         requires fits { IsTrue (writes_fit tables.now.schemas self.old.writes) }
         requires unchanged { IsTrue is_unchanged → AreUnchanged tables.now.rows self.old.readings }
+        requires ready { F.is_ready draws.old }
         ensures ran { IfOk result (λ ran. HasRun tables.now (F.names draws.old) settings.now self.old statements.now ran.answers ran.draws self.new × DrewAll F.drew draws.old ran.draws draws.new) }
         ensures ended { IfErr result (λ ended. HasEnded tables.now (F.names draws.old) settings.now self.old statements.now F.drew draws.old ended draws.new) }
         ensures fits { OnOk result (IsTrue (writes_fit tables.now.schemas self.new.writes)) }
         ensures unchanged { OnOk result (StayUnchanged tables.now.rows self.old.readings self.new.readings) }
         ensures names { F.names draws.new ≡ F.names draws.old }
+        ensures ready { F.is_ready draws.new }
     {
         let _ = tables.schemas();
         let count = self.count();
@@ -224,10 +230,12 @@ impl Txn {
     ) -> Result<bool, TxnFault>
         requires ordered { AreTables tables.now.rows }
         requires unchanged { IsTrue is_unchanged → AreUnchanged tables.now.rows self.old.readings }
+        requires ready { F.is_ready source.old }
         ensures done { IfOk result (λ is_refused. HasNext F.drew tables.now (F.names source.old) settings.now self.old statement.now source.old answers.old.items drawn.old.items is_refused self.new source.new answers.new.items drawn.new.items) }
         ensures unchanged { OnOk result (StayUnchanged tables.now.rows self.old.readings self.new.readings) }
         ensures ended { IfErr result (λ ended. Ends F.drew (one_left (shape_of tables.now (F.names source.old)) (with_writes tables.now.rows self.old.writes) settings.now statement.now) source.old ended source.new) }
         ensures names { F.names source.new ≡ F.names source.old }
+        ensures ready { F.is_ready source.new }
     {
         let answer = self.run_statement(tables, settings, statement, source, is_unchanged, drawn)?;
         let is_refused = is_refusal(&answer);
@@ -247,10 +255,12 @@ impl Txn {
     ) -> Result<Answer, TxnFault>
         requires ordered { AreTables tables.now.rows }
         requires unchanged { IsTrue is_unchanged → AreUnchanged tables.now.rows self.old.readings }
+        requires ready { F.is_ready source.old }
         ensures done { IfOk result (λ answer. (one : OneDone) × ((answer ≡ one.answer) × HasDone F.drew tables.now (F.names source.old) settings.now self.old statement.now source.old drawn.old.items one self.new source.new drawn.new.items)) }
         ensures unchanged { OnOk result (StayUnchanged tables.now.rows self.old.readings self.new.readings) }
         ensures ended { IfErr result (λ ended. Ends F.drew (one_left (shape_of tables.now (F.names source.old)) (with_writes tables.now.rows self.old.writes) settings.now statement.now) source.old ended source.new) }
         ensures names { F.names source.new ≡ F.names source.old }
+        ensures ready { F.is_ready source.new }
     {
         let schemas = tables.schemas().as_slice();
         match plan_of(self.alloc, schemas, settings, statement, source, drawn) {

@@ -11,6 +11,7 @@ loop-operand-init g c = record {
   so_far = begins g.F.DrawFrom.drew (g.F.DrawFrom.names c.args.source.now) c.args.settings.now (operands_of c.args.statement.now) c.args.source.now c.args.drawn.now.items c.new-values.result.items c.args.source.now c.args.drawn.now.items c.new-values.ensures.items refl refl;
   few = omega arith;
   names = refl;
+  ready = c.requires;
 }
 
 pub returns-in_err-value_of-clause-read : goal.returns-in_err-value_of-clause-read
@@ -34,6 +35,7 @@ loop-operand-preserved g c =
           c.in-Some.operand.now here (g.F.DrawFrom.names c.loop-operand.source) c.loop-operand.invariant.names c.value_of.new.source c.value_of.new.drawn.items c.in_ok-value_of.field-0 c.push.new.self.items c.in_ok-push.ensures.items c.in_ok-value_of.ensures.read;
       few = omega (arith, c.in-Some.ensures.within refl, c.in_ok-push.ensures.len);
       names = c.in_ok-value_of.ensures.names ∙ c.loop-operand.invariant.names;
+      ready = c.in_ok-value_of.ensures.ready;
     }
 
 pub returns-in_err-push-clause-read : goal.returns-in_err-push-clause-read

@@ -8,6 +8,7 @@ invariant-loop-operand g l = record {
   so_far : SoFar g.F.DrawFrom.drew (g.F.DrawFrom.names l.fn.source) l.settings (operands_of l.statement) l.fn.source l.fn.drawn.items l.values.items l.source l.drawn.items;
   few : vec_len l.values ≤ 8;
   names : g.F.DrawFrom.names l.source ≡ g.F.DrawFrom.names l.fn.source;
+  ready : g.F.DrawFrom.is_ready l.source;
 }
 
 abbrev pub decreases-loop-operand : goal.decreases-loop-operand

@@ -11,6 +11,7 @@ loop-statement-init g c = record {
   unchanged = λ all. all;
   items = c.as_slice-statement-items.ensures.items;
   names = refl;
+  ready = c.requires.ready;
 }
 
 pub run_next-requires-clause-unchanged : goal.run_next-requires-clause-unchanged
@@ -42,6 +43,7 @@ loop-statement-preserved g c =
       unchanged = λ all. c.in_ok-is_refused.ensures.unchanged (l.invariant.unchanged all);
       items = l.invariant.items;
       names = c.in_ok-is_refused.ensures.names ∙ l.invariant.names;
+      ready = c.in_ok-is_refused.ensures.ready;
     }
 
 pub returns-then-is_refused-clause-ran : goal.returns-then-is_refused-clause-ran

@@ -9,4 +9,5 @@ invariant-loop-statement g l = record {
   unchanged : StayUnchanged l.tables.rows l.fn.self.readings l.self.readings;
   items : l.statement-items ≡ l.statements;
   names : g.F.DrawFrom.names l.draws ≡ g.F.DrawFrom.names l.fn.draws;
+  ready : g.F.DrawFrom.is_ready l.draws;
 }
