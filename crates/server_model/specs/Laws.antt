@@ -197,10 +197,10 @@ RunsFront = (base : Base) (history more : List Happened) (after : Server) → Ru
 -- blocked.
 pub record StoresRight (seen : Seen) : Type 0 where
   pub gained : List Entry
-  pub entries : seen.store.entries ≡ seen.start.entries ++ gained
+  pub entries : seen.state.store.entries ≡ seen.start.entries ++ gained
   pub serial : Serial seen.start.shape seen.start.tables gained (tables_with seen.start.tables gained)
   pub numbered : AreNumbered seen.start.entries gained
-  pub apart : All (λ entry. is_blocked seen.store.blocked entry.ltxid ≡ false) gained
+  pub apart : All (λ entry. is_blocked seen.state.store.blocked entry.ltxid ≡ false) gained
 
 -- Whatever has a history of the plain server stores right,
 abbrev pub ServiceStores : Type 0
@@ -210,8 +210,8 @@ ServiceStores = (seen : Seen) → IsSound seen.start → IsHistory seen → Stor
 pub record ServesRight (seen : Seen) : Type 0 where
   pub gained : List Entry
   pub lines : List (List ℕ)
-  pub entries : seen.store.entries ≡ seen.start.entries ++ gained
-  pub alerts : seen.store.alerts ≡ seen.start.alerts ++ lines
+  pub entries : seen.state.store.entries ≡ seen.start.entries ++ gained
+  pub alerts : seen.state.store.alerts ≡ seen.start.alerts ++ lines
   pub served : legal seen.start (items_of seen.history) gained lines ≡ true
   pub drawn : has_room seen.start (items_of seen.history) gained ≡ true → fresh_new seen.start (items_of seen.history) gained ≡ true
   pub told : told_right seen.start seen.history gained ≡ true

@@ -16,28 +16,28 @@ use Rattle.svc_values.specs.Calls.{sequences_in}
 use Rattle.svc_values.specs.Identifiers.{ltxid_of}
 use Rattle.server_model.specs.Outcomes.{Telling, Silent, Says, Stopped, down_of}
 use Rattle.server_model.specs.Runs.{Happened, Served, Asked}
-use Rattle.server_model.specs.Seen.{Store, book_in, Living, Seen, connection_in, without_connection, with_session, Rose, Keeps, KeepsStore}
+use Rattle.server_model.specs.Seen.{Store, book_in, Connections, none_living, SameLiving, ServiceState, Seen, without_connection, with_connection, Rose, Keeps, KeepsStore}
 
 -- ---- connect, reap, stop_after
 
-abbrev pub if_connected : Bool → ℕ → List Living → List Living
+abbrev pub if_connected : Bool → ℕ → Connections → Connections
 if_connected false connection living = living
-if_connected true connection living = living ++ record { connection = connection; session = None } ∷ []
+if_connected true connection living = with_connection connection None living
 
 -- it connects exactly where it is up, and the connection has no session yet
 pub record Connected (old : Seen) (connection : ℕ) (answer : Bool) (new : Seen) : Type 0 where
   pub keeps : Keeps old new
   pub keeps_store : KeepsStore old new
-  pub answered : answer ≡ old.is_up
-  pub living : new.living ≡ if_connected answer connection old.living
+  pub answered : answer ≡ old.state.is_up
+  pub living : SameLiving new.state.living (if_connected answer connection old.state.living)
 
 pub record Reaped (old : Seen) (connection : ℕ) (new : Seen) : Type 0 where
   pub keeps : Keeps old new
   pub keeps_store : KeepsStore old new
-  pub living : new.living ≡ without_connection connection old.living
+  pub living : SameLiving new.state.living (without_connection connection old.state.living)
 
 abbrev pub with_stop : Seen → Option ℕ → Seen
-with_stop old stop = record old { stop = stop; calls = old.calls + 1 }
+with_stop old stop = record old { state = record old.state { stop = stop; calls = old.state.calls + 1 } }
 
 -- ---- stops
 
@@ -51,13 +51,13 @@ may_store _ = false
 -- Under a stop a record is added by an answered call only where the stop lets it through.
 pub record StopCause (old new : Seen) (records : ℕ) (told : Telling) : Type 0 where
   pub rose : told ≡ Stopped → Rose old new
-  pub quiet : old.is_quiet ≡ true → new.faults ≢ old.faults → (n : ℕ) × (old.stop ≡ Some n) × (n < old.per_record * records)
-  pub reached : (n : ℕ) → old.stop ≡ Some n → new.store.records ≢ old.store.records → told ≢ Stopped → old.per_record ≤ n
+  pub quiet : old.state.is_quiet ≡ true → new.state.faults ≢ old.state.faults → (n : ℕ) × (old.state.stop ≡ Some n) × (n < old.state.per_record * records)
+  pub reached : (n : ℕ) → old.state.stop ≡ Some n → new.state.store.records ≢ old.state.store.records → told ≢ Stopped → old.state.per_record ≤ n
 
 -- In a quiet service a fault comes only under a stop.
 pub record StopsOnly (old new : Seen) (is_stopped : Bool) : Type 0 where
   pub rose : is_stopped ≡ true → Rose old new
-  pub quiet : old.is_quiet ≡ true → new.faults ≢ old.faults → old.stop ≢ None
+  pub quiet : old.state.is_quiet ≡ true → new.state.faults ≢ old.state.faults → old.state.stop ≢ None
 
 -- ---- what a call adds to the store
 
@@ -78,11 +78,11 @@ pub record Adds (old new : Store) (lines most : ℕ) : Type 0 where
 
 -- the connection's session: the one that it has, or the next one
 abbrev pub next_session : Seen → SessionId
-next_session old = record { incarnation = old.store.incarnation; session = old.sessions + 1 }
+next_session old = record { incarnation = old.state.store.incarnation; session = old.state.sessions + 1 }
 
 abbrev pub SessionOf : Seen → ℕ → SessionId → ℕ → Type 0
 SessionOf old connection session sessions =
-    ((connection_in old.living connection ≡ Some (Some session)) × (sessions ≡ old.sessions)) ⊎ ((connection_in old.living connection ≡ Some None) × (session ≡ next_session old) × (sessions ≡ old.sessions + 1))
+    ((old.state.living connection ≡ Some (Some session)) × (sessions ≡ old.state.sessions)) ⊎ ((old.state.living connection ≡ Some None) × (session ≡ next_session old) × (sessions ≡ old.state.sessions + 1))
 
 -- the answer ends the session
 abbrev pub ends_session : Up → Telling → Bool
@@ -92,9 +92,9 @@ ends_session frame (Says (down.Refused cause)) = true
 ends_session _ _ = false
 
 -- at a stop no connection lives any more
-abbrev pub living_after : Up → Telling → ℕ → SessionId → List Living → List Living
-living_after frame Stopped connection session living = []
-living_after frame told connection session living = if ends_session frame told then without_connection connection living else with_session connection session living
+abbrev pub living_after : Up → Telling → ℕ → SessionId → Connections → Connections
+living_after frame Stopped connection session living = none_living
+living_after frame told connection session living = if ends_session frame told then without_connection connection living else with_connection connection (Some session) living
 
 abbrev pub is_up_after : Telling → Bool
 is_up_after Stopped = false
@@ -110,16 +110,16 @@ TellsByTable store _ _ = Unit {0}
 pub record ServedOne (old : Seen) (connection now : ℕ) (frame : Up) (told : Telling) (new : Seen) : Type 0 where
   pub keeps : Keeps old new
   pub session : SessionId
-  pub of_connection : SessionOf old connection session new.sessions
+  pub of_connection : SessionOf old connection session new.state.sessions
   pub history : new.history ≡ old.history ++ Served session now frame told ∷ []
-  pub living : new.living ≡ living_after frame told connection session old.living
-  pub is_up : new.is_up ≡ is_up_after told
-  pub kept : new.kept ≡ old.stop
-  pub outcome : TellsByTable old.store frame told
-  pub adds : Adds old.store new.store 1 (1 + sequences_in frame)
+  pub living : SameLiving new.state.living (living_after frame told connection session old.state.living)
+  pub is_up : new.state.is_up ≡ is_up_after told
+  pub kept : new.state.kept ≡ old.state.stop
+  pub outcome : TellsByTable old.state.store frame told
+  pub adds : Adds old.state.store new.state.store 1 (1 + sequences_in frame)
   pub cause : StopCause old new (1 + sequences_in frame) told
   -- a frame that stores nothing is never stopped
-  pub silent : may_store frame ≡ false → (told ≢ Stopped) × (new.faults ≡ old.faults) × (new.store ≡ old.store)
+  pub silent : may_store frame ≡ false → (told ≢ Stopped) × (new.state.faults ≡ old.state.faults) × (new.state.store ≡ old.state.store)
 
 -- ---- crash and up
 
@@ -131,47 +131,47 @@ is_failover pick = nat_lt 3 (pick % 8)
 pub record Crashed (old : Seen) (pick : ℕ) (new : Seen) : Type 0 where
   pub start : new.start ≡ old.start
   pub history : new.history ≡ old.history
-  pub store : (old.is_up ≡ true) ⊎ (old.is_settled ≡ true) → new.store ≡ old.store
-  pub down : (new.is_up ≡ false) × (new.is_settled ≡ true) × (new.is_opened ≡ false)
-  pub living : new.living ≡ []
-  pub is_quiet : new.is_quiet ≡ old.is_quiet
-  pub faults : old.faults ≤ new.faults
-  pub stop : (new.stop ≡ None) × (new.kept ≡ old.kept)
-  pub per_record : new.per_record ≡ (if is_failover pick then 4 else old.per_record)
-  pub crashes : (new.crashes ≡ old.crashes + 1) × (new.last_pick ≡ Some pick) × (new.last_stop ≡ old.kept)
-  pub calls : new.calls ≡ old.calls + 1
-  pub is_spent : new.is_spent ≡ false
+  pub store : (old.state.is_up ≡ true) ⊎ (old.state.is_settled ≡ true) → new.state.store ≡ old.state.store
+  pub down : (new.state.is_up ≡ false) × (new.state.is_settled ≡ true) × (new.state.is_opened ≡ false)
+  pub living : SameLiving new.state.living none_living
+  pub is_quiet : new.state.is_quiet ≡ old.state.is_quiet
+  pub faults : old.state.faults ≤ new.state.faults
+  pub stop : (new.state.stop ≡ None) × (new.state.kept ≡ old.state.kept)
+  pub per_record : new.state.per_record ≡ (if is_failover pick then 4 else old.state.per_record)
+  pub crashes : (new.state.crashes ≡ old.state.crashes + 1) × (new.state.last_pick ≡ Some pick) × (new.state.last_stop ≡ old.state.kept)
+  pub calls : new.state.calls ≡ old.state.calls + 1
+  pub is_spent : new.state.is_spent ≡ false
 
 -- a crash may take a store away only of a service that was opened since its last crash
-abbrev pub MayCrash : Seen → ℕ → Type 0
-MayCrash old pick = is_failover pick ≡ true → old.is_opened ≡ true
+abbrev pub MayCrash : ServiceState → ℕ → Type 0
+MayCrash state pick = is_failover pick ≡ true → state.is_opened ≡ true
 
 -- what no opening changes
 pub record KeepsOpening (old new : Seen) : Type 0 where
   pub start : new.start ≡ old.start
   pub history : new.history ≡ old.history
-  pub living : new.living ≡ old.living
-  pub is_quiet : new.is_quiet ≡ old.is_quiet
-  pub per_record : new.per_record ≡ old.per_record
-  pub crashes : (new.crashes ≡ old.crashes) × (new.last_pick ≡ old.last_pick) × (new.last_stop ≡ old.last_stop)
-  pub faults : old.faults ≤ new.faults
-  pub stop : old.stop ≡ None → new.stop ≡ None
-  pub kept : new.kept ≡ old.stop
-  pub calls : new.calls ≡ old.calls + 1
-  pub is_spent : new.is_spent ≡ false
-  pub entries : (new.store.entries ≡ old.store.entries) × (new.store.blocked ≡ old.store.blocked) × (new.store.alerts ≡ old.store.alerts)
+  pub living : SameLiving new.state.living old.state.living
+  pub is_quiet : new.state.is_quiet ≡ old.state.is_quiet
+  pub per_record : new.state.per_record ≡ old.state.per_record
+  pub crashes : (new.state.crashes ≡ old.state.crashes) × (new.state.last_pick ≡ old.state.last_pick) × (new.state.last_stop ≡ old.state.last_stop)
+  pub faults : old.state.faults ≤ new.state.faults
+  pub stop : old.state.stop ≡ None → new.state.stop ≡ None
+  pub kept : new.state.kept ≡ old.state.stop
+  pub calls : new.state.calls ≡ old.state.calls + 1
+  pub is_spent : new.state.is_spent ≡ false
+  pub entries : (new.state.store.entries ≡ old.state.store.entries) × (new.state.store.blocked ≡ old.state.store.blocked) × (new.state.store.alerts ≡ old.state.store.alerts)
 
 -- at most the incarnations so far may be forgotten
-abbrev pub MayForget : Seen → ℕ → Type 0
-MayForget old below = below ≤ old.store.incarnation + 1
+abbrev pub MayForget : ServiceState → ℕ → Type 0
+MayForget state below = below ≤ state.store.incarnation + 1
 
 -- an opening of the next incarnation, which has made no session; the horizon is the wanted one where that is greater
 pub record Opened (old : Seen) (below : ℕ) (new : Seen) : Type 0 where
   pub keeps : KeepsOpening old new
-  pub is_up : (new.is_up ≡ true) × (new.is_opened ≡ true)
-  pub incarnation : new.store.incarnation ≡ old.store.incarnation + 1
-  pub horizon : new.store.horizon ≡ max old.store.horizon below
-  pub sessions : new.sessions ≡ 0
+  pub is_up : (new.state.is_up ≡ true) × (new.state.is_opened ≡ true)
+  pub incarnation : new.state.store.incarnation ≡ old.state.store.incarnation + 1
+  pub horizon : new.state.store.horizon ≡ max old.state.store.horizon below
+  pub sessions : new.state.sessions ≡ 0
   pub cause : StopsOnly old new false
 
 -- what an opening that was stopped has stored: nothing, its horizon, or its incarnation behind that
@@ -182,8 +182,8 @@ pub data OpenedSoFar (old : Store) (below : ℕ) (new : Store) : Type 0 where
 
 pub record StoppedOpening (old : Seen) (below : ℕ) (new : Seen) : Type 0 where
   pub keeps : KeepsOpening old new
-  pub is_up : (new.is_up ≡ false) × (new.is_opened ≡ old.is_opened)
-  pub so_far : OpenedSoFar old.store below new.store
+  pub is_up : (new.state.is_up ≡ false) × (new.state.is_opened ≡ old.state.is_opened)
+  pub so_far : OpenedSoFar old.state.store below new.state.store
   pub cause : StopsOnly old new true
 
 -- ---- outside, ask
@@ -207,8 +207,8 @@ pub record RanOutside (old : Seen) (calls : List Call) (now : ℕ) (x : Ltxid) (
   pub more : List Happened
   pub ran : RunsAre (next_session old) now calls runs more
   pub history : new.history ≡ old.history ++ begins_outside (next_session old) now ++ more
-  pub others : (new.living ≡ old.living) × (new.is_up ≡ true) × (new.kept ≡ old.kept) × (new.sessions ≡ old.sessions + 1)
-  pub opening : (new.store.incarnation ≡ old.store.incarnation) × (new.store.horizon ≡ old.store.horizon)
+  pub others : SameLiving new.state.living old.state.living × (new.state.is_up ≡ true) × (new.state.kept ≡ old.state.kept) × (new.state.sessions ≡ old.state.sessions + 1)
+  pub opening : (new.state.store.incarnation ≡ old.state.store.incarnation) × (new.state.store.horizon ≡ old.state.store.horizon)
   pub cause : StopsOnly old new false
 
 abbrev pub IsOf : SessionId → Happened → Type 0
@@ -221,7 +221,7 @@ pub record StoppedOutside (old new : Seen) : Type 0 where
   pub more : List Happened
   pub served : All (IsOf (next_session old)) more
   pub history : new.history ≡ old.history ++ more
-  pub others : (new.living ≡ []) × (new.is_up ≡ false) × (new.kept ≡ old.kept)
+  pub others : SameLiving new.state.living none_living × (new.state.is_up ≡ false) × (new.state.kept ≡ old.state.kept)
   pub cause : StopsOnly old new true
 
 abbrev pub IsAnswer : Verdict → Type 0
@@ -232,17 +232,17 @@ IsAnswer _ = Unit {0}
 pub record AskedOne (old : Seen) (x : Ltxid) (told : Verdict) (new : Seen) : Type 0 where
   pub keeps : Keeps old new
   pub verdict : IsAnswer told
-  pub outcome : down_of told ≡ down_of (verdict_of (book_in old.store) x)
+  pub outcome : down_of told ≡ down_of (verdict_of (book_in old.state.store) x)
   pub history : new.history ≡ old.history ++ Asked x (Says (down_of told)) ∷ []
-  pub others : (new.living ≡ old.living) × (new.is_up ≡ true) × (new.kept ≡ old.kept) × (new.sessions ≡ old.sessions)
-  pub adds : Adds old.store new.store 1 1
+  pub others : SameLiving new.state.living old.state.living × (new.state.is_up ≡ true) × (new.state.kept ≡ old.state.kept) × (new.state.sessions ≡ old.state.sessions)
+  pub adds : Adds old.state.store new.state.store 1 1
   pub cause : StopsOnly old new false
 
 pub record StoppedAsk (old : Seen) (x : Ltxid) (new : Seen) : Type 0 where
   pub keeps : Keeps old new
   pub history : new.history ≡ old.history ++ Asked x Stopped ∷ []
-  pub others : (new.living ≡ []) × (new.is_up ≡ false) × (new.kept ≡ old.kept)
-  pub adds : Adds old.store new.store 1 1
+  pub others : SameLiving new.state.living none_living × (new.state.is_up ≡ false) × (new.state.kept ≡ old.state.kept)
+  pub adds : Adds old.state.store new.state.store 1 1
   pub cause : StopsOnly old new true
 
 -- ---- journal, image
@@ -251,12 +251,12 @@ pub record StoppedAsk (old : Seen) (x : Ltxid) (new : Seen) : Type 0 where
 pub record Looked (old new : Seen) : Type 0 where
   pub keeps : Keeps old new
   pub keeps_store : KeepsStore old new
-  pub living : new.living ≡ old.living
+  pub living : SameLiving new.state.living old.state.living
   pub cause : StopsOnly old new false
 
 -- a reading that was stopped leaves the service down
 pub record StoppedLook (old new : Seen) : Type 0 where
   pub keeps : Keeps old new
-  pub unchanged : (new.history ≡ old.history) × (new.store ≡ old.store) × (new.kept ≡ old.kept)
-  pub down : (new.living ≡ []) × (new.is_up ≡ false)
+  pub unchanged : (new.history ≡ old.history) × (new.state.store ≡ old.state.store) × (new.state.kept ≡ old.state.kept)
+  pub down : SameLiving new.state.living none_living × (new.state.is_up ≡ false)
   pub cause : StopsOnly old new true

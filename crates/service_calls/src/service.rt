@@ -1,10 +1,10 @@
 //! The calls of a service.
 ghost use Rattle.std.specs.Prelude.{◌≡◌, ◌<◌, ◌^◌, true, false, None, IfOk, Ok};
-ghost use Rattle.server_model.specs.Seen.{Seen, Lives, IsHistory, connection_in};
+ghost use Rattle.server_model.specs.Seen.{Seen, Lives};
 ghost use Rattle.server_model.specs.ServiceCalls.{Connected, Reaped, with_stop, ServedOne, MayCrash, Crashed, MayForget, Opened, StoppedOpening, RanOutside, StoppedOutside, AskedOne, StoppedAsk, Looked, StoppedLook};
 ghost use Rattle.service_calls.specs.Answers.{IfTold, Ends, NotMemory, runs_of};
 ghost use Rattle.commit_log.specs.Journals.{journal_of};
-ghost use Rattle.service_calls.specs.Kept.{Stays};
+ghost use Rattle.service_calls.specs.Kept.{Goes, HaveOneBase};
 
 use commit_log::Journal;
 use ltxid_book::Verdict;
@@ -16,34 +16,39 @@ use svc_values::{Call, Down, Ltxid, NoMemory, Up};
 /// A service behind connections, which may be stopped, crashed and opened again.
 ///
 /// Whatever is called, the history of what was served is one of the plain server, and it ends with
-/// what the store holds. A call that finds no memory leaves a service that may only be dropped. Fewer
-/// than 2^48 calls may be made on one.
+/// what the store holds. A service keeps no history: it is seen with each that it may have had, and
+/// each call carries on any of them. A call that finds no memory leaves a service that may only be
+/// dropped. Fewer than 2^48 calls may be made on one.
 pub trait Service {
     ghost use Rattle.std.specs.Prelude.{ℕ, List};
-    ghost use Rattle.server_model.specs.Seen.{Seen};
+    ghost use Rattle.server_model.specs.Seen.{ServiceState, Seen};
+    ghost use Rattle.service_calls.specs.Kept.{IsHonest};
 
-    /// The frames that were served, the store, the connections that live, and the stop.
-    ghost seen: { Self → Seen };
+    /// Its state: the store, the connections that live, and the stop.
+    ghost state: { Self → ServiceState };
 
     /// What a read of its store gives.
     ghost bytes: { Self → List ℕ };
 
+    /// What may be seen of it: its state, with where it began and the frames that were served since.
+    ghost sees: { Self → Seen → Type 0 };
+
     /// Whether it serves.
     fn is_up(&self) -> bool
-        ensures { result ≡ (seen self.now).is_up };
+        ensures { result ≡ (state self.now).is_up };
 
     /// The incarnation of the last opening, 0 where there was none.
     fn incarnation(&self) -> u64
-        ensures { result ≡ (seen self.now).store.incarnation };
+        ensures { result ≡ (state self.now).store.incarnation };
 
     /// Makes a connection, which has no session until its first frame is served. Gives false, and
     /// makes none, where the service is down.
     fn connect(&mut self, alloc: Global, connection: u64) -> Result<bool, NoMemory>
-        requires live { (seen self.old).is_spent ≡ false }
-        requires few { (seen self.old).calls < 2 ^ 48 }
-        requires new { connection_in (seen self.old).living connection ≡ None }
-        ensures connected { IfOk result (λ up. Connected (seen self.old) connection up (seen self.new)) }
-        ensures stays { IfOk result (λ up. Stays (bytes self.old) (bytes self.new) (seen self.new)) };
+        requires live { (state self.old).is_spent ≡ false }
+        requires few { (state self.old).calls < 2 ^ 48 }
+        requires new { (state self.old).living connection ≡ None }
+        ensures connected { IfOk result (λ up. Goes (sees self.old) (sees self.new) (λ old new. Connected old connection up new)) }
+        ensures base { IfOk result (λ up. HaveOneBase (bytes self.old) (bytes self.new)) };
 
     /// Serves one frame of a living connection, by its session: the one that it has, or the next.
     fn serve(
@@ -53,45 +58,45 @@ pub trait Service {
         frame: &Up,
         now: u64,
     ) -> Result<Option<Down>, ServeFault>
-        requires live { (seen self.old).is_spent ≡ false }
-        requires few { (seen self.old).calls < 2 ^ 48 }
-        requires lives { Lives (seen self.old) connection }
-        ensures served { IfTold result (λ told. ServedOne (seen self.old) connection now frame.now told (seen self.new)) }
-        ensures stays { NotMemory result (Stays (bytes self.old) (bytes self.new) (seen self.new)) };
+        requires live { (state self.old).is_spent ≡ false }
+        requires few { (state self.old).calls < 2 ^ 48 }
+        requires lives { Lives (state self.old) connection }
+        ensures served { IfTold result (λ told. Goes (sees self.old) (sees self.new) (λ old new. ServedOne old connection now frame.now told new)) }
+        ensures base { NotMemory result (HaveOneBase (bytes self.old) (bytes self.new)) };
 
     /// Ends a connection, with its session. It takes no memory.
     fn reap(&mut self, connection: u64)
-        requires live { (seen self.old).is_spent ≡ false }
-        requires few { (seen self.old).calls < 2 ^ 48 }
-        ensures reaped { Reaped (seen self.old) connection (seen self.new) }
-        ensures stays { Stays (bytes self.old) (bytes self.new) (seen self.new) };
+        requires live { (state self.old).is_spent ≡ false }
+        requires few { (state self.old).calls < 2 ^ 48 }
+        ensures reaped { Goes (sees self.old) (sees self.new) (λ old new. Reaped old connection new) }
+        ensures base { HaveOneBase (bytes self.old) (bytes self.new) };
 
     /// Makes every device call fail once so many have succeeded, or takes the stop away.
     fn stop_after(&mut self, calls: Option<u64>)
-        requires live { (seen self.old).is_spent ≡ false }
-        requires few { (seen self.old).calls < 2 ^ 48 }
-        ensures stop { seen self.new ≡ with_stop (seen self.old) calls }
-        ensures stays { Stays (bytes self.old) (bytes self.new) (seen self.new) };
+        requires live { (state self.old).is_spent ≡ false }
+        requires few { (state self.old).calls < 2 ^ 48 }
+        ensures stop { Goes (sees self.old) (sees self.new) (λ old new. new ≡ with_stop old calls) }
+        ensures base { HaveOneBase (bytes self.old) (bytes self.new) };
 
     /// Ends it as a crash does: all connections end, and of what a stopped call stored the disk
     /// leaves what `pick` says. A pick whose remainder by 8 is 4 or more takes the first store of a
     /// pair away.
     fn crash(&mut self, pick: u8)
-        requires live { (seen self.old).is_spent ≡ false }
-        requires few { (seen self.old).calls < 2 ^ 48 }
-        requires may { MayCrash (seen self.old) pick }
-        ensures crashed { Crashed (seen self.old) pick (seen self.new) }
-        ensures stays { Stays (bytes self.old) (bytes self.new) (seen self.new) };
+        requires live { (state self.old).is_spent ≡ false }
+        requires few { (state self.old).calls < 2 ^ 48 }
+        requires may { MayCrash (state self.old) pick }
+        ensures crashed { Goes (sees self.old) (sees self.new) (λ old new. Crashed old pick new) }
+        ensures base { HaveOneBase (bytes self.old) (bytes self.new) };
 
     /// Opens the store for the next incarnation, and forgets the outcomes of all incarnations below
     /// `horizon`. The cost is linear in the store.
     fn up(&mut self, alloc: Global, horizon: u64) -> Result<(), ServeFault>
-        requires live { (seen self.old).is_spent ≡ false }
-        requires few { (seen self.old).calls < 2 ^ 48 }
-        requires down { ((seen self.old).is_up ≡ false) × ((seen self.old).is_settled ≡ true) }
-        requires may { MayForget (seen self.old) horizon }
-        ensures opened { Ends result (λ done. Opened (seen self.old) horizon (seen self.new)) (StoppedOpening (seen self.old) horizon (seen self.new)) }
-        ensures stays { NotMemory result (Stays (bytes self.old) (bytes self.new) (seen self.new)) };
+        requires live { (state self.old).is_spent ≡ false }
+        requires few { (state self.old).calls < 2 ^ 48 }
+        requires down { ((state self.old).is_up ≡ false) × ((state self.old).is_settled ≡ true) }
+        requires may { MayForget (state self.old) horizon }
+        ensures opened { Ends result (λ done. Goes (sees self.old) (sees self.new) (λ old new. Opened old horizon new)) (Goes (sees self.old) (sees self.new) (λ old new. StoppedOpening old horizon new)) }
+        ensures base { NotMemory result (HaveOneBase (bytes self.old) (bytes self.new)) };
 
     /// Runs calls in a session of their own, up to the first that is answered Blocked.
     fn outside(
@@ -100,36 +105,38 @@ pub trait Service {
         calls: &[Call],
         now: u64,
     ) -> Result<OutsideNote, ServeFault>
-        requires live { (seen self.old).is_spent ≡ false }
-        requires few { (seen self.old).calls < 2 ^ 48 }
-        requires up { (seen self.old).is_up ≡ true }
-        ensures ran { Ends result (λ ran. RanOutside (seen self.old) calls.now now ran.ltxid (runs_of ran) (seen self.new)) (StoppedOutside (seen self.old) (seen self.new)) }
-        ensures stays { NotMemory result (Stays (bytes self.old) (bytes self.new) (seen self.new)) };
+        requires live { (state self.old).is_spent ≡ false }
+        requires few { (state self.old).calls < 2 ^ 48 }
+        requires up { (state self.old).is_up ≡ true }
+        ensures ran { Ends result (λ ran. Goes (sees self.old) (sees self.new) (λ old new. RanOutside old calls.now now ran.ltxid (runs_of ran) new)) (Goes (sees self.old) (sees self.new) StoppedOutside) }
+        ensures base { NotMemory result (HaveOneBase (bytes self.old) (bytes self.new)) };
 
     /// Tells the outcome of an identifier. One that may still commit is blocked first, and told as
     /// blocked.
     fn ask(&mut self, alloc: Global, x: &Ltxid) -> Result<Verdict, ServeFault>
-        requires live { (seen self.old).is_spent ≡ false }
-        requires few { (seen self.old).calls < 2 ^ 48 }
-        requires up { (seen self.old).is_up ≡ true }
-        ensures asked { Ends result (λ told. AskedOne (seen self.old) x.now told (seen self.new)) (StoppedAsk (seen self.old) x.now (seen self.new)) }
-        ensures stays { NotMemory result (Stays (bytes self.old) (bytes self.new) (seen self.new)) };
+        requires live { (state self.old).is_spent ≡ false }
+        requires few { (state self.old).calls < 2 ^ 48 }
+        requires up { (state self.old).is_up ≡ true }
+        ensures asked { Ends result (λ told. Goes (sees self.old) (sees self.new) (λ old new. AskedOne old x.now told new)) (Goes (sees self.old) (sees self.new) (λ old new. StoppedAsk old x.now new)) }
+        ensures base { NotMemory result (HaveOneBase (bytes self.old) (bytes self.new)) };
 
     /// What the store holds. It writes nothing, and reads the whole store.
     fn journal(&mut self, alloc: Global) -> Result<Journal, ServeFault>
-        requires live { (seen self.old).is_spent ≡ false }
-        requires few { (seen self.old).calls < 2 ^ 48 }
+        requires live { (state self.old).is_spent ≡ false }
+        requires few { (state self.old).calls < 2 ^ 48 }
         ensures told { IfOk result (λ journal. journal_of (bytes self.new) ≡ Ok journal) }
         ensures unwritten { NotMemory result (bytes self.new ≡ bytes self.old) }
-        ensures looked { Ends result (λ journal. Looked (seen self.old) (seen self.new)) (StoppedLook (seen self.old) (seen self.new)) }
-        ensures stays { NotMemory result (Stays (bytes self.old) (bytes self.new) (seen self.new)) };
+        ensures looked { Ends result (λ journal. Goes (sees self.old) (sees self.new) Looked) (Goes (sees self.old) (sees self.new) StoppedLook) };
 
     /// The bytes of the store. It writes nothing.
     fn image(&mut self, alloc: Global) -> Result<Vec<u8>, ServeFault>
-        requires live { (seen self.old).is_spent ≡ false }
-        requires few { (seen self.old).calls < 2 ^ 48 }
+        requires live { (state self.old).is_spent ≡ false }
+        requires few { (state self.old).calls < 2 ^ 48 }
         ensures told { IfOk result (λ image. image.items ≡ bytes self.new) }
         ensures unwritten { NotMemory result (bytes self.new ≡ bytes self.old) }
-        ensures looked { Ends result (λ image. Looked (seen self.old) (seen self.new)) (StoppedLook (seen self.old) (seen self.new)) }
-        ensures stays { NotMemory result (Stays (bytes self.old) (bytes self.new) (seen self.new)) };
+        ensures looked { Ends result (λ image. Goes (sees self.old) (sees self.new) Looked) (Goes (sees self.old) (sees self.new) StoppedLook) };
+
+    /// What is seen of it is its state, its history is one of the plain server, which ends with the
+    /// store, and its bytes say what the store holds.
+    ghost honest: { (service : Self) → (seen : Seen) → sees service seen → IsHonest (state service) (bytes service) seen };
 }

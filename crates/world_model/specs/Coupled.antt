@@ -5,7 +5,7 @@ use Rattle.svc_values.specs.declared.entry.SessionId.{SessionId}
 use Rattle.svc_values.specs.Identifiers.{same_session, session_of}
 use Rattle.server_model.specs.Base.{IsSound}
 use Rattle.server_model.specs.Laws.{stops_last}
-use Rattle.server_model.specs.Seen.{Seen, IsHistory, connection_in}
+use Rattle.server_model.specs.Seen.{Seen, IsHistory}
 use Rattle.world_model.specs.Links.{Link, link_at}
 use Rattle.world_model.specs.Machines.{Server}
 use Rattle.world_model.specs.Traced.{Traced}
@@ -27,10 +27,10 @@ HasStored entries None commits = Unit {0}
 
 -- The incarnation is that of the store. While the server is down openings may have been stopped that stored theirs.
 pub record SameServer (server : Server) (seen : Seen) : Type 0 where
-  pub is_up : server.is_up ≡ seen.is_up
-  pub per_record : server.per_record ≡ seen.per_record
-  pub opened : seen.is_up ≡ true → (server.incarnation ≡ seen.store.incarnation) × ((server.sessions ≡ seen.sessions) × (server.stopped ≡ 0))
-  pub closed : seen.is_up ≡ false → (server.incarnation ≤ seen.store.incarnation) × (seen.store.incarnation ≤ server.incarnation + server.stopped)
+  pub is_up : server.is_up ≡ seen.state.is_up
+  pub per_record : server.per_record ≡ seen.state.per_record
+  pub opened : seen.state.is_up ≡ true → (server.incarnation ≡ seen.state.store.incarnation) × ((server.sessions ≡ seen.state.sessions) × (server.stopped ≡ 0))
+  pub closed : seen.state.is_up ≡ false → (server.incarnation ≤ seen.state.store.incarnation) × (seen.state.store.incarnation ≤ server.incarnation + server.stopped)
 
 pub record Coupled (seen : Seen) (t : Traced) : Type 0 where
   pub history : IsHistory seen
@@ -39,9 +39,9 @@ pub record Coupled (seen : Seen) (t : Traced) : Type 0 where
   pub stops : stops_last seen.history ≡ true
   pub server : SameServer t.machine.server seen
   -- the connections that live, with their sessions
-  pub living : (number : ℕ) → connection_in seen.living number ≡ living_of (link_at t.machine.links number)
-  pub stored : (number : ℕ) (link : Link) → link_at t.machine.links number ≡ Some link → HasStored seen.store.entries (living_of (Some link)) link.commits
+  pub living : (number : ℕ) → seen.state.living number ≡ living_of (link_at t.machine.links number)
+  pub stored : (number : ℕ) (link : Link) → link_at t.machine.links number ≡ Some link → HasStored seen.state.store.entries (living_of (Some link)) link.commits
   -- the journal
-  pub entries : t.entries ≡ seen.store.entries
-  pub blocked : t.blocked ≡ seen.store.blocked
+  pub entries : t.entries ≡ seen.state.store.entries
+  pub blocked : t.blocked ≡ seen.state.store.blocked
   pub image : t.image ≡ length seen.start.entries
