@@ -1,5 +1,9 @@
 pub mod Steps
 pub mod Growing
+pub mod Fronts
+pub mod KeepingCommits
+pub mod KeepingReservations
+pub mod KeepingJournals
 pub mod Differing
 pub mod Committing
 pub mod Reserving

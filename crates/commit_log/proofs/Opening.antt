@@ -1,6 +1,6 @@
 -- How an opening goes on from part to part: the records are read, the horizon is stored where it rises, and then the incarnation.
 use Rattle.std.proofs.Common.{◌≡◌, ℕ, ◌+◌, ◌*◌, ◌^◌, ◌<◌, ◌≤◌, ◌&&◌, ◌||◌, List, [], ◌∷◌, ◌++◌, length, Option, refl, sym, ◌∙◌, ap, subst, arith}
-use Rattle.std.specs.Prelude.{Bool, true, false, not, max, nat_le, nat_lt, IsTrue, Result, Ok, Err, if◌then◌else◌}
+use Rattle.std.specs.Prelude.{Bool, true, false, not, max, nat_le, nat_lt, IsTrue, Result, Ok, if◌then◌else◌}
 use Rattle.std.proofs.lemmas.Bool.{le-leb, lt-ltb, ltb-false}
 use Rattle.std.proofs.Math.Bool.{or-true, or-false}
 use Rattle.disk_model.specs.Moment.{DiskMoment}
@@ -12,7 +12,7 @@ use Rattle.commit_log.specs.declared.judge.Judge.{Judge}
 use Rattle.commit_log.specs.declared.log.Log.{Log}
 use Rattle.commit_log.specs.declared.records.Record.{Record}
 use Rattle.commit_log.specs.declared.records.Record.TheVariants as kept
-use Rattle.commit_log.specs.Rules.{SoFar, Begun, with_record, may_open, rises, may_forget, is_opening, is_horizon}
+use Rattle.commit_log.specs.Rules.{SoFar, Begun, with_record, may_open, rises, may_forget}
 use Rattle.commit_log.specs.Journals.{journal_in, journal_of, so_far_of}
 use Rattle.commit_log.specs.Judging.{so_far_in, Keeps}
 use Rattle.commit_log.specs.Growth.{with_records, HasAdded, IsGrown, horizon_of, first_of_opening, opening_of, with_opening}

@@ -1,10 +1,10 @@
 -- How far a journal has come, by its records and after one more.
-use Rattle.std.proofs.Common.{◌≡◌, ℕ, ◌+◌, List, [], ◌∷◌, ◌++◌, length, drop, Option, Some, None, refl, sym, ◌∙◌, ap, arith, append_assoc, length-append, append-nil}
+use Rattle.std.proofs.Common.{◌≡◌, ℕ, ◌+◌, List, [], ◌∷◌, ◌++◌, length, drop, Option, Some, None, refl, sym, ◌∙◌, ap, arith, append_assoc, append-nil}
 use Rattle.std.specs.Prelude.{Result, Ok, Err, option_and_then}
 use Rattle.redo_store.specs.declared.walk.Walk.{Walk}
-use Rattle.redo_store.specs.Records.{length_bytes, spelling_of, records_of, whole_records, whole_from, with_last}
+use Rattle.redo_store.specs.Records.{spelling_of, records_of, whole_records, whole_from, with_last}
 use Rattle.redo_store.specs.Walk.{HasRead}
-use Rattle.redo_store.proofs.Offered.{length-length_bytes, whole_of_read}
+use Rattle.redo_store.proofs.Offered.{length-spelling_of, whole_of_read}
 use Rattle.commit_log.specs.declared.records.Record.{Record}
 use Rattle.commit_log.specs.RecordBytes.{spell_record, FitsRecord, record_at, record_again}
 use Rattle.commit_log.specs.Rules.{SoFar, Empty, after}
@@ -17,10 +17,6 @@ chosen : (o : Option SoFar) (place : ℕ) (on on' : SoFar → Result SoFar ℕ) 
     → ((next : SoFar) → on next ≡ Ok last → on' next ≡ r) → if_next o place on ≡ Ok last → if_next o place on' ≡ r
 chosen None place on on' last r later e = absurd cc
 chosen (Some next) place on on' last r later e = later next e
-
-length-spelling_of : (payload : List ℕ) (payloads : List (List ℕ)) → length (spelling_of (payload ∷ payloads)) ≡ 9 + length payload + length (spelling_of payloads)
-length-spelling_of payload payloads =
-    omega (arith, length-length_bytes (length payload), length-append (1 ∷ length_bytes (length payload) ++ payload) (spelling_of payloads), length-append (1 ∷ length_bytes (length payload)) payload)
 
 pub judged-append : (so_far last : SoFar) (place : ℕ) (first rest : List (List ℕ)) → judged so_far place first ≡ Ok last → judged so_far place (first ++ rest) ≡ judged last (place + length (spelling_of first)) rest
 judged-append so_far last place [] rest e =

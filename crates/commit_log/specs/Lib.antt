@@ -8,6 +8,7 @@ pub mod Growth
 pub mod Adding
 pub mod Adds
 pub mod Judging
+pub mod Keeping
 pub mod Logs
 pub mod InnerOpening
 pub mod Laws

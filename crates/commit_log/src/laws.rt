@@ -1,5 +1,6 @@
 //! Laws of the definitions. Each function does nothing, and its contract is the law.
 ghost use Rattle.commit_log.specs.Laws.{GrowsByNone, GrowsByMore, GrowsOn, AddsOn, HasItsJournal};
+ghost use Rattle.commit_log.specs.Keeping.{EachKeeps, FrontsAreJournals};
 
 /// A store that has grown by some records goes on to grow.
 pub fn grows()
@@ -12,4 +13,11 @@ pub fn grows()
 /// A log that is ready has the journal that its disk holds, and counts its records.
 pub fn has_its_journal()
     ensures { HasItsJournal }
+{}
+
+/// What a journal that was read keeps: whatever bytes were read, a service may go on from it. And each front of its
+/// records that has the base is the journal of an earlier time.
+pub fn keeps_journal()
+    ensures keeps { EachKeeps }
+    ensures fronts { FrontsAreJournals }
 {}

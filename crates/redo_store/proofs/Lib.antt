@@ -4,3 +4,4 @@ pub mod Gates
 pub mod Appending
 pub mod Whole
 pub mod Walking
+pub mod Sizes

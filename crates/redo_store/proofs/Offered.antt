@@ -4,3 +4,5 @@
 pub use Rattle.redo_store.proofs.Grammar.{length-length_bytes}
 -- the whole records of an image that is not damaged are its records
 pub use Rattle.redo_store.proofs.Whole.{whole_of_read}
+-- how many bytes records are spelled in, and that those of an image take no more than it has
+pub use Rattle.redo_store.proofs.Sizes.{length-spelling_of, records_within}

@@ -1,4 +1,4 @@
-use Rattle.std.proofs.Common.{◌≡◌, ℕ, ◌+◌, ◌*◌, length, ◌^◌, ◌<◌, true, sym, ap, ◌∙◌, rules, arith}
+use Rattle.std.proofs.Common.{◌≡◌, ◌+◌, ◌*◌, length, ◌^◌, ◌<◌, true, ap, ◌∙◌, rules, arith}
 use Rattle.std.specs.Prelude.{Ok, Err}
 use Rattle.disk_model.specs.Moment.{DiskMoment}
 use Rattle.redo_store.specs.declared.fault.RedoFault.TheVariants as redo_fault

@@ -1,4 +1,4 @@
-use Rattle.std.proofs.Common.{◌≡◌, ◌*◌, ℕ, List, length, true, sym, subst, ◌∙◌, rules}
+use Rattle.std.proofs.Common.{◌≡◌, ◌*◌, List, length, true, sym, subst, ◌∙◌, rules}
 use Rattle.std.specs.Prelude.{Err}
 use Rattle.disk_model.specs.Disk.{Meanwhile, Lowered, LoweredByLess}
 use Rattle.redo_store.specs.declared.fault.RedoFault.TheVariants as redo_fault
