@@ -1,0 +1,89 @@
+-- How a connection stands for one of the machine. What the machine remembers beside, as all that was ever sent, no connection holds.
+use Rattle.std.specs.Prelude.{◌≡◌, ◌⊎◌, ℕ, zero, suc, true, List, [], ◌∷◌, map, slice_get, Option, Some, None, is_none}
+use Rattle.svc_values.specs.declared.entry.Ltxid.{Ltxid}
+use Rattle.svc_values.specs.declared.frame.Up.{Up}
+use Rattle.svc_values.specs.declared.frame.Down.{Down}
+use Rattle.canon_bytes.specs.UpBytes.{spell_up, FitsUp}
+use Rattle.canon_bytes.specs.DownBytes.{spell_down, FitsDown}
+use Rattle.client_model.specs.declared.input.Input.TheVariants.{Took}
+use Rattle.world_model.specs.Frames.{Sent, Reply}
+use Rattle.outage_schedule.specs.declared.note.Reached.{Reached}
+use Rattle.world_model.specs.Links.{Link, with_link, told_by, takes}
+use Rattle.world_model.specs.Serving.{Front}
+use Rattle.world_model.specs.Cutting.{reached_of, cut_link}
+use Rattle.world_core.specs.declared.connection.Connection.{Connection}
+use Rattle.world_core.specs.declared.connections.Connections.{Connections}
+use Rattle.world_core.specs.Carrying.{Carries}
+
+abbrev pub up_frames : List Sent → List Up
+up_frames sent = map (λ one. one.frame) sent
+
+abbrev pub down_frames : List Reply → List Down
+down_frames replies = map (λ one. one.frame) replies
+
+-- the identifier that comes with a frame
+abbrev pub told_by_frame : Down → Option Ltxid
+told_by_frame frame = told_by (Took frame true)
+
+-- It stands as the machine says, and its bytes are those of the frames that may still be served and taken.
+pub record IsLink (held : Connection) (link : Link) : Type 0 where
+  pub is_open : link.is_open ≡ is_none held.ended
+  pub ended : link.ended ≡ held.ended
+  pub cut : link.is_cut ≡ held.is_cut
+  pub living : link.is_living ≡ held.is_living
+  pub session : link.session ≡ held.session
+  pub ltxid : link.held ≡ held.held
+  pub up : Carries spell_up FitsUp link.is_open (up_frames link.up) held.up
+  pub down : Carries spell_down FitsDown link.is_open (down_frames link.down) held.down
+
+-- the frame that is served next was taken off, where one may be served
+abbrev pub GivesFront : Link → Option Front → Option Up → Connection → Type 0
+GivesFront link None frame after = (frame ≡ None) × IsLink after link
+GivesFront link (Some front) frame after = (frame ≡ Some front.first.frame) × IsLink after (record front.link { up = front.later })
+
+-- the reply that stands first was taken, where one stands there
+abbrev pub GivesReply : Link → List Reply → Option Down → Connection → Type 0
+GivesReply link [] frame after = (frame ≡ None) × IsLink after link
+GivesReply link (reply ∷ left) frame after = (frame ≡ Some reply.frame) × IsLink after (takes (Took reply.frame link.is_open) reply left link)
+
+-- the connections are those of the machine, in order of opening
+abbrev pub AreLinks : List Connection → List Link → Type 0
+AreLinks [] [] = Unit {0}
+AreLinks (held ∷ more) (link ∷ links) = IsLink held link × AreLinks more links
+AreLinks _ _ = ⊥
+
+-- ALL CONNECTIONS ---------------------------------------------------------------------------------
+
+abbrev pub Stand : Connections → List Link → Type 0
+Stand held links = AreLinks held.all.items links
+
+-- connections are numbered from 1
+abbrev pub connection_at : List Connection → ℕ → Option Connection
+connection_at all zero = None
+connection_at all (suc index) = slice_get all index
+
+-- the connection of this number, if there is one, is open where anything is sent on it
+abbrev pub MaySend : Option Connection → List Up → Type 0
+MaySend None frames = Unit {0}
+MaySend (Some held) frames = (frames ≡ []) ⊎ (held.ended ≡ None)
+
+-- it is the one of the machine
+abbrev pub IsFound : Option Connection → Option Link → Type 0
+IsFound None None = Unit {0}
+IsFound (Some held) (Some link) = IsLink held link
+IsFound _ _ = ⊥
+
+-- the frame that is served next on the connection of this number was taken off, where one may be served
+abbrev pub GivesFrontAt : List Link → ℕ → Option Front → Option Up → Connections → Type 0
+GivesFrontAt links number None frame after = (frame ≡ None) × Stand after links
+GivesFrontAt links number (Some front) frame after = (frame ≡ Some front.first.frame) × Stand after (with_link links number (record front.link { up = front.later }))
+
+-- the reply that stands first on it was taken, where one stands there
+abbrev pub GivesReplyAt : List Link → ℕ → Link → List Reply → Option Down → Connections → Type 0
+GivesReplyAt links number link [] frame after = (frame ≡ None) × Stand after links
+GivesReplyAt links number link (reply ∷ left) frame after = (frame ≡ Some reply.frame) × Stand after (with_link links number (takes (Took reply.frame link.is_open) reply left link))
+
+-- it was cut, where it was open
+abbrev pub CutsAt : List Link → ℕ → ℕ → ℕ → ℕ → Option Link → Option Reached → Connections → Type 0
+CutsAt links number event up down None reached after = (reached ≡ None) × Stand after links
+CutsAt links number event up down (Some link) reached after = (reached ≡ Some (reached_of link up down)) × Stand after (with_link links number (cut_link event up down link))

@@ -1,0 +1,165 @@
+//! The connections of a run.
+ghost use Rattle.std.specs.Prelude.{◌≡◌, ◌+◌, ◌<◌, ◌⊎◌, suc, List, [], ◌∷◌, ◌++◌, length, map, fold, Some, OnOk, IfOk, IfSome, MatchOption, if◌then◌else◌};
+ghost use Rattle.std.specs.Option.{option_copied};
+ghost use Rattle.std.specs.List.{AllByRecursion};
+ghost use Rattle.canon_bytes.specs.UpBytes.{IsMadeUp};
+ghost use Rattle.canon_bytes.specs.DownBytes.{IsMadeDown};
+ghost use Rattle.outage_schedule.specs.declared.item.Served.{Served};
+ghost use Rattle.world_model.specs.Frames.{Sent};
+ghost use Rattle.world_model.specs.Links.{Link, new_link, link_at, with_link, changed, ends, sends, open_from};
+ghost use Rattle.world_model.specs.Serving.{Front, is_last as is_last_def, front_at, after_front};
+ghost use Rattle.world_model.specs.Cutting.{open_at, has_orphan, reaped_link};
+ghost use Rattle.world_model.specs.Crashing.{fallen_link};
+ghost use Rattle.world_core.specs.Linked.{up_frames, Stand, connection_at, MaySend, IsFound, GivesFrontAt, GivesReplyAt, CutsAt};
+
+use crate::connection::Connection;
+use outage_schedule::Reached;
+use std::alloc::Global;
+use svc_values::{Down, NoMemory, SessionId, Up};
+
+/// The connections of a run, numbered from 1 in order of opening. Each call finds one by its number
+/// in constant time.
+#[derive(Drop)]
+pub struct Connections {
+    alloc: Global,
+    all: Vec<Connection>,
+}
+
+impl Connections {
+    /// None at all. It takes no memory.
+    pub fn new(alloc: Global) -> Connections
+        ensures { Stand result [] }
+    {
+        Connections {
+            alloc,
+            all: Vec::new(alloc),
+        }
+    }
+
+    /// Where the connection of this number stands, if there is one.
+    fn place(&self, number: u64) -> Option<usize>
+        ensures { MatchOption result (connection_at self.now.all.items number ≡ None) (λ at. (number ≡ suc at) × (at < length self.now.all.items)) }
+    {
+        let before = number.checked_sub(1)?;
+        if before >= self.all.len() as u64 {
+            return None;
+        }
+        Some(before as usize)
+    }
+
+    /// The connection of this number, if there is one.
+    pub fn get(&self, number: u64) -> Option<&Connection>
+        ensures exact { option_copied result ≡ connection_at self.now.all.items number }
+        ensures found { (links : List Link) → Stand self.now links → IsFound (option_copied result) (link_at links number) }
+    {
+        let at = self.place(number)?;
+        Some(&self.all[at])
+    }
+
+    /// Opens one, and gives its number.
+    pub fn add(&mut self) -> Result<u64, NoMemory>
+        ensures { IfOk result (λ number. (links : List Link) → Stand self.old links → (number ≡ length links + 1) × Stand self.new (links ++ new_link ∷ [])) }
+    {
+        self.all.push(Connection::new(self.alloc))?;
+        Ok(self.all.len() as u64)
+    }
+
+    /// Sends frames to the server on one that is open. A Close among them ends it. Linear in their
+    /// bytes.
+    pub fn send(&mut self, number: u64, event: u64, frames: &[Up]) -> Result<(), NoMemory>
+        requires may { MaySend (connection_at self.old.all.items number) frames.now }
+        requires made { AllByRecursion IsMadeUp frames.now }
+        ensures { OnOk result ((links : List Link) (sent : List Sent) → up_frames sent ≡ frames.now → Stand self.old links → Stand self.new (changed (sends event sent) links number)) }
+    {
+        let Some(at) = self.place(number) else {
+            return Ok(());
+        };
+        self.all[at].send(self.alloc, event, frames)
+    }
+
+    /// Takes off the frame that is served next on one: the first whole one, while its session lives.
+    /// Linear in the frame.
+    pub fn first_up(&mut self, number: u64) -> Result<Option<Up>, NoMemory>
+        ensures { IfOk result (λ frame. (links : List Link) → Stand self.old links → GivesFrontAt links number (front_at links number) frame self.new) }
+    {
+        let Some(at) = self.place(number) else {
+            return Ok(None);
+        };
+        self.all[at].first_up()
+    }
+
+    /// Notes that the frame that was taken off was served by this session, which may end with it, and
+    /// sends the reply, which goes nowhere once the connection has ended. Linear in the reply.
+    pub fn serve(
+        &mut self,
+        number: u64,
+        session: SessionId,
+        is_last: bool,
+        reply: &Option<Down>,
+    ) -> Result<(), NoMemory>
+        requires { IfSome reply.now IsMadeDown }
+        ensures { OnOk result ((links : List Link) (front : Front) (served : Served) → served.session ≡ session → is_last_def served.item ≡ is_last → link_at links number ≡ Some (record front.link { up = front.later }) → Stand self.old links → Stand self.new (with_link links number (after_front front served reply.now))) }
+    {
+        let Some(at) = self.place(number) else {
+            return Ok(());
+        };
+        self.all[at].serve(self.alloc, session, is_last, reply)
+    }
+
+    /// Takes the reply that stands first on one, and the identifier that comes with it. Linear in the
+    /// reply.
+    pub fn take(&mut self, number: u64) -> Result<Option<Down>, NoMemory>
+        ensures { IfOk result (λ reply. (links : List Link) (link : Link) → link_at links number ≡ Some link → Stand self.old links → GivesReplyAt links number link link.down reply self.new) }
+    {
+        let Some(at) = self.place(number) else {
+            return Ok(None);
+        };
+        self.all[at].take()
+    }
+
+    /// The event ends one, if it is open.
+    pub fn end(&mut self, number: u64, event: u64)
+        ensures { (links : List Link) → Stand self.old links → Stand self.new (changed (ends event) links number) }
+    {
+        if let Some(at) = self.place(number) {
+            self.all[at].end(event);
+        }
+    }
+
+    /// Cuts one, if it is open: of the bytes on their way the first `up` still reach the server and
+    /// the first `down` the client. Tells how many that are. It takes no memory.
+    pub fn cut(&mut self, number: u64, event: u64, up: u64, down: u64) -> Option<Reached>
+        ensures { (links : List Link) → Stand self.old links → CutsAt links number event up down (open_at links number) result self.new }
+    {
+        let at = self.place(number)?;
+        if self.all[at].ended.is_some() {
+            return None;
+        }
+        Some(self.all[at].cut(event, up, down))
+    }
+
+    /// Ends the session of one that was cut, if it lives still, and tells whether it did. It takes no
+    /// memory.
+    pub fn reap(&mut self, number: u64) -> bool
+        ensures { (links : List Link) → Stand self.old links → (result ≡ has_orphan links number) × Stand self.new (if result then changed reaped_link links number else links) }
+    {
+        let Some(at) = self.place(number) else {
+            return false;
+        };
+        if !self.all[at].is_orphan() {
+            return false;
+        }
+        self.all[at].reap();
+        true
+    }
+
+    /// The server falls: all connections and sessions end, and of what is on its way the replies that
+    /// a cut let arrive are left. Linear in the connections, and takes no memory.
+    pub fn fall(&mut self, event: u64)
+        ensures { (links : List Link) → Stand self.old links → Stand self.new (map (fallen_link event) links) }
+    {
+        for connection in self.all.iter_mut() {
+            connection.fall(event);
+        }
+    }
+}

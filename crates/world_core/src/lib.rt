@@ -1,0 +1,8 @@
+//! The world: connections with their sessions, clients and the pool, run event by event over any service.
+#![tactic(auto)]
+
+mod connection;
+mod connections;
+
+pub use connection::Connection;
+pub use connections::Connections;
