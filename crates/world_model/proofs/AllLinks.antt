@@ -21,7 +21,7 @@ use Rattle.world_model.specs.Going.{lost_at_once}
 use Rattle.world_model.specs.Serving.{Front, first_of, front_of, front_at, is_ordinary, handled, after_front}
 use Rattle.world_model.specs.Cutting.{open_at, cut_link, reaped_link}
 use Rattle.world_model.specs.Crashing.{is_stopped, has_stored, fallen_link, falls}
-use Rattle.world_model.specs.Outside.{closed_by_drain}
+use Rattle.world_model.specs.Outside.{closed_by_drain, drained}
 use Rattle.world_model.proofs.Kept.{only_is}
 use Rattle.world_model.proofs.AllLists.{set_all, at_all, map_all, append_all, one_all}
 use Rattle.world_model.proofs.Moves.{only_met, with_pool, with_new, next_number, takes_one, Goes, Rests, Waits, Lends, Opens, Fails, Takes, Loses, ServesLast, LastNone, LastStopped, LastServed, Happens, Nothing, IsStep, Serves, Cuts, Reaps, Crashes, OpensUp, StopsOpening, Ticks, RunsOutside, Asks, Drains}
@@ -90,7 +90,17 @@ open_is links number link e = opened_found links number (link_at links number) l
 
 -- EVENTS ------------------------------------------------------------------------------------------
 
--- What may happen to a connection keeps the test. `before` holds of all connections when the event begins.
+-- What may happen to a connection but by its client keeps the test. `before` holds of all connections when the event begins.
+pub record KeepsServed (m : Machine) (before test : Link → Bool) : Type 0 where
+  pub at_serves : (number : ℕ) (front : Front) (served : Served) → IsFront m.links number front → is_ordinary m front served ≡ true → before front.link ≡ true → test front.link ≡ true
+      → test (handled m.event front served) ≡ true
+  pub at_stops : (number after : ℕ) (front : Front) (served : Served) → IsFront m.links number front → is_stopped m after front served ≡ true → before front.link ≡ true → test front.link ≡ true
+      → test (fallen_link m.event (after_front front served None)) ≡ true
+  pub at_cuts : (up down : ℕ) (link : Link) → link.is_open ≡ true → test link ≡ true → test (cut_link m.event up down link) ≡ true
+  pub at_reaps : (link : Link) → is_orphan link ≡ true → test link ≡ true → test (reaped_link link) ≡ true
+  pub at_falls : (link : Link) → test link ≡ true → test (fallen_link m.event link) ≡ true
+
+-- All that may happen to it keeps the test, whatever frames its client sends.
 pub record Keeps (m : Machine) (before test : Link → Bool) : Type 0 where
   pub at_new : m.server.is_up ≡ true → test new_link ≡ true
   pub at_sends : (frames : List Sent) (link : Link) → test link ≡ true → test (sends m.event frames link) ≡ true
@@ -104,6 +114,9 @@ pub record Keeps (m : Machine) (before test : Link → Bool) : Type 0 where
   pub at_reaps : (link : Link) → is_orphan link ≡ true → test link ≡ true → test (reaped_link link) ≡ true
   pub at_falls : (link : Link) → test link ≡ true → test (fallen_link m.event link) ≡ true
 
+pub keeps_served : (m : Machine) (before test : Link → Bool) → Keeps m before test → KeepsServed m before test
+keeps_served m before test keeps = record { at_serves = keeps.at_serves; at_stops = keeps.at_stops; at_cuts = keeps.at_cuts; at_reaps = keeps.at_reaps; at_falls = keeps.at_falls }
+
 orphan_met : (found : Option Link) (link : Link) → option_map_or is_orphan found false ≡ true → found ≡ Some link → is_orphan link ≡ true
 orphan_met None link met e = absurd (let none : ⊥ = cc in none)
 orphan_met (Some one) link met e = let same : one ≡ link = cc in subst (λ (l : Link). is_orphan l ≡ true) same met
@@ -113,6 +126,52 @@ pub map_with_link : {A : Type 0} (change : Link → A) (links : List Link) (inde
 map_with_link change [] index link = refl
 map_with_link change (first ∷ links) zero link = refl
 map_with_link change (first ∷ links) (suc index) link = ap (λ rest. change first ∷ rest) (map_with_link change links index link)
+
+module _ (setting : Setting) (m : Machine) (before test : Link → Bool) (keeps : KeepsServed m before test) where
+  served_keep : (number : ℕ) (front : Front) (served : Served) → front_at m.links number ≡ Some front → is_ordinary m front served ≡ true → list_all before m.links ≡ true → list_all test m.links ≡ true
+      → list_all test (with_link m.links number (handled m.event front served)) ≡ true
+  served_keep number front served is ordinary old all =
+      let at : IsFront m.links number front = front_is m.links number front is in
+      with_link_all test m.links number (handled m.event front served) all
+      (keeps.at_serves number front served at ordinary (at_link before m.links number front.link old at.there) (at_link test m.links number front.link all at.there))
+
+  fall : (links : List Link) → list_all test links ≡ true → list_all test (map (fallen_link m.event) links) ≡ true
+  fall links all = map_all test test (fallen_link m.event) links keeps.at_falls all
+
+  stopped_keep : (number after : ℕ) (front : Front) (served : Served) → IsFront m.links number front → is_stopped m after front served ≡ true → list_all before m.links ≡ true → list_all test m.links ≡ true
+      → list_all test (map (fallen_link m.event) (with_link m.links number (after_front front served None))) ≡ true
+  stopped_keep zero after front served at stopped old all = fall m.links all
+  stopped_keep (suc index) after front served at stopped old all =
+      subst (λ (links : List Link). list_all test links ≡ true) (sym (map_with_link (fallen_link m.event) m.links index (after_front front served None)))
+      (set_all test (map (fallen_link m.event) m.links) index (fallen_link m.event (after_front front served None)) (fall m.links all)
+      (keeps.at_stops (suc index) after front served at stopped (at_link before m.links (suc index) front.link old at.there) (at_link test m.links (suc index) front.link all at.there)))
+
+  falls_keep : (number after : ℕ) (failover : Bool) (items left : List Served) (a : Machine) → ServesLast m number after items left a → list_all before m.links ≡ true → list_all test m.links ≡ true
+      → list_all test (falls failover a).links ≡ true
+  falls_keep number after failover items left _ (LastNone same) old all = fall m.links all
+  falls_keep number after failover items left _ (LastStopped front served is stopped same) old all = stopped_keep number after front served (front_is m.links number front is) stopped old all
+  falls_keep number after failover items left _ (LastServed front served is over same) old all =
+      let ordinary : is_ordinary m front served ≡ true = (and_parts (is_ordinary m front served) (not (has_stored m.server served.item) || nat_le m.server.per_record after) over).0 in
+      fall (with_link m.links number (handled m.event front served)) (served_keep number front served is ordinary old all)
+
+  -- the test holds of all connections after the event, if it held of all when the event began, and steps of clients and drains keep it
+  pub happens_keep : (items left : List Served) (happened : Noted) (n : Machine) → Happens setting m items left happened n → ((number : ℕ) (a : Machine) → Goes setting m number a → list_all test a.links ≡ true)
+      → list_all test (drained m).links ≡ true → list_all before m.links ≡ true → list_all test m.links ≡ true → list_all test n.links ≡ true
+  happens_keep items left happened _ (Nothing kind quiet) goes drains old all = all
+  happens_keep items left happened _ (IsStep number did n moves) goes drains old all = goes number n moves
+  happens_keep items left happened _ (Serves number frame front served is ordinary same) goes drains old all = served_keep number front served is ordinary old all
+  happens_keep items left happened _ (Cuts number up down reached link is) goes drains old all =
+      let at : IsOpen m.links number link = open_is m.links number link is in
+      with_link_all test m.links number (cut_link m.event up down link) all (keeps.at_cuts up down link at.open_now (at_link test m.links number link all at.there))
+  happens_keep items left happened _ (Reaps number reaped orphan) goes drains old all =
+      changed_all test reaped_link m.links number all (λ link is here. keeps.at_reaps link (orphan_met (link_at m.links number) link orphan is) here)
+  happens_keep items left happened _ (Crashes number after failover down a up last) goes drains old all = falls_keep number after failover items left a last old all
+  happens_keep items left happened _ (OpensUp incarnation down may) goes drains old all = all
+  happens_keep items left happened _ (StopsOpening made down) goes drains old all = all
+  happens_keep items left happened _ Ticks goes drains old all = all
+  happens_keep items left happened _ (RunsOutside ran up) goes drains old all = all
+  happens_keep items left happened _ (Asks ltxid result up) goes drains old all = all
+  happens_keep items left happened _ (Drains closed) goes drains old all = drains
 
 module _ (setting : Setting) (m : Machine) (before test : Link → Bool) (keeps : Keeps m before test) where
   acts_keep : (a : Machine) (number : ℕ) (doing : Doing) (holds_slot : Bool) (act : Act) → a.event ≡ m.event → list_all test a.links ≡ true → list_all test (acts setting a number doing holds_slot act).links ≡ true
@@ -152,46 +211,8 @@ module _ (setting : Setting) (m : Machine) (before test : Link → Bool) (keeps 
       (with_link_all test m.links connection taken all (keeps.at_takes reply left link (at_link before m.links connection link old on.there) (at_link test m.links connection link all on.there) down)))
   goes_keep number _ (Loses doing connection link is_doing on none closed) old all = steps_keep m number (record doing { connection = None }) true (Gone (unwrap_or link.ended 0)) refl all
 
-  served_keep : (number : ℕ) (front : Front) (served : Served) → front_at m.links number ≡ Some front → is_ordinary m front served ≡ true → list_all before m.links ≡ true → list_all test m.links ≡ true
-      → list_all test (with_link m.links number (handled m.event front served)) ≡ true
-  served_keep number front served is ordinary old all =
-      let at : IsFront m.links number front = front_is m.links number front is in
-      with_link_all test m.links number (handled m.event front served) all
-      (keeps.at_serves number front served at ordinary (at_link before m.links number front.link old at.there) (at_link test m.links number front.link all at.there))
-
-  fall : (links : List Link) → list_all test links ≡ true → list_all test (map (fallen_link m.event) links) ≡ true
-  fall links all = map_all test test (fallen_link m.event) links keeps.at_falls all
-
-  stopped_keep : (number after : ℕ) (front : Front) (served : Served) → IsFront m.links number front → is_stopped m after front served ≡ true → list_all before m.links ≡ true → list_all test m.links ≡ true
-      → list_all test (map (fallen_link m.event) (with_link m.links number (after_front front served None))) ≡ true
-  stopped_keep zero after front served at stopped old all = fall m.links all
-  stopped_keep (suc index) after front served at stopped old all =
-      subst (λ (links : List Link). list_all test links ≡ true) (sym (map_with_link (fallen_link m.event) m.links index (after_front front served None)))
-      (set_all test (map (fallen_link m.event) m.links) index (fallen_link m.event (after_front front served None)) (fall m.links all)
-      (keeps.at_stops (suc index) after front served at stopped (at_link before m.links (suc index) front.link old at.there) (at_link test m.links (suc index) front.link all at.there)))
-
-  falls_keep : (number after : ℕ) (failover : Bool) (items left : List Served) (a : Machine) → ServesLast m number after items left a → list_all before m.links ≡ true → list_all test m.links ≡ true
-      → list_all test (falls failover a).links ≡ true
-  falls_keep number after failover items left _ (LastNone same) old all = fall m.links all
-  falls_keep number after failover items left _ (LastStopped front served is stopped same) old all = stopped_keep number after front served (front_is m.links number front is) stopped old all
-  falls_keep number after failover items left _ (LastServed front served is over same) old all =
-      let ordinary : is_ordinary m front served ≡ true = (and_parts (is_ordinary m front served) (not (has_stored m.server served.item) || nat_le m.server.per_record after) over).0 in
-      fall (with_link m.links number (handled m.event front served)) (served_keep number front served is ordinary old all)
-
   -- the test holds of all connections after the event, if it held of all when the event began
   pub links_keep : (items left : List Served) (happened : Noted) (n : Machine) → Happens setting m items left happened n → list_all before m.links ≡ true → list_all test m.links ≡ true → list_all test n.links ≡ true
-  links_keep items left happened _ (Nothing kind quiet) old all = all
-  links_keep items left happened _ (IsStep number did n moves) old all = goes_keep number n moves old all
-  links_keep items left happened _ (Serves number frame front served is ordinary same) old all = served_keep number front served is ordinary old all
-  links_keep items left happened _ (Cuts number up down reached link is) old all =
-      let at : IsOpen m.links number link = open_is m.links number link is in
-      with_link_all test m.links number (cut_link m.event up down link) all (keeps.at_cuts up down link at.open_now (at_link test m.links number link all at.there))
-  links_keep items left happened _ (Reaps number reaped orphan) old all =
-      changed_all test reaped_link m.links number all (λ link is here. keeps.at_reaps link (orphan_met (link_at m.links number) link orphan is) here)
-  links_keep items left happened _ (Crashes number after failover down a up last) old all = falls_keep number after failover items left a last old all
-  links_keep items left happened _ (OpensUp incarnation down may) old all = all
-  links_keep items left happened _ (StopsOpening made down) old all = all
-  links_keep items left happened _ Ticks old all = all
-  links_keep items left happened _ (RunsOutside ran up) old all = all
-  links_keep items left happened _ (Asks ltxid result up) old all = all
-  links_keep items left happened _ (Drains closed) old all = each_all test (sends m.event (closed_by_drain ∷ [])) m.links m.pool.idle all (λ link here. keeps.at_sends (closed_by_drain ∷ []) link here)
+  links_keep items left happened n happens old all =
+      happens_keep setting m before test (keeps_served m before test keeps) items left happened n happens (λ number a moves. goes_keep number a moves old all)
+      (each_all test (sends m.event (closed_by_drain ∷ [])) m.links m.pool.idle all (λ link here. keeps.at_sends (closed_by_drain ∷ []) link here)) old all

@@ -50,7 +50,7 @@ abbrev is_new : Stage → Bool
 is_new New = true
 is_new _ = false
 
-abbrev moved : Stage → Sent → Stage
+abbrev pub moved : Stage → Sent → Stage
 moved stage sent = next_stage stage sent.owner sent.frame
 
 if_old : (test : Bool) (stage : Stage) → is_new stage ≡ false → is_new (stage_if test stage) ≡ false

@@ -69,12 +69,12 @@ none_more (first ∷ second ∷ others) one none =
     let parts = or_parts (ends_life first) (list_any ends_life (second ∷ others)) none in
     and_from (not (ends_life first)) (none_behind ((second ∷ others) ++ one ∷ [])) (not_from_false (ends_life first) parts.0) (none_more (second ∷ others) one parts.1)
 
-implied : (a b : Bool) → a ≡ true → implies a b ≡ true → b ≡ true
+pub implied : (a b : Bool) → a ≡ true → implies a b ≡ true → b ≡ true
 implied true b is e = e
 implied false b is e = absurd (let none : ⊥ = cc in none)
 
 -- a session that lives served none of these
-served_none : (link : Link) → link.is_living ≡ true → lives_rightly link ≡ true → list_any ends_life link.served ≡ false
+pub served_none : (link : Link) → link.is_living ≡ true → lives_rightly link ≡ true → list_any ends_life link.served ≡ false
 served_none link living here =
     not-true (list_any ends_life link.served)
     (implied link.is_living (not (list_any ends_life link.served)) living (and_parts (none_behind link.served) (implies link.is_living (not (list_any ends_life link.served))) here).1)

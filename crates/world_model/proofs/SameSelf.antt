@@ -1,4 +1,4 @@
--- A reply is the same as itself.
+-- Frames and replies are the same as themselves.
 use Rattle.std.proofs.Common.{◌≡◌, refl, Bool, true, false, ℕ, ◌&&◌, List, [], ◌∷◌, Option, Some, None, nat_eq}
 use Rattle.std.specs.Ordering.{int_eq}
 use Rattle.std.specs.Str.{bytes_eq}
@@ -15,11 +15,15 @@ use Rattle.svc_values.specs.declared.answer.Answer.TheVariants as answer
 use Rattle.svc_values.specs.declared.draw.Draw.{Draw}
 use Rattle.svc_values.specs.declared.draw.Draw.TheVariants as draw
 use Rattle.svc_values.specs.declared.entry.Ltxid.{Ltxid}
+use Rattle.svc_values.specs.declared.frame.Up.{Up}
+use Rattle.svc_values.specs.declared.frame.Up.TheVariants as up
 use Rattle.svc_values.specs.declared.frame.Down.{Down}
 use Rattle.svc_values.specs.declared.frame.Down.TheVariants as down
 use Rattle.svc_values.specs.Identifiers.{same_ltxid}
-use Rattle.svc_values.specs.Same.{same_value, same_answer, same_answers, same_bool, same_draw, same_draws, fault_code}
-use Rattle.world_model.specs.Sames.{same_down}
+use Rattle.svc_values.specs.Same.{same_value, same_answer, same_answers, same_bool, same_call, same_draw, same_draws, fault_code}
+use Rattle.svc_values.specs.SameLaws.{same_call_decides, same_settings_equiv}
+use Rattle.world_model.specs.Frames.{Owner, Sent, Reply}
+use Rattle.world_model.specs.Sames.{same_owner, same_owners, same_up, same_sent, same_reply, same_down}
 use Rattle.world_model.specs.Wire.{same_replies}
 use Rattle.world_model.proofs.Tests.{eq_to}
 
@@ -76,3 +80,28 @@ down_self (down.Refused cause) = number_self cause
 pub reply_self : (reply : Option Down) → same_replies reply reply ≡ true
 reply_self None = refl
 reply_self (Some frame) = down_self frame
+
+up_self : (one : Up) → same_up one one ≡ true
+up_self up.Connect = refl
+up_self (up.Begin settings) = same_settings_equiv.refl settings
+up_self (up.Call replay kept call) =
+    and_from (same_bool replay replay) (same_draws kept kept && same_call call call) (bool_self replay)
+    (and_from (same_draws kept kept) (same_call call call) (each_self same_draw draw_self kept) ((same_call_decides call call).1 refl))
+up_self (up.Outcome x) = ltxid_self x
+up_self up.End = refl
+up_self up.Close = refl
+
+pub owner_self : (one : Owner) → same_owner one one ≡ true
+owner_self one = and_from (one.client == one.client) (one.place == one.place) (number_self one.client) (number_self one.place)
+
+owners_self : (one : Option Owner) → same_owners one one ≡ true
+owners_self None = refl
+owners_self (Some one) = owner_self one
+
+pub sent_self : (one : Sent) → same_sent one one ≡ true
+sent_self one =
+    and_from (same_owners one.owner one.owner) ((one.call == one.call) && same_up one.frame one.frame) (owners_self one.owner)
+    (and_from (one.call == one.call) (same_up one.frame one.frame) (number_self one.call) (up_self one.frame))
+
+pub same_reply_self : (one : Reply) → same_reply one one ≡ true
+same_reply_self one = and_from (same_sent one.to one.to) (same_down one.frame one.frame) (sent_self one.to) (down_self one.frame)

@@ -8,6 +8,7 @@ use Rattle.outage_schedule.specs.declared.note.Note.{Note}
 use Rattle.outage_schedule.specs.declared.item.Served.{Served}
 use Rattle.world_model.specs.Traced.{Traced}
 use Rattle.world_model.specs.Basic.{Basic}
+use Rattle.world_model.specs.Wire.{Wire}
 use Rattle.world_model.specs.Invariant.{Invariant}
 use Rattle.world_model.specs.OneEvent.{OneEvent}
 use Rattle.world_model.specs.Reached.{traced_start}
@@ -26,3 +27,12 @@ abbrev pub BasicIsKept : Type 0
 BasicIsKept =
     (granted : Draw → Bool) (before after : Seen) (old new : Traced) (event : Event) (note : Note) (items left : List Served)
     → OneEvent before old event note items left after new → Invariant granted old → Basic new
+
+-- the record of the frames of connections as a whole
+abbrev pub WireBegins : Type 0
+WireBegins = (document : Document) → Wire (traced_start document)
+
+abbrev pub WireIsKept : Type 0
+WireIsKept =
+    (granted : Draw → Bool) (before after : Seen) (old new : Traced) (event : Event) (note : Note) (items left : List Served)
+    → OneEvent before old event note items left after new → Invariant granted old → Wire new

@@ -24,6 +24,7 @@ pub mod Opening
 pub mod Outside
 pub mod Parts
 pub mod Reached
+pub mod Ready
 pub mod Reports
 pub mod Same
 pub mod Sames

@@ -33,6 +33,7 @@ use Rattle.world_model.specs.Traced.{Traced, Course, courses_of}
 use Rattle.world_model.specs.Sames.{owned_by, same_owner, same_up}
 use Rattle.run_clauses.specs.Tried.{holds}
 use Rattle.world_model.specs.Words.{held_in}
+use Rattle.world_model.specs.Ready.{are_ready}
 use Rattle.world_model.specs.Parts.{Sending, sendings_of, implies, is_unmarked}
 
 -- S0: A CONVERSATION ------------------------------------------------------------------------------
@@ -307,3 +308,4 @@ pub record Script (t : Traced) : Type 0 where
   pub owned : IsTrue (are_owned t)
   pub sent : IsTrue (all_sent t)
   pub marks : IsTrue (carry_draws t)
+  pub ready : IsTrue (are_ready t)

@@ -1,7 +1,7 @@
 //! What of the invariant holds of the start and is kept in each event, if the whole invariant held before it. Each law is the
 //! clause of a function with nothing to run.
-ghost use Rattle.world_model.specs.KeptLaws.{IsKept, BasicBegins, BasicIsKept};
-ghost use Rattle.world_model.specs.Wire.{are_handled};
+ghost use Rattle.world_model.specs.KeptLaws.{IsKept, BasicBegins, BasicIsKept, WireBegins, WireIsKept};
+ghost use Rattle.world_model.specs.Wire.{sent_fronts, reply_fronts, are_handled, in_grammar, one_out, answered_in_order, up_lives, are_fresh};
 ghost use Rattle.world_model.specs.Basic.{have_risen, kept_ticks, items_rise, items_differ, is_down, are_ended, sessions_differ, are_made, are_counted, are_named, living_now, commits_counted, lives};
 
 /// The items of a connection are in the order of their events, which are past. An event has one item.
@@ -51,4 +51,33 @@ pub fn basic_is_kept()
 /// Each item is that of its frame, or the frame was stopped; and the reply that a session gave is that of the item.
 pub fn items_fit_frames()
     ensures { IsKept are_handled }
+{}
+
+/// What was served on a connection, and then what may be served, are the first of the frames that were sent, and all of them as
+/// long as nothing of it was lost; so are what was taken and may be taken of the replies, which answer the answered frames in
+/// order. Where frames are left to be served the session lives, or it was cut off or ended by one of them.
+pub fn frames_stay_in_order()
+    ensures sent { IsKept sent_fronts }
+    ensures replies { IsKept reply_fronts }
+    ensures answered { IsKept answered_in_order }
+    ensures left { IsKept up_lives }
+{}
+
+/// At most one answered frame is out on a connection. Before Hello was taken only Connect was sent.
+pub fn one_frame_is_out()
+    ensures out { IsKept one_out }
+    ensures fresh { IsKept are_fresh }
+{}
+
+/// What is sent on a connection keeps to the grammar: Connect; then an outcome may be asked; then requests, each with Begin, calls
+/// and End; and Close.
+pub fn frames_keep_to_grammar()
+    ensures { IsKept in_grammar }
+{}
+
+/// The record of the frames of connections as a whole: it holds of the start, and behind each event if the whole invariant held
+/// before it.
+pub fn wire_is_kept()
+    ensures start { WireBegins }
+    ensures event { WireIsKept }
 {}

@@ -1,0 +1,5 @@
+use Rattle.world_model.proofs.KeptWire.{grammar_law}
+use Rattle.world_model.proofs.laws.frames_keep_to_grammar.Goals as goal
+
+pub returns : goal.returns
+returns c = grammar_law
