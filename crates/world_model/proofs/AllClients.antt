@@ -59,7 +59,7 @@ pub at_client : (test : Client → Bool) (clients : List Client) (number : ℕ) 
 at_client test clients zero client all e = absurd (let never : ⊥ = cc in never)
 at_client test clients (suc index) client all e = at_all test clients index client all e
 
-with_client_all : (test : Client → Bool) (clients : List Client) (number : ℕ) (client : Client) → list_all test clients ≡ true → test client ≡ true → list_all test (with_client clients number client) ≡ true
+pub with_client_all : (test : Client → Bool) (clients : List Client) (number : ℕ) (client : Client) → list_all test clients ≡ true → test client ≡ true → list_all test (with_client clients number client) ≡ true
 with_client_all test clients zero client all here = all
 with_client_all test clients (suc index) client all here = set_all test clients index client all here
 

@@ -56,7 +56,7 @@ few_opening owner call false settings marked kept one = refl
 -- a client says at most one of them
 pub few_said : (owner : Owner) (call : ℕ) (before : Phase) (left alive : Bool) (phase : Phase) (send : List Up) (held : Hold) (how : Back) → Spoken before left alive phase send held
     → nat_le (count_reps (map (sent_by owner call) (send ++ closing held how))) 1 ≡ true
-few_said owner call before left alive phase _ _ how (Quiet _) = refl
+few_said owner call before left alive phase _ _ how (Quiet _ stays) = refl
 few_said owner call before left true _ _ _ how Fails = refl
 few_said owner call before left false _ _ _ how Fails = refl
 few_said owner call before left true _ _ _ back.Closed (Ends may) = refl
@@ -116,7 +116,7 @@ out_keeps setting m = record {
   at_takes = λ owner doing pool number link reply left ready out down old here.
       let step : Step = taken_by setting.terms doing.talk doing.talk.phase reply.frame link.is_open m.tick in
       sends_out m.event (spoken_by owner pool number step) (takes (Took reply.frame link.is_open) reply left link) (taken_none link reply (awaits_out owner doing.talk.phase link out))
-      (few_said owner (call_in step.0.phase) doing.talk.phase (has_next doing.talk) link.is_open step.0.phase step.1.send step.1.hold (give_back_answer pool number) (said setting.terms doing.talk doing.talk.phase reply.frame link.is_open m.tick));
+      (few_said owner (call_in step.0.phase) doing.talk.phase (has_next doing.talk) link.is_open step.0.phase step.1.send step.1.hold (give_back_answer pool number) (said setting.terms doing.talk doing.talk.phase reply.frame link.is_open m.tick refl));
   at_drains = λ link idle old here. sends_out m.event (closed_by_drain ∷ []) link (idle_none link idle) refl;
   served = out_served m;
 }

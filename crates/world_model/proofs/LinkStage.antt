@@ -1,6 +1,6 @@
 -- Of each connection: what was sent keeps to the grammar.
 use Rattle.std.proofs.Common.{◌≡◌, refl, sym, ap, subst, ◌∙◌, Bool, true, false, ℕ, ◌&&◌, length, List, [], ◌∷◌, ◌++◌, fold, Option, Some, None}
-use Rattle.std.specs.Prelude.{◌==◌, not, is_some, slice_get}
+use Rattle.std.specs.Prelude.{◌==◌, not, is_some, is_none, slice_get}
 use Rattle.std.specs.List.{last_or}
 use Rattle.std.specs.Option.{option_map_or}
 use Rattle.std.proofs.lemmas.Bool.{and_parts, not-true}
@@ -11,9 +11,10 @@ use Rattle.svc_values.specs.declared.entry.Ltxid.{Ltxid}
 use Rattle.svc_values.specs.declared.frame.Up.{Up}
 use Rattle.svc_values.specs.declared.frame.Up.TheVariants as up
 use Rattle.pool_core.specs.Slots.{Slots, give_back_answer}
+use Rattle.request_bounds.specs.declared.rule.Why.{Why}
 use Rattle.client_model.specs.States.{Living}
 use Rattle.client_model.specs.declared.input.Input.TheVariants.{Took}
-use Rattle.client_model.specs.Terms.{Terms, Talk, Phase, Unbegun, Queued, unsubmitted}
+use Rattle.client_model.specs.Terms.{Terms, Talk, Phase, Unbegun, Queued, Asked, Replaying, unsubmitted}
 use Rattle.client_model.specs.Talk.{Step, begin_of, sends_or_ends, next_call, on_hello, takes as taken_by}
 use Rattle.world_model.specs.Settings.{Setting}
 use Rattle.world_model.specs.Frames.{Owner, Sent, Reply}
@@ -26,14 +27,14 @@ use Rattle.world_model.specs.Outside.{closed_by_drain}
 use Rattle.world_model.specs.Words.{held_in}
 use Rattle.world_model.specs.Hold.{is_idle, is_end, is_awaited}
 use Rattle.world_model.specs.Parts.{is_answered, is_out, count_reps, implies}
-use Rattle.world_model.specs.Ready.{is_waiting, is_unbegun, records_rightly, is_ready}
+use Rattle.world_model.specs.Ready.{alters_none, forgets_commits, repeats_rightly, is_waiting, is_unbegun, records_rightly, is_ready}
 use Rattle.world_model.specs.Sames.{same_owner, same_owners, is_of, owned_by}
 use Rattle.world_model.specs.Wire.{Stage, New, Begun, Rested, stage_if, stage_of, is_right}
 use Rattle.world_model.proofs.SameSelf.{owner_self}
 use Rattle.world_model.proofs.Fronts.{moved}
 use Rattle.world_model.proofs.Ends.{sends_alike, handled_alike, cut_case, fallen_case}
 use Rattle.world_model.proofs.LinkLives.{no_test, implied}
-use Rattle.world_model.proofs.Saying.{has_next, said}
+use Rattle.world_model.proofs.Saying.{has_next, said, repeats_in}
 use Rattle.world_model.proofs.AllLinks.{KeepsServed}
 use Rattle.world_model.proofs.SentLinks.{spoken_by, awaits, is_strange, KeepsSent}
 use Rattle.world_model.proofs.Strangers.{same_owner_is, owned_is}
@@ -116,27 +117,36 @@ left_some : (calls : List Call) → not (length calls == 0) ≡ true → is_some
 left_some [] is = absurd (let none : ⊥ = cc in none)
 left_some (call ∷ calls) is = refl
 
-ready_left : (doing : Doing) → is_ready doing ≡ true → is_unbegun doing.talk.phase ≡ true → has_next doing.talk ≡ true
-ready_left doing ready new =
-    let one = and_parts (implies (is_unbegun doing.talk.phase) (not (length doing.talk.left == 0))) (implies (is_waiting doing.talk.phase) (length (held_in doing.steps) == 0) && records_rightly doing.talk.phase) ready in
+ready_left : (terms : Terms) (doing : Doing) → is_ready terms doing ≡ true → is_unbegun doing.talk.phase ≡ true → has_next doing.talk ≡ true
+ready_left terms doing ready new =
+    let one = and_parts (implies (is_unbegun doing.talk.phase) (not (length doing.talk.left == 0))) (implies (is_waiting doing.talk.phase) (length (held_in doing.steps) == 0) && records_rightly terms doing.talk doing.talk.phase) ready in
     left_some doing.talk.left (implied (is_unbegun doing.talk.phase) (not (length doing.talk.left == 0)) new one.0)
 
-ready_records : (doing : Doing) → is_ready doing ≡ true → records_rightly doing.talk.phase ≡ true
-ready_records doing ready =
-    let one = and_parts (implies (is_unbegun doing.talk.phase) (not (length doing.talk.left == 0))) (implies (is_waiting doing.talk.phase) (length (held_in doing.steps) == 0) && records_rightly doing.talk.phase) ready in
-    (and_parts (implies (is_waiting doing.talk.phase) (length (held_in doing.steps) == 0)) (records_rightly doing.talk.phase) one.1).1
+recorded_in : (terms : Terms) (talk : Talk) (phase : Phase) → records_rightly terms talk phase ≡ true → repeats_in phase ≡ true
+recorded_in terms talk (Replaying state) here = (and_parts (alters_none state.track.recorder.calls) (forgets_commits terms) here).0
+recorded_in terms talk (Asked asking) here = by asking.track.why here
+  where
+    by : (why : Option Why) → implies (is_none why) (repeats_rightly terms asking.track) ≡ true → implies (is_none why) (alters_none asking.track.recorder.calls) ≡ true
+    by None is = (and_parts (alters_none asking.track.recorder.calls) (forgets_commits terms) is).0
+    by (Some why) is = refl
+recorded_in terms talk phase here = refl
 
-lends_right : (setting : Setting) (m : Machine) (owner : Owner) (doing : Doing) (ltxid : Ltxid) (pool : Slots) (number : ℕ) (link : Link) → is_ready doing ≡ true → is_waiting doing.talk.phase ≡ true → is_strange owner link ≡ true
+ready_records : (terms : Terms) (doing : Doing) → is_ready terms doing ≡ true → repeats_in doing.talk.phase ≡ true
+ready_records terms doing ready =
+    let one = and_parts (implies (is_unbegun doing.talk.phase) (not (length doing.talk.left == 0))) (implies (is_waiting doing.talk.phase) (length (held_in doing.steps) == 0) && records_rightly terms doing.talk doing.talk.phase) ready in
+    recorded_in terms doing.talk doing.talk.phase (and_parts (implies (is_waiting doing.talk.phase) (length (held_in doing.steps) == 0)) (records_rightly terms doing.talk doing.talk.phase) one.1).1
+
+lends_right : (setting : Setting) (m : Machine) (owner : Owner) (doing : Doing) (ltxid : Ltxid) (pool : Slots) (number : ℕ) (link : Link) → is_ready setting.terms doing ≡ true → is_waiting doing.talk.phase ≡ true → is_strange owner link ≡ true
     → is_idle link ≡ true → keeps_grammar link ≡ true → keeps_grammar (sends m.event (spoken_by owner pool number (on_hello setting.terms doing.talk None ltxid true m.tick)) link) ≡ true
 lends_right setting m owner doing ltxid pool number link ready waits strange idle here =
     let found = idle_last link idle in
     let other : is_of owner found.last.owner ≡ false = not-true (is_of owner found.last.owner) (last_all (λ (sent : Sent). not (owned_by owner sent)) link.sent found.last found.is_last strange) in
     sends_right m.event (spoken_by owner pool number (on_hello setting.terms doing.talk None ltxid true m.tick)) link (Rested found.last.owner) (idle_stage link found here)
-    (next_right setting.terms owner doing.talk (record { track = unsubmitted setting.terms; ltxid = ltxid }) pool number m.tick found.last.owner (next_call doing.talk) (ready_left doing ready (waiting_unbegun doing.talk.phase waits)) other)
+    (next_right setting.terms owner doing.talk (record { track = unsubmitted setting.terms; ltxid = ltxid }) pool number m.tick found.last.owner (next_call doing.talk) (ready_left setting.terms doing ready (waiting_unbegun doing.talk.phase waits)) other)
 
 -- TAKEN -------------------------------------------------------------------------------------------
 
-takes_right : (setting : Setting) (m : Machine) (owner : Owner) (doing : Doing) (pool : Slots) (number : ℕ) (link : Link) (reply : Reply) (left : List Reply) → is_ready doing ≡ true → awaits owner doing.talk.phase link ≡ true
+takes_right : (setting : Setting) (m : Machine) (owner : Owner) (doing : Doing) (pool : Slots) (number : ℕ) (link : Link) (reply : Reply) (left : List Reply) → is_ready setting.terms doing ≡ true → awaits owner doing.talk.phase link ≡ true
     → keeps_grammar link ≡ true
     → keeps_grammar (sends m.event (spoken_by owner pool number (taken_by setting.terms doing.talk doing.talk.phase reply.frame link.is_open m.tick)) (takes (Took reply.frame link.is_open) reply left link)) ≡ true
 takes_right setting m owner doing pool number link reply left ready out here =
@@ -150,8 +160,8 @@ takes_right setting m owner doing pool number link reply left ready out here =
     ∙ (ap (λ (one : Option Owner). behind found.last.frame one) (owned_is owner found.last two.0) ∙ awaited_leads owner phase found.last two.1) in
     let step : Step = taken_by setting.terms doing.talk phase reply.frame link.is_open m.tick in
     sends_right m.event (spoken_by owner pool number step) (takes (Took reply.frame link.is_open) reply left link) (stage_in owner phase) stage
-    (said_right owner (call_in step.0.phase) phase (has_next doing.talk) link.is_open step.0.phase step.1.send step.1.hold (give_back_answer pool number) (said setting.terms doing.talk phase reply.frame link.is_open m.tick)
-    (awaited_on phase found.last two.1) (ready_left doing ready) (ready_records doing ready))
+    (said_right owner (call_in step.0.phase) phase (has_next doing.talk) link.is_open step.0.phase step.1.send step.1.hold (give_back_answer pool number) (said setting.terms doing.talk phase reply.frame link.is_open m.tick refl)
+    (awaited_on phase found.last two.1) (ready_left setting.terms doing ready) (ready_records setting.terms doing ready))
 
 -- BY EVENTS ---------------------------------------------------------------------------------------
 

@@ -1,5 +1,5 @@
 -- What a client sends where it takes a frame or is lent a connection, by cases: nothing, a Close, an End, or one answered frame last.
-use Rattle.std.proofs.Common.{◌≡◌, refl, sym, subst, Bool, true, false, ℕ, List, [], ◌∷◌, ◌++◌, Option, Some, None, if◌then◌else◌}
+use Rattle.std.proofs.Common.{◌≡◌, refl, sym, ap, subst, ◌∙◌, Bool, true, false, ℕ, List, [], ◌∷◌, ◌++◌, Option, Some, None, if◌then◌else◌}
 use Rattle.std.specs.Prelude.{◌&&◌, not, nat_le, is_some, is_none, Ok, Err}
 use Rattle.std.specs.Str.{bytes_eq}
 use Rattle.svc_values.specs.declared.value.Value.{Value}
@@ -29,7 +29,7 @@ use Rattle.client_model.specs.Terms.{Terms, Talk, Phase, Idle, Greeting, Asked, 
 use Rattle.client_model.specs.Talk.{Step, if_alive, fails, talk_shown, with_shown, sends_call, sends_or_ends, next_call, begin_of, on_hello, on_reply, sends_marked, on_compared, on_repeated, after_completed, on_completed, on_told, takes}
 use Rattle.world_model.specs.Acting.{closing}
 use Rattle.world_model.specs.Parts.{implies}
-use Rattle.world_model.specs.Ready.{alters_none, records_rightly}
+use Rattle.world_model.specs.Ready.{is_waiting, alters_none}
 
 -- a Begin was sent on the connection of a request in this phase
 abbrev pub begun_in : Phase → Bool
@@ -58,15 +58,21 @@ may_end (Greeting None) left = not left
 may_end (Greeting (Some lost)) left = false
 may_end _ left = true
 
+-- no call that alters the service is among those that are repeated, where some may be
+abbrev pub repeats_in : Phase → Bool
+repeats_in (Replaying state) = alters_none state.track.recorder.calls
+repeats_in (Asked asking) = implies (is_none asking.track.why) (alters_none asking.track.recorder.calls)
+repeats_in _ = true
+
 -- What is sent in a phase, with the phase that it leads to, and what becomes of the connection. `left`: a call is left; `alive`: the connection is open.
 pub data Spoken (before : Phase) (left alive : Bool) : Phase → List Up → Hold → Type 0 where
-  Quiet : (phase : Phase) → Spoken before left alive phase [] Keep
+  Quiet : (phase : Phase) → (is_waiting before ≡ false → is_waiting phase ≡ false) → Spoken before left alive phase [] Keep
   Fails : Spoken before left alive Idle (if_alive alive (up.Close ∷ [])) Drop
   Ends : may_end before left ≡ true → Spoken before left alive Idle (if_alive alive (up.End ∷ [])) (if alive then GiveBack else Drop)
   Asks : alive ≡ true → may_ask before ≡ true → (asking : Asking) → Spoken before left alive (Asked asking) (up.Outcome asking.ltxid ∷ []) Keep
   Calls : alive ≡ true → (settings : List (List ℕ × Value)) (call : Call) (state : Living) → Spoken before left alive (Running state) (opening (begun_in before) settings ++ up.Call false [] call ∷ []) Keep
   Marks : alive ≡ true → may_mark before ≡ true → (settings : List (List ℕ × Value)) (one : Recorded) (state : Repeating) → next_of state ≡ Some one
-      → (records_rightly before ≡ true → alters_none state.track.recorder.calls ≡ true)
+      → (repeats_in before ≡ true → alters_none state.track.recorder.calls ≡ true)
       → Spoken before left alive (Replaying state) (opening (begun_in before) settings ++ up.Call true one.draws one.call ∷ []) Keep
 
 abbrev pub IsSpoken : Phase → Bool → Bool → Step → Type 0
@@ -81,19 +87,19 @@ module _ (before : Phase) (left alive : Bool) where
   said_call : (terms : Terms) (talk : Talk) (state : Living) (live : Bool) → live ≡ alive → (settings : List (List ℕ × Value)) (shown : Option Shown) (now : ℕ) (call : Call)
       → IsSpoken before left alive (sends_call terms talk state live (opening (begun_in before) settings) shown now call)
   said_call terms talk state true is settings shown now call = Calls (sym is) settings call _
-  said_call terms talk state false is settings shown now call = Quiet (Running state)
+  said_call terms talk state false is settings shown now call = Quiet (Running state) (λ out. refl)
 
   said_next : (terms : Terms) (talk : Talk) (state : Living) (settings : List (List ℕ × Value)) (shown : Option Shown) (now : ℕ) (next : Option Call) → (is_none next ≡ true → may_end before left ≡ true)
       → IsSpoken before left alive (sends_or_ends terms talk state alive (opening (begun_in before) settings) shown now next)
   said_next terms talk state settings shown now None ends = Ends (ends refl)
   said_next terms talk state settings shown now (Some call) ends = said_call terms talk state alive refl settings shown now call
 
-  said_marked : (terms : Terms) (talk : Talk) (state : Repeating) → may_mark before ≡ true → may_end before left ≡ true → (records_rightly before ≡ true → alters_none state.track.recorder.calls ≡ true) → (live : Bool) → live ≡ alive → (settings : List (List ℕ × Value)) (now : ℕ) (one : Option Recorded) → next_of state ≡ one
+  said_marked : (terms : Terms) (talk : Talk) (state : Repeating) → may_mark before ≡ true → may_end before left ≡ true → (repeats_in before ≡ true → alters_none state.track.recorder.calls ≡ true) → (live : Bool) → live ≡ alive → (settings : List (List ℕ × Value)) (now : ℕ) (one : Option Recorded) → next_of state ≡ one
       → IsSpoken before left alive (sends_marked terms talk state live (opening (begun_in before) settings) now one)
   said_marked terms talk state marks ends plain live is settings now None none =
       subst (λ (one : Bool). IsSpoken before left alive (sends_marked terms talk state one (opening (begun_in before) settings) now None)) (sym is) (said_next terms talk (submitted state) settings None now (next_call talk) (λ last. ends))
   said_marked terms talk state marks ends plain true is settings now (Some one) next = Marks (sym is) marks settings one state next plain
-  said_marked terms talk state marks ends plain false is settings now (Some one) next = Quiet (Replaying state)
+  said_marked terms talk state marks ends plain false is settings now (Some one) next = Quiet (Replaying state) (λ out. refl)
 
 said_hello : (terms : Terms) (talk : Talk) (lost : Option Losing) (ltxid : Ltxid) (alive : Bool) (now : ℕ) → IsSpoken (Greeting lost) (has_next talk) alive (on_hello terms talk lost ltxid alive now)
 said_hello terms talk None ltxid true now =
@@ -103,8 +109,8 @@ said_hello terms talk None ltxid true now =
     none_left None last = refl
     none_left (Some call) last = absurd (let none : ⊥ = cc in none)
 said_hello terms talk (Some lost) ltxid true now = Asks refl refl (asked_on lost ltxid)
-said_hello terms talk None ltxid false now = Quiet (Greeting None)
-said_hello terms talk (Some lost) ltxid false now = Quiet (Greeting (Some lost))
+said_hello terms talk None ltxid false now = Quiet (Greeting None) (λ out. refl)
+said_hello terms talk (Some lost) ltxid false now = Quiet (Greeting (Some lost)) (λ out. refl)
 
 -- on a connection that is lent
 pub said_lent : (terms : Terms) (talk : Talk) (ltxid : Ltxid) (now : ℕ) → IsSpoken (Greeting None) (has_next talk) true (on_hello terms talk None ltxid true now)
@@ -151,7 +157,7 @@ module _ (asking : Asking) (left alive : Bool) where
   said_uncommitted terms talk now (Some reason) is = Fails
   said_uncommitted terms talk now None is = by (nat_le terms.limits.replays asking.track.replays) (is_late terms.limits.timeout asking.track.first now)
     where
-      plain : records_rightly (Asked asking) ≡ true → alters_none asking.track.recorder.calls ≡ true
+      plain : repeats_in (Asked asking) ≡ true → alters_none asking.track.recorder.calls ≡ true
       plain here = subst (λ (one : Option Why). implies (is_none one) (alters_none asking.track.recorder.calls) ≡ true) is here
 
       by : (many late : Bool) → IsSpoken (Asked asking) left alive
@@ -166,22 +172,31 @@ module _ (asking : Asking) (left alive : Bool) where
   said_told terms talk now false completed = said_uncommitted terms talk now asking.track.why refl
 
 -- at each frame that is taken
-pub said : (terms : Terms) (talk : Talk) (phase : Phase) (frame : Down) (alive : Bool) (now : ℕ) → IsSpoken phase (has_next talk) alive (takes terms talk phase frame alive now)
-said terms talk phase down.Blocked alive now = Quiet talk.phase
-said terms talk phase (down.Refused cause) alive now = Quiet talk.phase
-said terms talk (Greeting lost) (down.Hello ltxid) alive now = said_hello terms talk lost ltxid alive now
-said terms talk (Asked asking) (down.OutcomeIs committed completed) alive now = said_told asking (has_next talk) alive terms talk now committed completed
-said terms talk (Asked asking) (down.OutcomeRefused ahead.Forgotten horizon) alive now = Fails
-said terms talk (Running state) (down.Reply answers draws ltxid) alive now = said_reply terms talk state (has_next talk) answers draws ltxid alive now (next_call talk)
-said terms talk (Replaying state) (down.Reply answers draws ltxid) alive now = said_repeated terms talk state (has_next talk) answers draws ltxid alive now (next_of state)
-said terms talk phase frame alive now = Fails
+pub said : (terms : Terms) (talk : Talk) (phase : Phase) (frame : Down) (alive : Bool) (now : ℕ) → talk.phase ≡ phase → IsSpoken phase (has_next talk) alive (takes terms talk phase frame alive now)
+said terms talk phase down.Blocked alive now same = Quiet talk.phase (λ out. ap is_waiting same ∙ out)
+said terms talk phase (down.Refused cause) alive now same = Quiet talk.phase (λ out. ap is_waiting same ∙ out)
+said terms talk (Greeting lost) (down.Hello ltxid) alive now same = said_hello terms talk lost ltxid alive now
+said terms talk (Asked asking) (down.OutcomeIs committed completed) alive now same = said_told asking (has_next talk) alive terms talk now committed completed
+said terms talk (Asked asking) (down.OutcomeRefused ahead.Forgotten horizon) alive now same = Fails
+said terms talk (Running state) (down.Reply answers draws ltxid) alive now same = said_reply terms talk state (has_next talk) answers draws ltxid alive now (next_call talk)
+said terms talk (Replaying state) (down.Reply answers draws ltxid) alive now same = said_repeated terms talk state (has_next talk) answers draws ltxid alive now (next_of state)
+said terms talk phase frame alive now same = Fails
+
+-- a request that has a slot keeps one, or is over
+pub stays_out : (before : Phase) (left alive : Bool) (phase : Phase) (send : List Up) (held : Hold) → Spoken before left alive phase send held → is_waiting before ≡ false → is_waiting phase ≡ false
+stays_out before left alive phase _ _ (Quiet _ stays) out = stays out
+stays_out before left alive _ _ _ Fails out = refl
+stays_out before left alive _ _ _ (Ends may) out = refl
+stays_out before left alive _ _ _ (Asks opens may asking) out = refl
+stays_out before left alive _ _ _ (Calls opens settings call state) out = refl
+stays_out before left alive _ _ _ (Marks opens may settings one state is plain) out = refl
 
 -- ON A DEAD CONNECTION ----------------------------------------------------------------------------
 
 -- nothing is sent on one that is not open
 pub dead_silent : (before : Phase) (left alive : Bool) (phase : Phase) (send : List Up) (held : Hold) (back : Back) → Spoken before left alive phase send held → alive ≡ false → send ++ closing held back ≡ []
 dead_silent before left true phase send held back spoken dead = absurd (let none : ⊥ = cc in none)
-dead_silent before left false phase _ _ back (Quiet _) dead = refl
+dead_silent before left false phase _ _ back (Quiet _ stays) dead = refl
 dead_silent before left false _ _ _ back Fails dead = refl
 dead_silent before left false _ _ _ back (Ends may) dead = refl
 dead_silent before left false _ _ _ back (Asks alive may asking) dead = absurd (let none : ⊥ = cc in none)

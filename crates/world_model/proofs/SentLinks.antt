@@ -53,9 +53,9 @@ is_strange owner link = list_all (λ sent. not (owned_by owner sent)) link.sent
 -- All that may happen to a connection keeps the test. `before` holds of all connections when the event begins.
 pub record KeepsSent (setting : Setting) (m : Machine) (before test : Link → Bool) : Type 0 where
   pub at_opens : (owner : Owner) → m.server.is_up ≡ true → test (sends m.event (sent_by owner 0 up.Connect ∷ []) new_link) ≡ true
-  pub at_lends : (owner : Owner) (doing : Doing) (ltxid : Ltxid) (pool : Slots) (number : ℕ) (link : Link) → is_ready doing ≡ true → is_waiting doing.talk.phase ≡ true → is_strange owner link ≡ true → is_idle link ≡ true
+  pub at_lends : (owner : Owner) (doing : Doing) (ltxid : Ltxid) (pool : Slots) (number : ℕ) (link : Link) → is_ready setting.terms doing ≡ true → is_waiting doing.talk.phase ≡ true → is_strange owner link ≡ true → is_idle link ≡ true
       → before link ≡ true → test link ≡ true → test (sends m.event (spoken_by owner pool number (on_hello setting.terms doing.talk None ltxid true m.tick)) link) ≡ true
-  pub at_takes : (owner : Owner) (doing : Doing) (pool : Slots) (number : ℕ) (link : Link) (reply : Reply) (left : List Reply) → is_ready doing ≡ true → awaits owner doing.talk.phase link ≡ true → link.down ≡ reply ∷ left
+  pub at_takes : (owner : Owner) (doing : Doing) (pool : Slots) (number : ℕ) (link : Link) (reply : Reply) (left : List Reply) → is_ready setting.terms doing ≡ true → awaits owner doing.talk.phase link ≡ true → link.down ≡ reply ∷ left
       → before link ≡ true → test link ≡ true
       → test (sends m.event (spoken_by owner pool number (taken_by setting.terms doing.talk doing.talk.phase reply.frame link.is_open m.tick)) (takes (Took reply.frame link.is_open) reply left link)) ≡ true
   pub at_drains : (link : Link) → is_idle link ≡ true → before link ≡ true → test link ≡ true → test (sends m.event (closed_by_drain ∷ []) link) ≡ true
@@ -72,7 +72,7 @@ pub record IsHeld (setting : Setting) (m : Machine) : Type 0 where
   pub apart : each_pair differ m.pool.idle ≡ true
   pub out : (number : ℕ) (client : Client) (doing : Doing) (connection : ℕ) (link : Link) → client_at m.clients number ≡ Some client → client.now ≡ Some doing → doing.connection ≡ Some connection
       → link_at m.links connection ≡ Some link → awaits (record { client = number; place = length client.past }) doing.talk.phase link ≡ true
-  pub ready : (number : ℕ) (doing : Doing) (wanted : Wants) → IsDoing setting m number doing wanted → is_ready doing ≡ true
+  pub ready : (number : ℕ) (doing : Doing) (wanted : Wants) → IsDoing setting m number doing wanted → is_ready setting.terms doing ≡ true
   pub strange : (number : ℕ) (doing : Doing) (connection : ℕ) (link : Link) → IsDoing setting m number doing wants.Slot → link_at m.links connection ≡ Some link → is_strange (owner_at m number) link ≡ true
 
 -- LISTS -------------------------------------------------------------------------------------------
@@ -102,12 +102,12 @@ new_all test change links link all here =
     (subst (λ (found : Option Link). list_all test (option_map_or (λ one. with_link (links ++ link ∷ []) (suc (length links)) (change one)) found (links ++ link ∷ [])) ≡ true) (sym (last_at links link))
     (subst (λ (now : List Link). list_all test now ≡ true) (sym (last_set links link (change link))) (append_all test links (change link ∷ []) all (one_all test (change link) here))))
 
-set_at : (links : List Link) (index : ℕ) (old new : Link) → slice_get links index ≡ Some old → slice_get (slice_set links index new) index ≡ Some new
+pub set_at : {A : Type 0} (links : List A) (index : ℕ) (old new : A) → slice_get links index ≡ Some old → slice_get (slice_set links index new) index ≡ Some new
 set_at [] index old new is = absurd (let none : ⊥ = cc in none)
 set_at (first ∷ links) zero old new is = refl
 set_at (first ∷ links) (suc index) old new is = set_at links index old new is
 
-set_twice : (links : List Link) (index : ℕ) (one other : Link) → slice_set (slice_set links index one) index other ≡ slice_set links index other
+pub set_twice : {A : Type 0} (links : List A) (index : ℕ) (one other : A) → slice_set (slice_set links index one) index other ≡ slice_set links index other
 set_twice [] index one other = refl
 set_twice (first ∷ links) zero one other = refl
 set_twice (first ∷ links) (suc index) one other = ap (λ rest. first ∷ rest) (set_twice links index one other)
@@ -231,7 +231,7 @@ module _ (setting : Setting) (m : Machine) (before test : Link → Bool) (keeps 
       (λ one is here. keeps.at_lends (owner_at m number) doing ltxid pool connection one (known.ready number doing wants.Slot is_doing) (slot_waits setting.terms doing.talk doing.talk.phase m.tick is_doing.wants)
       (known.strange number doing connection one is_doing is) (lent_idle m.pool number connection m.links one answer known.idle is) (at_link before m.links connection one old is) here)
 
-  takes_keep : (number connection at : ℕ) (doing : Doing) (link : Link) (reply : Reply) (left : List Reply) → is_ready doing ≡ true → at ≡ connection → link_at m.links connection ≡ Some link → awaits (owner_at m number) doing.talk.phase link ≡ true
+  takes_keep : (number connection at : ℕ) (doing : Doing) (link : Link) (reply : Reply) (left : List Reply) → is_ready setting.terms doing ≡ true → at ≡ connection → link_at m.links connection ≡ Some link → awaits (owner_at m number) doing.talk.phase link ≡ true
       → link.down ≡ reply ∷ left
       → list_all test (changed (sends m.event (spoken_by (owner_at m number) m.pool at (taken_by setting.terms doing.talk doing.talk.phase reply.frame link.is_open m.tick)))
       (with_link m.links connection (takes (Took reply.frame link.is_open) reply left link)) at) ≡ true

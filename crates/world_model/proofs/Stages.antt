@@ -21,13 +21,13 @@ use Rattle.world_model.specs.Links.{Link}
 use Rattle.world_model.specs.Acting.{sent_by, closing}
 use Rattle.world_model.specs.Hold.{is_connect, is_call, is_ask, is_awaited}
 use Rattle.world_model.specs.Parts.{is_answered}
-use Rattle.world_model.specs.Ready.{is_unbegun, records_rightly}
+use Rattle.world_model.specs.Ready.{is_unbegun}
 use Rattle.world_model.specs.Sames.{same_owner, same_owners}
 use Rattle.world_model.specs.Wire.{Stage, New, Greeted, Told, Repeated, Begun, Rested, Shut, stage_if, is_alter, next_stage, stage_of, is_right}
 use Rattle.world_model.proofs.AllLists.{at_all}
 use Rattle.world_model.proofs.SameSelf.{owner_self}
 use Rattle.world_model.proofs.Fronts.{moved}
-use Rattle.world_model.proofs.Saying.{Spoken, Quiet, Fails, Ends, Asks, Calls, Marks, begun_in, opening, may_ask, may_mark, may_end}
+use Rattle.world_model.proofs.Saying.{Spoken, Quiet, Fails, Ends, Asks, Calls, Marks, begun_in, opening, may_ask, may_mark, may_end, repeats_in}
 
 -- THE LAST FRAME ----------------------------------------------------------------------------------
 
@@ -210,8 +210,8 @@ module _ (owner : Owner) (call : ℕ) where
 
   -- what is said keeps to the grammar
   pub said_right : (before : Phase) (left alive : Bool) (phase : Phase) (send : List Up) (held : Hold) (how : Back) → Spoken before left alive phase send held → on_connection before ≡ true
-      → (is_unbegun before ≡ true → left ≡ true) → records_rightly before ≡ true → is_right (fold moved (stage_in owner before) (map (sent_by owner call) (send ++ closing held how))) ≡ true
-  said_right before left alive phase _ _ how (Quiet _) on calls plain = stands before
+      → (is_unbegun before ≡ true → left ≡ true) → repeats_in before ≡ true → is_right (fold moved (stage_in owner before) (map (sent_by owner call) (send ++ closing held how))) ≡ true
+  said_right before left alive phase _ _ how (Quiet _ stays) on calls plain = stands before
   said_right before left true _ _ _ how Fails on calls plain = closes before on
   said_right before left false _ _ _ how Fails on calls plain = stands before
   said_right before left true _ _ _ how (Ends may) on calls plain = ended before left how on may calls

@@ -8,6 +8,7 @@ use Rattle.std.proofs.lemmas.List.{nil_from_length}
 use Rattle.std.proofs.lemmas.List.Folds.{list_any-append}
 use Rattle.client_model.specs.declared.input.Wants.{Wants}
 use Rattle.client_model.specs.declared.input.Wants.TheVariants as wants
+use Rattle.client_model.specs.Terms.{Terms}
 use Rattle.outage_schedule.specs.declared.document.Request.{Request}
 use Rattle.world_model.specs.Settings.{Setting}
 use Rattle.world_model.specs.Frames.{Owner, Sent}
@@ -30,26 +31,26 @@ use Rattle.world_model.proofs.SentLinks.{is_strange, slot_waits}
 
 -- READY -------------------------------------------------------------------------------------------
 
-begun_ready : (setting : Setting) (event tick : ℕ) (request : Request) → has_calls request ≡ true → is_ready (begun setting.terms event tick request) ≡ true
+begun_ready : (setting : Setting) (event tick : ℕ) (request : Request) → has_calls request ≡ true → is_ready setting.terms (begun setting.terms event tick request) ≡ true
 begun_ready setting event tick request calls = and_from (not (length request.calls == 0)) true calls refl
 
 does_ready : (setting : Setting) (event tick : ℕ) (now : Option Doing) (next : Option Request) (doing : Doing) → option_or now (option_map (begun setting.terms event tick) next) ≡ Some doing
-    → option_map_or is_ready now true ≡ true → option_map_or has_calls next true ≡ true → is_ready doing ≡ true
-does_ready setting event tick (Some one) next doing is ready calls = let same : one ≡ doing = cc in subst (λ (d : Doing). is_ready d ≡ true) same ready
+    → option_map_or (is_ready setting.terms) now true ≡ true → option_map_or has_calls next true ≡ true → is_ready setting.terms doing ≡ true
+does_ready setting event tick (Some one) next doing is ready calls = let same : one ≡ doing = cc in subst (λ (d : Doing). is_ready setting.terms d ≡ true) same ready
 does_ready setting event tick None (Some request) doing is ready calls =
-    let same : begun setting.terms event tick request ≡ doing = cc in subst (λ (d : Doing). is_ready d ≡ true) same (begun_ready setting event tick request calls)
+    let same : begun setting.terms event tick request ≡ doing = cc in subst (λ (d : Doing). is_ready setting.terms d ≡ true) same (begun_ready setting event tick request calls)
 does_ready setting event tick None None doing is ready calls = absurd (let none : ⊥ = cc in none)
 
-pub doing_ready : (setting : Setting) (m : Machine) (number : ℕ) (doing : Doing) (wanted : Wants) → list_all is_ready_client m.clients ≡ true → IsDoing setting m number doing wanted → is_ready doing ≡ true
+pub doing_ready : (setting : Setting) (m : Machine) (number : ℕ) (doing : Doing) (wanted : Wants) → list_all (is_ready_client setting.terms) m.clients ≡ true → IsDoing setting m number doing wanted → is_ready setting.terms doing ≡ true
 doing_ready setting m number doing wanted all is =
-    let parts = and_parts (option_map_or is_ready is.client.now true) (option_map_or has_calls is.client.next true) (at_client is_ready_client m.clients number is.client all is.here) in
+    let parts = and_parts (option_map_or (is_ready setting.terms) is.client.now true) (option_map_or has_calls is.client.next true) (at_client (is_ready_client setting.terms) m.clients number is.client all is.here) in
     does_ready setting m.event m.tick is.client.now is.client.next doing is.does parts.0 parts.1
 
 -- without a slot it had no connection
-pub waiting_none : (doing : Doing) → is_ready doing ≡ true → is_waiting doing.talk.phase ≡ true → held_in doing.steps ≡ []
-waiting_none doing ready waits =
-    let one = and_parts (implies (is_unbegun doing.talk.phase) (not (length doing.talk.left == 0))) (implies (is_waiting doing.talk.phase) (length (held_in doing.steps) == 0) && records_rightly doing.talk.phase) ready in
-    let two = and_parts (implies (is_waiting doing.talk.phase) (length (held_in doing.steps) == 0)) (records_rightly doing.talk.phase) one.1 in
+pub waiting_none : (terms : Terms) (doing : Doing) → is_ready terms doing ≡ true → is_waiting doing.talk.phase ≡ true → held_in doing.steps ≡ []
+waiting_none terms doing ready waits =
+    let one = and_parts (implies (is_unbegun doing.talk.phase) (not (length doing.talk.left == 0))) (implies (is_waiting doing.talk.phase) (length (held_in doing.steps) == 0) && records_rightly terms doing.talk doing.talk.phase) ready in
+    let two = and_parts (implies (is_waiting doing.talk.phase) (length (held_in doing.steps) == 0)) (records_rightly terms doing.talk doing.talk.phase) one.1 in
     nil_from_length (held_in doing.steps) (eq_from (length (held_in doing.steps)) 0 (implied (is_waiting doing.talk.phase) (length (held_in doing.steps) == 0) waits two.0))
 
 -- the one in course, if one is, had none
@@ -198,10 +199,10 @@ doing_strange t zero client connection link owned is none there = absurd (let ne
 doing_strange t (suc index) client connection link owned is none there = strange_at t index client connection link owned is none there
 
 -- of the request that wants a slot
-pub slot_strange : (t : Traced) (m : Machine) (number : ℕ) (doing : Doing) (connection : ℕ) (link : Link) → m.clients ≡ t.machine.clients → m.links ≡ t.machine.links → list_all is_ready_client m.clients ≡ true
+pub slot_strange : (t : Traced) (m : Machine) (number : ℕ) (doing : Doing) (connection : ℕ) (link : Link) → m.clients ≡ t.machine.clients → m.links ≡ t.machine.links → list_all (is_ready_client t.setting.terms) m.clients ≡ true
     → owned_rightly (courses_of t) 1 t.machine.links ≡ true → IsDoing t.setting m number doing wants.Slot → link_at m.links connection ≡ Some link → is_strange (owner_at m number) link ≡ true
 slot_strange t m number doing connection link clients links ready owned is there =
-    let none : held_in doing.steps ≡ [] = waiting_none doing (doing_ready t.setting m number doing wants.Slot ready is) (slot_waits t.setting.terms doing.talk doing.talk.phase m.tick is.wants) in
+    let none : held_in doing.steps ≡ [] = waiting_none t.setting.terms doing (doing_ready t.setting m number doing wants.Slot ready is) (slot_waits t.setting.terms doing.talk doing.talk.phase m.tick is.wants) in
     let mine : owner_at m number ≡ record { client = number; place = length is.client.past } = ap (λ (found : Option Client). record { client = number; place = option_map_or (λ (one : Client). length one.past) found 0 }) is.here in
     subst (λ (owner : Owner). is_strange owner link ≡ true) (sym mine)
     (doing_strange t number is.client connection link owned (subst (λ (all : List Client). client_at all number ≡ Some is.client) clients is.here)

@@ -1,12 +1,14 @@
 -- What of the invariant is kept: it holds of the start, and of the state behind each event if the whole invariant held before.
-use Rattle.std.specs.Prelude.{Bool, IsTrue, List}
+use Rattle.std.specs.Prelude.{◌≡◌, Bool, IsTrue, List}
 use Rattle.svc_values.specs.declared.draw.Draw.{Draw}
 use Rattle.server_model.specs.Seen.{Seen}
 use Rattle.outage_schedule.specs.declared.document.Document.{Document}
 use Rattle.outage_schedule.specs.declared.event.Event.{Event}
 use Rattle.outage_schedule.specs.declared.note.Note.{Note}
 use Rattle.outage_schedule.specs.declared.item.Served.{Served}
+use Rattle.world_model.specs.Settings.{setting_of}
 use Rattle.world_model.specs.Traced.{Traced}
+use Rattle.world_model.specs.Ready.{all_have_calls}
 use Rattle.world_model.specs.Basic.{Basic}
 use Rattle.world_model.specs.Wire.{Wire}
 use Rattle.world_model.specs.Invariant.{Invariant}
@@ -18,6 +20,13 @@ pub record IsKept (test : Traced → Bool) : Type 0 where
   pub at_start : (document : Document) → IsTrue (test (traced_start document))
   pub at_event : (granted : Draw → Bool) (before after : Seen) (old new : Traced) (event : Event) (note : Note) (items left : List Served)
       → OneEvent before old event note items left after new → Invariant granted old → IsTrue (test new)
+
+-- a test of the state, in runs of documents whose requests each have a call
+pub record IsKeptOfCalls (test : Traced → Bool) : Type 0 where
+  pub at_start : (document : Document) → IsTrue (all_have_calls document) → IsTrue (test (traced_start document))
+  pub at_event : (document : Document) → IsTrue (all_have_calls document)
+      → (granted : Draw → Bool) (before after : Seen) (old new : Traced) (event : Event) (note : Note) (items left : List Served)
+      → old.setting ≡ setting_of document → OneEvent before old event note items left after new → Invariant granted old → IsTrue (test new)
 
 -- the first record as a whole
 abbrev pub BasicBegins : Type 0

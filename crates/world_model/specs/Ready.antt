@@ -1,11 +1,16 @@
 -- What a request in course is ready for: what it says next fits the grammar of its connection.
-use Rattle.std.specs.Prelude.{◌==◌, ◌&&◌, Bool, true, false, not, List, length, None, is_none}
+use Rattle.std.specs.Prelude.{◌==◌, ◌&&◌, Bool, true, false, not, List, [], ◌∷◌, length, None, is_none}
 use Rattle.std.specs.List.{list_all}
 use Rattle.std.specs.Option.{option_map_or}
+use Rattle.svc_values.specs.declared.answer.Answer.TheVariants as answer
+use Rattle.request_bounds.specs.declared.rule.After.{After}
+use Rattle.request_bounds.specs.declared.rule.After.TheVariants as after
 use Rattle.call_recorder.specs.declared.recorded.Recorded.{Recorded}
 use Rattle.outage_schedule.specs.declared.document.Request.{Request}
+use Rattle.outage_schedule.specs.declared.document.Document.{Document}
 use Rattle.client_model.specs.declared.track.Track.{Track}
-use Rattle.client_model.specs.Terms.{Phase, Unbegun, Queued, Seeking, Greeting, Replaying}
+use Rattle.client_model.specs.Terms.{Terms, Talk, Phase, Unbegun, Queued, Seeking, Greeting, Running, Replaying}
+use Rattle.client_model.specs.Talk.{next_call}
 use Rattle.client_model.specs.Laws.{track_of}
 use Rattle.world_model.specs.Clients.{Doing, Client}
 use Rattle.world_model.specs.Words.{held_in}
@@ -15,6 +20,12 @@ use Rattle.world_model.specs.Wire.{is_alter}
 
 abbrev pub has_calls : Request → Bool
 has_calls request = not (length request.calls == 0)
+
+-- each request of the document has a call
+abbrev pub all_have_calls : Document → Bool
+all_have_calls document = list_all (λ client. list_all has_calls client.requests) document.clients
+
+-- PHASES ------------------------------------------------------------------------------------------
 
 -- it has no slot
 abbrev pub is_waiting : Phase → Bool
@@ -30,26 +41,48 @@ is_unbegun (Seeking None) = true
 is_unbegun (Greeting None) = true
 is_unbegun _ = false
 
--- no call that alters the service is among those that are repeated
+-- WHAT IS REPEATED --------------------------------------------------------------------------------
+
+-- no call that alters the service is among these
 abbrev pub alters_none : List Recorded → Bool
 alters_none calls = list_all (λ one. not (is_alter one.call)) calls
 
-abbrev pub is_repeatable : Track → Bool
-is_repeatable track = implies (is_none track.why) (alters_none track.recorder.calls)
+abbrev pub is_recording : After → Bool
+is_recording after.Record = true
+is_recording _ = false
 
-abbrev pub records_rightly : Phase → Bool
-records_rightly (Replaying state) = alters_none state.track.recorder.calls
-records_rightly phase = option_map_or is_repeatable (track_of phase) true
+-- a call that was answered Committed is not recorded
+abbrev pub forgets_commits : Terms → Bool
+forgets_commits terms = not (is_recording (terms.rules.reply (answer.Committed ∷ [])))
+
+abbrev pub repeats_rightly : Terms → Track → Bool
+repeats_rightly terms track = alters_none track.recorder.calls && forgets_commits terms
+
+-- where no reason stands against a replay
+abbrev pub is_repeatable : Terms → Track → Bool
+is_repeatable terms track = implies (is_none track.why) (repeats_rightly terms track)
+
+-- the call that was sent does not alter the service
+abbrev pub alters_nothing : Talk → Bool
+alters_nothing talk = option_map_or (λ call. not (is_alter call)) (next_call talk) true
+
+abbrev pub records_rightly : Terms → Talk → Phase → Bool
+records_rightly terms talk (Replaying state) = repeats_rightly terms state.track
+records_rightly terms talk (Running state) = is_repeatable terms state.track && implies (is_none state.track.why) (alters_nothing talk)
+records_rightly terms talk phase = option_map_or (is_repeatable terms) (track_of phase) true
+
+-- REQUESTS ----------------------------------------------------------------------------------------
 
 -- A request that sent no Begin has a call to send, and one without a slot had no connection so far. Where no reason stands against a
 -- replay, and in one, no recorded call alters the service.
-abbrev pub is_ready : Doing → Bool
-is_ready doing =
+abbrev pub is_ready : Terms → Doing → Bool
+is_ready terms doing =
     implies (is_unbegun doing.talk.phase) (not (length doing.talk.left == 0))
-    && (implies (is_waiting doing.talk.phase) (length (held_in doing.steps) == 0) && records_rightly doing.talk.phase)
+    && (implies (is_waiting doing.talk.phase) (length (held_in doing.steps) == 0) && records_rightly terms doing.talk doing.talk.phase)
 
-abbrev pub is_ready_client : Client → Bool
-is_ready_client client = option_map_or is_ready client.now true && option_map_or has_calls client.next true
+-- the one in course is ready, and the one that is submitted next has a call
+abbrev pub is_ready_client : Terms → Client → Bool
+is_ready_client terms client = option_map_or (is_ready terms) client.now true && option_map_or has_calls client.next true
 
 abbrev pub are_ready : Traced → Bool
-are_ready t = list_all is_ready_client t.machine.clients
+are_ready t = list_all (is_ready_client t.setting.terms) t.machine.clients

@@ -1,7 +1,8 @@
 //! What of the invariant holds of the start and is kept in each event, if the whole invariant held before it. Each law is the
 //! clause of a function with nothing to run.
-ghost use Rattle.world_model.specs.KeptLaws.{IsKept, BasicBegins, BasicIsKept, WireBegins, WireIsKept};
+ghost use Rattle.world_model.specs.KeptLaws.{IsKept, IsKeptOfCalls, BasicBegins, BasicIsKept, WireBegins, WireIsKept};
 ghost use Rattle.world_model.specs.Wire.{sent_fronts, reply_fronts, are_handled, in_grammar, one_out, answered_in_order, up_lives, are_fresh};
+ghost use Rattle.world_model.specs.Ready.{are_ready};
 ghost use Rattle.world_model.specs.Basic.{have_risen, kept_ticks, items_rise, items_differ, is_down, are_ended, sessions_differ, are_made, are_counted, are_named, living_now, commits_counted, lives};
 
 /// The items of a connection are in the order of their events, which are past. An event has one item.
@@ -80,4 +81,10 @@ pub fn frames_keep_to_grammar()
 pub fn wire_is_kept()
     ensures start { WireBegins }
     ensures event { WireIsKept }
+{}
+
+/// In runs of documents whose requests each have a call: a request in course that sent no Begin has a call to send, one without a
+/// slot had no connection, and no call that alters the service is among those that are repeated.
+pub fn requests_stay_ready()
+    ensures { IsKeptOfCalls are_ready }
 {}

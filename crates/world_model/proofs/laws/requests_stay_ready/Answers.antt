@@ -1,0 +1,5 @@
+use Rattle.world_model.proofs.KeptReady.{ready_law}
+use Rattle.world_model.proofs.laws.requests_stay_ready.Goals as goal
+
+pub returns : goal.returns
+returns c = ready_law
