@@ -2,9 +2,13 @@
 #![tactic(auto)]
 
 #[cfg(test)]
+mod adding;
+#[cfg(test)]
 mod disks;
 #[cfg(test)]
 mod images;
+#[cfg(test)]
+mod kinds;
 #[cfg(test)]
 mod opening;
 #[cfg(test)]
