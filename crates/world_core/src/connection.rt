@@ -1,5 +1,5 @@
 //! A connection, with its session.
-ghost use Rattle.std.specs.Prelude.{◌≡◌, ◌⊎◌, List, [], OnOk, IfOk, IfSome, option_and_then};
+ghost use Rattle.std.specs.Prelude.{◌≡◌, ◌⊎◌, List, [], OnOk, IfOk, IfSome, option_and_then, if◌then◌else◌};
 ghost use Rattle.std.specs.Option.{option_or};
 ghost use Rattle.outage_schedule.specs.declared.item.Served.{Served};
 ghost use Rattle.std.specs.List.{list_any, AllByRecursion};
@@ -7,6 +7,7 @@ ghost use Rattle.canon_bytes.specs.UpBytes.{spell_up, FitsUp, IsMadeUp};
 ghost use Rattle.canon_bytes.specs.DownBytes.{IsMadeDown};
 ghost use Rattle.frame_wire.specs.Stream.{with_bytes};
 ghost use Rattle.frame_wire.specs.Steps.{stream, AreFrames};
+ghost use Rattle.pool_core.specs.Slots.{after_gone};
 ghost use Rattle.world_model.specs.Frames.{Sent};
 ghost use Rattle.world_model.specs.Links.{Link, new_link, ends, is_close as is_close_def, is_orphan as is_orphan_def, sends};
 ghost use Rattle.world_model.specs.Serving.{Front, is_last as is_last_def, front_of, after_front};
@@ -16,6 +17,7 @@ ghost use Rattle.world_core.specs.Linked.{up_frames, told_by_frame, IsLink, Give
 
 use frame_wire::{DownFeed, UpFeed, any_cut, cut_leaves_whole_frames, encode_down, encode_up};
 use outage_schedule::Reached;
+use pool_core::Pool;
 use std::alloc::Global;
 use svc_values::{Down, Ltxid, NoMemory, SessionId, Up};
 
@@ -192,6 +194,15 @@ impl Connection {
         ensures { (link : Link) → IsLink self.old link → IsLink self.new (reaped_link link) }
     {
         self.is_living = false;
+    }
+
+    /// Leaves the pool, where it is idle under this number, if it is open.
+    pub(crate) fn leave(&self, number: u64, pool: &mut Pool)
+        ensures { (link : Link) → IsLink self.now link → pool.new ≡ (if link.is_open then after_gone pool.old number else pool.old) }
+    {
+        if self.ended.is_none() {
+            pool.gone(number);
+        }
     }
 
     /// The server falls: the connection and its session end, and of what is on its way a reply that

@@ -5,6 +5,7 @@ ghost use Rattle.std.specs.List.{AllByRecursion};
 ghost use Rattle.canon_bytes.specs.UpBytes.{IsMadeUp};
 ghost use Rattle.canon_bytes.specs.DownBytes.{IsMadeDown};
 ghost use Rattle.outage_schedule.specs.declared.item.Served.{Served};
+ghost use Rattle.pool_core.specs.Slots.{after_gone};
 ghost use Rattle.world_model.specs.Frames.{Sent};
 ghost use Rattle.world_model.specs.Links.{Link, new_link, link_at, with_link, changed, ends, sends, open_from};
 ghost use Rattle.world_model.specs.Serving.{Front, is_last as is_last_def, front_at, after_front};
@@ -14,6 +15,7 @@ ghost use Rattle.world_core.specs.Linked.{up_frames, Stand, connection_at, MaySe
 
 use crate::connection::Connection;
 use outage_schedule::Reached;
+use pool_core::Pool;
 use std::alloc::Global;
 use svc_values::{Down, NoMemory, SessionId, Up};
 
@@ -58,7 +60,8 @@ impl Connections {
 
     /// Opens one, and gives its number.
     pub fn add(&mut self) -> Result<u64, NoMemory>
-        ensures { IfOk result (λ number. (links : List Link) → Stand self.old links → (number ≡ length links + 1) × Stand self.new (links ++ new_link ∷ [])) }
+        ensures number { IfOk result (λ number. number ≡ length self.old.all.items + 1) }
+        ensures added { IfOk result (λ number. (links : List Link) → Stand self.old links → (number ≡ length links + 1) × Stand self.new (links ++ new_link ∷ [])) }
     {
         self.all.push(Connection::new(self.alloc))?;
         Ok(self.all.len() as u64)
@@ -160,6 +163,16 @@ impl Connections {
     {
         for connection in self.all.iter_mut() {
             connection.fall(event);
+        }
+    }
+
+    /// Those that are open leave the pool, if they are idle. It costs their number times that of the
+    /// idle ones, and takes no memory.
+    pub fn leave(&self, pool: &mut Pool)
+        ensures { (links : List Link) → Stand self.now links → pool.new ≡ fold after_gone pool.old (open_from 1 links) }
+    {
+        for (before, connection) in self.all.iter().enumerate() {
+            connection.leave(before as u64 + 1, pool);
         }
     }
 }

@@ -3,6 +3,8 @@
 
 mod connection;
 mod connections;
+mod traffic;
 
 pub use connection::Connection;
 pub use connections::Connections;
+pub use traffic::Traffic;

@@ -1,0 +1,52 @@
+-- How the clock, the connections and the pool of a run stand for those of the machine.
+use Rattle.std.specs.Prelude.{◌≡◌, ◌≤◌, ◌<◌, ℕ, Bool, true, false, List, [], ◌∷◌, length, Option, Some, None}
+use Rattle.svc_values.specs.declared.frame.Up.{Up}
+use Rattle.svc_values.specs.declared.frame.Up.TheVariants as up
+use Rattle.pool_core.specs.Slots.{Slots, is_among}
+use Rattle.client_model.specs.declared.act.Hold.{Hold}
+use Rattle.client_model.specs.declared.act.Hold.TheVariants.{GiveBack, Drop}
+use Rattle.svc_values.specs.declared.frame.Down.{Down}
+use Rattle.client_model.specs.declared.input.Input.TheVariants.{Took}
+use Rattle.world_model.specs.Frames.{Reply}
+use Rattle.world_model.specs.Links.{Link, with_link, takes}
+use Rattle.world_model.specs.Machines.{Machine}
+use Rattle.world_model.specs.Serving.{Front, front_at}
+use Rattle.world_core.specs.declared.traffic.Traffic.{Traffic}
+use Rattle.world_core.specs.Linked.{Stand}
+
+pub record IsUnderway (held : Traffic) (m : Machine) : Type 0 where
+  pub event : m.event ≡ held.event
+  pub tick : m.tick ≡ held.tick
+  pub links : Stand held.connections m.links
+  pub pool : m.pool ≡ held.pool
+  -- the pool knows no connection that was not opened
+  pub opened : m.pool.opened ≤ length m.links
+
+-- the machine goes on, and this stands for its next state
+abbrev pub Leads : Option Machine → Traffic → Type 0
+Leads next after = (m : Machine) × ((next ≡ Some m) × IsUnderway after m)
+
+-- the frame in front was taken off
+abbrev pub FrontOf : Machine → ℕ → Option Front → Option Up → Traffic → Type 0
+FrontOf m number None frame after = (frame ≡ None) × IsUnderway after m
+FrontOf m number (Some front) frame after = (frame ≡ Some front.first.frame) × IsUnderway after (record m { links = with_link m.links number (record front.link { up = front.later }) })
+
+abbrev pub GivesFrontOf : Machine → ℕ → Option Up → Traffic → Type 0
+GivesFrontOf m number frame after = FrontOf m number (front_at m.links number) frame after
+
+-- the reply in front was taken
+abbrev pub GivesReplyOf : Machine → ℕ → Link → List Reply → Option Down → Traffic → Type 0
+GivesReplyOf m number link [] frame after = (frame ≡ None) × IsUnderway after m
+GivesReplyOf m number link (reply ∷ left) frame after =
+    (frame ≡ Some reply.frame) × IsUnderway after (record m { links = with_link m.links number (takes (Took reply.frame link.is_open) reply left link) })
+
+-- a slot is held where one comes back, and a connection that comes back was opened and is not idle
+abbrev pub MayRelease : Slots → ℕ → Bool → Hold → Type 0
+MayRelease pool number holds_slot GiveBack = (0 < pool.lent) × (number ≤ pool.opened) × (is_among number pool.idle ≡ false)
+MayRelease pool number true Drop = 0 < pool.lent
+MayRelease pool number _ _ = Unit {0}
+
+-- a Close is to be sent, or nothing
+abbrev pub closes_with : Bool → List Up
+closes_with true = up.Close ∷ []
+closes_with false = []

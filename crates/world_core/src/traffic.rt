@@ -1,0 +1,195 @@
+//! The clock of a run, its connections and its pool.
+ghost use Rattle.std.specs.Prelude.{◌≡◌, ◌≢◌, ◌+◌, ◌<◌, ◌≤◌, ◌^◌, List, [], ◌∷◌, ◌++◌, map, fold, length, false, Some, OnOk, IfOk, IfSome};
+ghost use Rattle.std.specs.List.{AllByRecursion};
+ghost use Rattle.canon_bytes.specs.UpBytes.{IsMadeUp};
+ghost use Rattle.canon_bytes.specs.DownBytes.{IsMadeDown};
+ghost use Rattle.outage_schedule.specs.declared.item.Served.{Served};
+ghost use Rattle.pool_core.specs.Slots.{unused, take_answer, after_take, give_back_answer, after_gone, after_opened};
+ghost use Rattle.client_model.specs.Released.{released};
+ghost use Rattle.world_model.specs.Frames.{Sent};
+ghost use Rattle.world_model.specs.Links.{Link, new_link, link_at, with_link, changed, ends, sends, open_from};
+ghost use Rattle.world_model.specs.Machines.{Machine};
+ghost use Rattle.world_model.specs.Serving.{Front, is_last as is_last_def, after_front};
+ghost use Rattle.world_model.specs.Acting.{closing};
+ghost use Rattle.world_model.specs.Cutting.{follow_cut, follow_reap};
+ghost use Rattle.world_model.specs.Crashing.{fallen_link};
+ghost use Rattle.world_model.specs.Outside.{ticked};
+ghost use Rattle.world_core.specs.Linked.{up_frames, connection_at, MaySend};
+ghost use Rattle.world_core.specs.Underway.{IsUnderway, Leads, GivesFrontOf, GivesReplyOf, MayRelease, closes_with};
+
+use crate::connections::Connections;
+use client_model::Hold;
+use outage_schedule::Reached;
+use pool_core::{Back, Pool, Take};
+use std::alloc::Global;
+use svc_values::{Down, NoMemory, SessionId, Up};
+
+/// The clock of a run, its connections and its pool: what each event changes beside clients and
+/// service.
+#[derive(Drop)]
+pub struct Traffic {
+    pub(crate) event: u64,
+    pub(crate) tick: u64,
+    pub(crate) connections: Connections,
+    pub(crate) pool: Pool,
+}
+
+impl Traffic {
+    /// Before the first event, with a pool of so many slots. It takes no memory.
+    pub fn new(alloc: Global, slots: u64) -> Traffic
+        requires some { 1 ≤ slots }
+        requires few { slots ≤ 64 }
+        ensures { (m : Machine) → IsUnderway result (record m { event = 0; tick = 0; links = []; pool = unused slots }) }
+    {
+        Traffic {
+            event: 0,
+            tick: 0,
+            connections: Connections::new(alloc),
+            pool: Pool::new(alloc, slots),
+        }
+    }
+
+    /// The next event begins.
+    pub fn begin(&mut self)
+        requires { self.old.event < 2 ^ 48 }
+        ensures { (m : Machine) → IsUnderway self.old m → IsUnderway self.new (record m { event = m.event + 1 }) }
+    {
+        self.event += 1;
+    }
+
+    /// One tick passes.
+    pub fn pass(&mut self)
+        requires { self.old.tick < 2 ^ 48 }
+        ensures { (m : Machine) → IsUnderway self.old m → IsUnderway self.new (ticked m) }
+    {
+        self.tick += 1;
+    }
+
+    /// Cuts a connection, if it is open, and tells how many of the bytes on their way still arrive.
+    /// One that is idle leaves the pool. Linear in the idle connections, and takes no memory.
+    pub fn cut(&mut self, number: u64, up: u64, down: u64) -> Option<Reached>
+        ensures { (m : Machine) → IsUnderway self.old m → Leads (follow_cut m number up down result) self.new }
+    {
+        let reached = self.connections.cut(number, self.event, up, down);
+        if reached.is_some() {
+            self.pool.gone(number);
+        }
+        reached
+    }
+
+    /// Ends the session of an orphan, and tells whether there was one. Takes no memory.
+    pub fn reap(&mut self, number: u64) -> bool
+        ensures { (m : Machine) → IsUnderway self.old m → Leads (follow_reap m number result) self.new }
+    {
+        self.connections.reap(number)
+    }
+
+    /// Opens a connection, and gives its number.
+    pub fn open(&mut self) -> Result<u64, NoMemory>
+        requires { self.old.pool.opened ≤ length self.old.connections.all.items }
+        ensures { IfOk result (λ number. (m : Machine) → IsUnderway self.old m → (number ≡ length m.links + 1) × IsUnderway self.new (record m { links = m.links ++ new_link ∷ []; pool = after_opened m.pool number })) }
+    {
+        let number = self.connections.add()?;
+        self.pool.opened(number);
+        Ok(number)
+    }
+
+    /// Takes off the frame that is served next on a connection, if one may be served. Linear in the
+    /// frame.
+    pub fn first_up(&mut self, number: u64) -> Result<Option<Up>, NoMemory>
+        ensures { IfOk result (λ frame. (m : Machine) → IsUnderway self.old m → GivesFrontOf m number frame self.new) }
+    {
+        self.connections.first_up(number)
+    }
+
+    /// Notes that the frame that was taken off was served by this session, which may end with it, and
+    /// sends the reply, which goes nowhere once the connection has ended. Linear in the reply.
+    pub fn serve(
+        &mut self,
+        number: u64,
+        session: SessionId,
+        is_last: bool,
+        reply: &Option<Down>,
+    ) -> Result<(), NoMemory>
+        requires { IfSome reply.now IsMadeDown }
+        ensures { OnOk result ((m : Machine) (front : Front) (served : Served) → served.session ≡ session → is_last_def served.item ≡ is_last → link_at m.links number ≡ Some (record front.link { up = front.later }) → IsUnderway self.old m → IsUnderway self.new (record m { links = with_link m.links number (after_front front served reply.now) })) }
+    {
+        self.connections.serve(number, session, is_last, reply)
+    }
+
+    /// The event ends a connection, if it is open. One that is idle leaves the pool. Linear in the
+    /// idle connections, and takes no memory.
+    pub fn end(&mut self, number: u64)
+        ensures { (m : Machine) → IsUnderway self.old m → IsUnderway self.new (record m { links = changed (ends m.event) m.links number; pool = after_gone m.pool number }) }
+    {
+        self.connections.end(number, self.event);
+        self.pool.gone(number);
+    }
+
+    /// Takes the reply that stands first on a connection. Linear in the reply.
+    pub fn take(&mut self, number: u64) -> Result<Option<Down>, NoMemory>
+        ensures { IfOk result (λ reply. (m : Machine) (link : Link) → link_at m.links number ≡ Some link → IsUnderway self.old m → GivesReplyOf m number link link.down reply self.new) }
+    {
+        self.connections.take(number)
+    }
+
+    /// Sends frames to the server on a connection that is open. Linear in their bytes.
+    pub fn send(&mut self, number: u64, frames: &[Up]) -> Result<(), NoMemory>
+        requires may { MaySend (connection_at self.old.connections.all.items number) frames.now }
+        requires made { AllByRecursion IsMadeUp frames.now }
+        ensures { OnOk result ((m : Machine) (sent : List Sent) → up_frames sent ≡ frames.now → IsUnderway self.old m → IsUnderway self.new (record m { links = changed (sends m.event sent) m.links number })) }
+    {
+        self.connections.send(number, self.event, frames)
+    }
+
+    /// A client asks the pool for a slot and a connection. Linear in the waiters.
+    pub fn ask_pool(&mut self, client: u64) -> Result<Take, NoMemory>
+        ensures { IfOk result (λ take. (m : Machine) → IsUnderway self.old m → (take ≡ take_answer m.pool client) × IsUnderway self.new (record m { pool = after_take m.pool client })) }
+    {
+        self.pool.take(client)
+    }
+
+    /// The pool gets back what the request of a client lets go. It tells whether the connection is to
+    /// be closed. Linear in the waiters.
+    pub fn release(
+        &mut self,
+        client: u64,
+        number: u64,
+        holds_slot: bool,
+        hold: Hold,
+    ) -> Result<bool, NoMemory>
+        requires { MayRelease self.old.pool number holds_slot hold }
+        ensures { IfOk result (λ closes. (m : Machine) → IsUnderway self.old m → (closes_with closes ≡ closing hold (give_back_answer m.pool number)) × IsUnderway self.new (record m { pool = released m.pool client number holds_slot hold })) }
+    {
+        match hold {
+            Hold::Keep => Ok(false),
+            Hold::GiveBack => Ok(matches!(self.pool.give_back(number)?, Back::Closed)),
+            Hold::Drop => {
+                self.let_go(client, holds_slot);
+                Ok(false)
+            }
+        }
+    }
+
+    /// A request ends whose connection is used no more: its slot is lost, or it leaves the queue.
+    fn let_go(&mut self, client: u64, holds_slot: bool)
+        requires { MayRelease self.old.pool 0 holds_slot Hold.Drop }
+        ensures { (m : Machine) → IsUnderway self.old m → IsUnderway self.new (record m { pool = released m.pool client 0 holds_slot Hold.Drop }) }
+    {
+        if holds_slot {
+            self.pool.lost();
+        } else {
+            self.pool.leave(client);
+        }
+    }
+
+    /// All connections and sessions end, and those that were idle leave the pool. Of what is on its
+    /// way the replies that a cut let arrive are left. It costs the connections times those that are
+    /// idle, and takes no memory.
+    pub fn fall(&mut self)
+        ensures { (m : Machine) → IsUnderway self.old m → IsUnderway self.new (record m { links = map (fallen_link m.event) m.links; pool = fold after_gone m.pool (open_from 1 m.links) }) }
+    {
+        self.connections.leave(&mut self.pool);
+        self.connections.fall(self.event);
+    }
+}
