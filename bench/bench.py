@@ -105,15 +105,19 @@ def write(path, make, sizes):
         out.write(make(*sizes))
 
 
+def written(path, make, sizes):
+    """Makes the document in a process of its own: what a child is charged begins with its parent's memory."""
+    maker = multiprocessing.Process(target=write, args=(path, make, sizes))
+    maker.start()
+    maker.join()
+
+
 def document_case(name, make, sizes_list):
     print(f"{name}")
     for sizes in sizes_list:
         with tempfile.TemporaryDirectory() as folder:
             path = os.path.join(folder, "document.json")
-            # A process of its own makes the document: what a child is charged begins with its parent's memory.
-            maker = multiprocessing.Process(target=write, args=(path, make, sizes))
-            maker.start()
-            maker.join()
+            written(path, make, sizes)
             size = os.path.getsize(path) / MEGABYTE
             seconds, peak = run([program("continuity"), "run"], path)
         print(
