@@ -1,3 +1,4 @@
 pub mod Carrying
 pub mod Linked
 pub mod Underway
+pub mod Making

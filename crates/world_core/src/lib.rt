@@ -3,8 +3,10 @@
 
 mod connection;
 mod connections;
+mod ground;
 mod traffic;
 
 pub use connection::Connection;
 pub use connections::Connections;
+pub use ground::Ground;
 pub use traffic::Traffic;

@@ -52,7 +52,8 @@ impl Traffic {
     /// The next event begins.
     pub fn begin(&mut self)
         requires { self.old.event < 2 ^ 48 }
-        ensures { (m : Machine) → IsUnderway self.old m → IsUnderway self.new (record m { event = m.event + 1 }) }
+        ensures counted { self.new ≡ record self.old { event = self.old.event + 1 } }
+        ensures begun { (m : Machine) → IsUnderway self.old m → IsUnderway self.new (record m { event = m.event + 1 }) }
     {
         self.event += 1;
     }

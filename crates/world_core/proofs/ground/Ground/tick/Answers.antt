@@ -1,0 +1,8 @@
+use Rattle.world_core.proofs.Coupling.{ticks}
+use Rattle.world_core.proofs.ground.Ground.tick.Goals as goal
+
+pub pass-requires : goal.pass-requires
+pass-requires g c = rw c.begin.ensures.counted c.requires.ticks
+
+pub returns : goal.returns
+returns g c = ticks (g.S.Service.sees c.args.self.now.service) c.args.self.now.traffic c.pass.new.self (λ m is. c.pass.ensures _ (c.begin.ensures.begun m is))

@@ -1,0 +1,72 @@
+//! The service of a run, and the traffic to it.
+ghost use Rattle.std.specs.Prelude.{◌≡◌, ◌<◌, ◌^◌, false, []};
+ghost use Rattle.world_core.specs.Making.{Makes};
+
+use crate::traffic::Traffic;
+use outage_schedule::{Event, Note};
+use service_calls::Service;
+
+/// The service of a run, and the traffic to it: what an event finds beside the clients.
+///
+/// Each event gives its note. Whatever was seen of the service, and wherever the machine stood, they
+/// go on together by that event and note (`OneEvent`).
+#[derive(Drop)]
+pub struct Ground<S: Service + Drop> {
+    pub(crate) service: S,
+    pub(crate) traffic: Traffic,
+}
+
+impl<S: Service + Drop> Ground<S> {
+    /// This service with this traffic to it.
+    pub fn new(service: S, traffic: Traffic) -> Ground<S>
+        ensures service { result.service ≡ service }
+        ensures traffic { result.traffic ≡ traffic }
+    {
+        Ground { service, traffic }
+    }
+
+    /// One tick passes.
+    pub fn tick(&mut self) -> Note
+        requires events { self.old.traffic.event < 2 ^ 48 }
+        requires ticks { self.old.traffic.tick < 2 ^ 48 }
+        ensures { Makes (S.sees self.old.service) self.old.traffic (S.sees self.new.service) self.new.traffic Event.Tick result [] }
+    {
+        self.traffic.begin();
+        self.traffic.pass();
+        Note::Tick
+    }
+
+    /// Cuts a connection, if it is open: of the bytes on their way the first `up` still reach the
+    /// server and the first `down` the client.
+    pub fn cut(&mut self, connection: u64, up: u64, down: u64) -> Note
+        requires { self.old.traffic.event < 2 ^ 48 }
+        ensures { Makes (S.sees self.old.service) self.old.traffic (S.sees self.new.service) self.new.traffic (Event.Cut connection up down) result [] }
+    {
+        self.traffic.begin();
+        Note::Cut {
+            connection,
+            reached: self.traffic.cut(connection, up, down),
+        }
+    }
+
+    /// Ends the session of an orphan, if the connection is one. It takes no memory.
+    pub fn reap(&mut self, connection: u64) -> Note
+        requires events { self.old.traffic.event < 2 ^ 48 }
+        requires live { (S.state self.old.service).is_spent ≡ false }
+        requires few { (S.state self.old.service).calls < 2 ^ 48 }
+        ensures { Makes (S.sees self.old.service) self.old.traffic (S.sees self.new.service) self.new.traffic (Event.Reap connection) result [] }
+    {
+        self.traffic.begin();
+        if !self.traffic.reap(connection) {
+            return Note::Reap {
+                connection,
+                reaped: false,
+            };
+        }
+        self.service.reap(connection);
+        Note::Reap {
+            connection,
+            reaped: true,
+        }
+    }
+}
