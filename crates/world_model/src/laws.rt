@@ -3,6 +3,7 @@
 ghost use Rattle.world_model.specs.KeptLaws.{IsKept, IsKeptOfCalls, BasicBegins, BasicIsKept, WireBegins, WireIsKept};
 ghost use Rattle.world_model.specs.Wire.{sent_fronts, reply_fronts, are_handled, in_grammar, one_out, answered_in_order, up_lives, are_fresh};
 ghost use Rattle.world_model.specs.Ready.{are_ready};
+ghost use Rattle.world_model.specs.Hold.{are_opened};
 ghost use Rattle.world_model.specs.Basic.{have_risen, kept_ticks, items_rise, items_differ, is_down, are_ended, sessions_differ, are_made, are_counted, are_named, living_now, commits_counted, lives};
 
 /// The items of a connection are in the order of their events, which are past. An event has one item.
@@ -87,4 +88,9 @@ pub fn wire_is_kept()
 /// slot had no connection, and no call that alters the service is among those that are repeated.
 pub fn requests_stay_ready()
     ensures { IsKeptOfCalls are_ready }
+{}
+
+/// The pool counts the connections that were opened, and drains no more than these.
+pub fn pool_counts_connections()
+    ensures { IsKept are_opened }
 {}
