@@ -1,5 +1,6 @@
 -- A test over the steps of all requests, by clients; and where one client goes on.
-use Rattle.std.proofs.Common.{◌≡◌, refl, sym, ap, ◌∙◌, Bool, true, false, ℕ, suc, zero, ◌+◌, ◌&&◌, List, [], ◌∷◌, ◌++◌, map, Option, Some, None}
+use Rattle.std.proofs.Common.{◌≡◌, ◌≢◌, refl, sym, ap, ◌∙◌, Bool, true, false, ℕ, suc, zero, ◌+◌, ◌&&◌, List, [], ◌∷◌, ◌++◌, map, Option, Some, None}
+use Rattle.std.specs.Prelude.{slice_get, slice_set}
 use Rattle.std.specs.List.{list_all}
 use Rattle.std.specs.Option.{option_map_or}
 use Rattle.std.proofs.lemmas.Bool.{and_parts, and_from}
@@ -96,6 +97,42 @@ pub doing_passes : (over : Past → Bool) (going : Doing → Bool) (clients : Li
     → now_passes going client.now ≡ true
 doing_passes over going clients number client all is =
     (and_parts (list_all over client.past) (now_passes going client.now) (at_client (client_passes over going) clients number client all is)).1
+
+-- BY NUMBER ---------------------------------------------------------------------------------------
+
+pub stepped_client : (setting : Setting) (clients : List Client) (number : ℕ) (client : Client) (doing : Doing) (held : Hold) → client_at clients number ≡ Some client
+    → after_step setting clients number doing held ≡ with_client clients number (after_hold setting number client doing held)
+stepped_client setting clients number client doing held here = ap (λ (found : Option Client). option_map_or (λ one. with_client clients number (after_hold setting number one doing held)) found clients) here
+
+set_own : (clients : List Client) (index : ℕ) (client next : Client) → slice_get clients index ≡ Some client → slice_get (slice_set clients index next) index ≡ Some next
+set_own [] index client next here = absurd (let never : ⊥ = cc in never)
+set_own (first ∷ clients) zero client next here = refl
+set_own (first ∷ clients) (suc index) client next here = set_own clients index client next here
+
+pub client_set : (clients : List Client) (number : ℕ) (client next : Client) → client_at clients number ≡ Some client → client_at (with_client clients number next) number ≡ Some next
+client_set clients zero client next here = absurd (let never : ⊥ = cc in never)
+client_set clients (suc index) client next here = set_own clients index client next here
+
+set_others : (clients : List Client) (index other : ℕ) (next : Client) → other ≢ index → slice_get (slice_set clients index next) other ≡ slice_get clients other
+set_others [] index other next differ = refl
+set_others (first ∷ clients) zero zero next differ = absurd (differ refl)
+set_others (first ∷ clients) zero (suc other) next differ = refl
+set_others (first ∷ clients) (suc index) zero next differ = refl
+set_others (first ∷ clients) (suc index) (suc other) next differ = set_others clients index other next (λ e. differ (ap suc e))
+
+pub client_others : (clients : List Client) (number other : ℕ) (next : Client) → other ≢ number → client_at (with_client clients number next) other ≡ client_at clients other
+client_others clients zero other next differ = refl
+client_others clients (suc index) zero next differ = refl
+client_others clients (suc index) (suc other) next differ = set_others clients index other next (λ e. differ (ap suc e))
+
+set_again : (clients : List Client) (index : ℕ) (one other : Client) → slice_set (slice_set clients index one) index other ≡ slice_set clients index other
+set_again [] index one other = refl
+set_again (first ∷ clients) zero one other = refl
+set_again (first ∷ clients) (suc index) one other = ap (λ rest. first ∷ rest) (set_again clients index one other)
+
+pub client_twice : (clients : List Client) (number : ℕ) (one other : Client) → with_client (with_client clients number one) number other ≡ with_client clients number other
+client_twice clients zero one other = refl
+client_twice clients (suc index) one other = set_again clients index one other
 
 -- THE START ---------------------------------------------------------------------------------------
 

@@ -29,11 +29,11 @@ use Rattle.world_model.specs.Words.{brought, held_in}
 use Rattle.world_model.specs.Parts.{implies}
 use Rattle.world_model.specs.Ready.{has_calls, is_waiting, is_unbegun, records_rightly, is_ready, is_ready_client}
 use Rattle.world_model.proofs.AllLists.{at_all}
-use Rattle.world_model.proofs.AllClients.{at_client, with_client_all}
+use Rattle.world_model.proofs.AllClients.{at_client, with_client_all, stepped_client, client_set, client_twice}
 use Rattle.world_model.proofs.LinkLives.{implied}
 use Rattle.world_model.proofs.Moves.{IsDoing, next_number, Tries, FromQueue, Again, takes_one, Goes, Rests, Waits, Lends, Opens, Fails, Takes, Loses, ServesLast, LastNone, LastStopped, LastServed, Happens, Nothing, IsStep, Serves, Cuts, Reaps, Crashes, OpensUp, StopsOpening, Ticks, RunsOutside, Asks, Drains}
-use Rattle.world_model.proofs.Saying.{has_next, said, said_lent, stays_out}
-use Rattle.world_model.proofs.SentLinks.{slot_waits, set_at, set_twice}
+use Rattle.world_model.proofs.Saying.{has_next, said, said_lent, stays_out, is_hushed}
+use Rattle.world_model.proofs.SentLinks.{slot_waits}
 use Rattle.world_model.proofs.Strangers.{doing_ready, waiting_none}
 use Rattle.world_model.proofs.TalkReady.{AreRight, records_in, talk_ready, records_same, hello_ready, weaker, takes_ready, gone_ready}
 
@@ -165,7 +165,7 @@ module _ (terms : Terms) (right : AreRight terms.rules) where
 
   lent_out : (talk : Talk) (ltxid : Ltxid) (tick : ℕ) → is_waiting (on_hello terms talk None ltxid true tick).0.phase ≡ false
   lent_out talk ltxid tick =
-      let step : Step = on_hello terms talk None ltxid true tick in stays_out (Greeting None) (has_next talk) true step.0.phase step.1.send step.1.hold (said_lent terms talk ltxid tick) refl
+      let step : Step = on_hello terms talk None ltxid true tick in stays_out (Greeting None) (has_next talk) true false step.0.phase step.1.send step.1.hold (said_lent terms talk ltxid tick) refl
 
   opened_whole : (talk : Talk) (phase : Phase) → is_slotless phase ≡ true → implies (is_unbegun phase) (not (length talk.left == 0)) ≡ true → records_in true terms talk phase ≡ true
       → talk_ready true terms (record talk { tries = 0; phase = Greeting (lost_of phase) }) ≡ true
@@ -198,7 +198,7 @@ module _ (terms : Terms) (right : AreRight terms.rules) where
   taken_out : (talk : Talk) (frame : Down) (alive : Bool) (tick : ℕ) → is_waiting talk.phase ≡ false → is_waiting (taken_by terms talk talk.phase frame alive tick).0.phase ≡ false
   taken_out talk frame alive tick out =
       let step : Step = taken_by terms talk talk.phase frame alive tick in
-      stays_out talk.phase (has_next talk) alive step.0.phase step.1.send step.1.hold (said terms talk talk.phase frame alive tick refl) out
+      stays_out talk.phase (has_next talk) alive (is_hushed frame) step.0.phase step.1.send step.1.hold (said terms talk talk.phase frame alive tick refl) out
 
 -- CLIENTS -----------------------------------------------------------------------------------------
 
@@ -213,23 +213,12 @@ module _ (setting : Setting) (right : AreRight setting.terms.rules) (scripts : l
   held_ready number client doing hold.GiveBack here ready = next_calls (script_at setting number) (reports_of (client.past ++ past_of setting.terms doing ∷ [])) (script_calls setting number scripts)
   held_ready number client doing hold.Drop here ready = next_calls (script_at setting number) (reports_of (client.past ++ past_of setting.terms doing ∷ [])) (script_calls setting number scripts)
 
-  step_is : (clients : List Client) (number : ℕ) (client : Client) (doing : Doing) (held : Hold) → client_at clients number ≡ Some client → after_step setting clients number doing held ≡ with_client clients number (after_hold setting number client doing held)
-  step_is clients number client doing held here = ap (λ (found : Option Client). option_map_or (λ one. with_client clients number (after_hold setting number one doing held)) found clients) here
-
   step_ready : (clients : List Client) (number : ℕ) (client : Client) (doing : Doing) (held : Hold) → client_at clients number ≡ Some client → all_ready clients ≡ true → (held ≡ hold.Keep → is_ready setting.terms doing ≡ true)
       → all_ready (after_step setting clients number doing held) ≡ true
   step_ready clients number client doing held here all ready =
-      subst (λ (now : List Client). all_ready now ≡ true) (sym (step_is clients number client doing held here))
+      subst (λ (now : List Client). all_ready now ≡ true) (sym (stepped_client setting clients number client doing held here))
       (with_client_all (is_ready_client setting.terms) clients number (after_hold setting number client doing held) all
       (held_ready number client doing held (at_client (is_ready_client setting.terms) clients number client all here) ready))
-
-  client_set : (clients : List Client) (number : ℕ) (client next : Client) → client_at clients number ≡ Some client → client_at (with_client clients number next) number ≡ Some next
-  client_set clients zero client next here = absurd (let never : ⊥ = cc in never)
-  client_set clients (suc index) client next here = set_at clients index client next here
-
-  client_twice : (clients : List Client) (number : ℕ) (one other : Client) → with_client (with_client clients number one) number other ≡ with_client clients number other
-  client_twice clients zero one other = refl
-  client_twice clients (suc index) one other = set_twice clients index one other
 
   -- the connection of the request is gone in the same event
   lost_ready : (a : Machine) (clients : List Client) (number : ℕ) (ended : Option ℕ) (client : Client) (doing : Doing) (held : Hold) → a.clients ≡ after_step setting clients number doing held → client_at clients number ≡ Some client
@@ -237,7 +226,7 @@ module _ (setting : Setting) (right : AreRight setting.terms.rules) (scripts : l
   lost_ready a clients number ended client doing held now here all weak out = by held now
     where
       set : (held : Hold) → a.clients ≡ after_step setting clients number doing held → a.clients ≡ with_client clients number (after_hold setting number client doing held)
-      set held now = now ∙ step_is clients number client doing held here
+      set held now = now ∙ stepped_client setting clients number client doing held here
 
       found : (held : Hold) → a.clients ≡ after_step setting clients number doing held → client_at a.clients number ≡ Some (after_hold setting number client doing held)
       found held now = ap (λ (all : List Client). client_at all number) (set held now) ∙ client_set clients number client (after_hold setting number client doing held) here
@@ -263,7 +252,7 @@ module _ (setting : Setting) (right : AreRight setting.terms.rules) (scripts : l
           let next : Client = record client { now = Some gone } in
           let ready : is_ready_client setting.terms next ≡ true = held_ready number client gone hold.Keep (at_client (is_ready_client setting.terms) clients number client all here) (λ keep. gone_is) in
           let last : after_step setting a.clients number gone hold.Keep ≡ with_client clients number next =
-          step_is a.clients number one gone hold.Keep (found hold.Keep now) ∙ (ap (λ (c : List Client). with_client c number next) (set hold.Keep now) ∙ client_twice clients number one next) in
+          stepped_client setting a.clients number one gone hold.Keep (found hold.Keep now) ∙ (ap (λ (c : List Client). with_client c number next) (set hold.Keep now) ∙ client_twice clients number one next) in
           subst (λ (lost : Option Doing). all_ready (lost_at_once setting a number ended lost).clients ≡ true) (sym (doing_now hold.Keep now))
           (subst (λ (c : List Client). all_ready c ≡ true) (sym last) (with_client_all (is_ready_client setting.terms) clients number next all ready))
 

@@ -27,7 +27,7 @@ use Rattle.world_model.proofs.SentLinks.{differ, passes_at, IsHeld}
 -- BY NUMBER ---------------------------------------------------------------------------------------
 
 -- what holds of each connection with its number
-numbered_at : (test : Numbered → Bool) (start : ℕ) (links : List Link) (index number : ℕ) (link : Link) → number ≡ start + index → list_all test (numbered_from start links) ≡ true → slice_get links index ≡ Some link
+pub numbered_at : (test : Numbered → Bool) (start : ℕ) (links : List Link) (index number : ℕ) (link : Link) → number ≡ start + index → list_all test (numbered_from start links) ≡ true → slice_get links index ≡ Some link
     → test (record { number = number; link = link }) ≡ true
 numbered_at test start [] index number link same all is = absurd (let none : ⊥ = cc in none)
 numbered_at test start (first ∷ links) zero number link same all is =

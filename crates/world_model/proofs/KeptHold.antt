@@ -1,8 +1,19 @@
 -- Of Hold, test by test, at the start and behind each event.
-use Rattle.std.proofs.Common.{refl}
+use Rattle.std.proofs.Common.{◌≡◌, refl, true, ℕ, ◌+◌, List, [], ◌∷◌, map}
+use Rattle.std.specs.List.{list_all}
+use Rattle.outage_schedule.specs.declared.document.Client.{Client as Scripted}
+use Rattle.outage_schedule.specs.declared.document.Document.{Document}
+use Rattle.world_model.specs.Settings.{Setting, setting_of}
+use Rattle.world_model.specs.Clients.{resting}
+use Rattle.world_model.specs.Traced.{courses_of_clients}
+use Rattle.world_model.specs.Reached.{traced_start}
 use Rattle.world_model.specs.KeptLaws.{IsKept}
-use Rattle.world_model.specs.Hold.{are_opened}
+use Rattle.world_model.specs.Hold.{is_held, are_held, are_opened}
 use Rattle.world_model.proofs.Happened.{Followed, follow_happens, at_event}
+use Rattle.world_model.proofs.Courses.{all_courses_by}
+use Rattle.world_model.proofs.Held.{held_now}
+use Rattle.world_model.proofs.HeldAll.{held_after}
+use Rattle.world_model.proofs.KeptWire.{all_orderly}
 use Rattle.world_model.proofs.PoolOpened.{happens_opened, opened_kept}
 
 pub opened_law : IsKept are_opened
@@ -11,4 +22,19 @@ opened_law = record {
   at_event = λ granted before after old new event note items left one inv.
       let by : Followed old.setting old.machine event note items left new.machine = follow_happens old.setting old.machine event note items left new.machine one.follows in
       opened_kept (at_event old.machine) new.machine (happens_opened old.setting (at_event old.machine) items left by.kind new.machine by.happens) inv.hold.opened;
+}
+
+-- without a client none holds a connection
+none_held : (document : Document) (setting : Setting) (number : ℕ) (clients : List Scripted) → list_all (is_held (traced_start document)) (courses_of_clients setting number (map (λ client. resting client.requests []) clients)) ≡ true
+none_held document setting number [] = refl
+none_held document setting number (client ∷ clients) = none_held document setting (number + 1) clients
+
+pub held_law : IsKept are_held
+held_law = record {
+  at_start = λ document. none_held document (setting_of document) 1 document.clients;
+  at_event = λ granted before after old new event note items left one inv.
+      let by : Followed old.setting old.machine event note items left new.machine = follow_happens old.setting old.machine event note items left new.machine one.follows in
+      all_courses_by (is_held new) new (λ client place past. refl)
+      (λ number client doing here now.
+      held_after old inv.hold.had inv.hold.held (held_now granted old inv).idle (all_orderly old.machine.links inv.wire.sent inv.wire.replies inv.wire.handled inv.basic.life) inv.basic.ended items left by.kind new.machine by.happens number client doing here now);
 }

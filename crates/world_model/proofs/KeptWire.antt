@@ -40,7 +40,7 @@ replies_law = record {
 }
 
 -- what is known of each connection
-all_orderly : (links : List Link) → list_all is_sent_front links ≡ true → list_all is_reply_front links ≡ true → list_all is_all_handled links ≡ true → list_all lives_rightly links ≡ true → list_all is_orderly links ≡ true
+pub all_orderly : (links : List Link) → list_all is_sent_front links ≡ true → list_all is_reply_front links ≡ true → list_all is_all_handled links ≡ true → list_all lives_rightly links ≡ true → list_all is_orderly links ≡ true
 all_orderly [] sent replies handled lives = refl
 all_orderly (link ∷ links) sent replies handled lives =
     let one = and_parts (is_sent_front link) (list_all is_sent_front links) sent in

@@ -41,7 +41,7 @@ use Rattle.world_model.proofs.Fronts.{same_frames}
 use Rattle.world_model.proofs.Ends.{sends_alike, handled_alike, cut_case, fallen_case}
 use Rattle.world_model.proofs.LinkLives.{no_test}
 use Rattle.world_model.proofs.NamesKept.{is_wired}
-use Rattle.world_model.proofs.Saying.{Spoken, Quiet, Fails, Ends, Asks, Calls, Marks, begun_in, opening, has_next, said, said_lent}
+use Rattle.world_model.proofs.Saying.{Spoken, Quiet, Fails, Ends, Asks, Calls, Marks, begun_in, opening, has_next, said, said_lent, is_hushed}
 use Rattle.world_model.proofs.AllLinks.{KeepsServed}
 use Rattle.world_model.proofs.SentLinks.{spoken_by, awaits, KeepsSent}
 
@@ -54,17 +54,17 @@ few_opening owner call true settings marked kept one = refl
 few_opening owner call false settings marked kept one = refl
 
 -- a client says at most one of them
-pub few_said : (owner : Owner) (call : ℕ) (before : Phase) (left alive : Bool) (phase : Phase) (send : List Up) (held : Hold) (how : Back) → Spoken before left alive phase send held
+pub few_said : (owner : Owner) (call : ℕ) (before : Phase) (left alive hushed : Bool) (phase : Phase) (send : List Up) (held : Hold) (how : Back) → Spoken before left alive hushed phase send held
     → nat_le (count_reps (map (sent_by owner call) (send ++ closing held how))) 1 ≡ true
-few_said owner call before left alive phase _ _ how (Quiet _ stays) = refl
-few_said owner call before left true _ _ _ how Fails = refl
-few_said owner call before left false _ _ _ how Fails = refl
-few_said owner call before left true _ _ _ back.Closed (Ends may) = refl
-few_said owner call before left true _ _ _ back.Idle (Ends may) = refl
-few_said owner call before left false _ _ _ how (Ends may) = refl
-few_said owner call before left alive _ _ _ how (Asks opens may asking) = refl
-few_said owner call before left alive _ _ _ how (Calls opens settings one state) = few_opening owner call (begun_in before) settings false [] one
-few_said owner call before left alive _ _ _ how (Marks opens may settings one state is plain) = few_opening owner call (begun_in before) settings true one.draws one.call
+few_said owner call before left alive hushed phase _ _ how (Quiet _ hush stays) = refl
+few_said owner call before left true hushed _ _ _ how Fails = refl
+few_said owner call before left false hushed _ _ _ how Fails = refl
+few_said owner call before left true hushed _ _ _ back.Closed (Ends may) = refl
+few_said owner call before left true hushed _ _ _ back.Idle (Ends may) = refl
+few_said owner call before left false hushed _ _ _ how (Ends may) = refl
+few_said owner call before left alive hushed _ _ _ how (Asks opens may asking) = refl
+few_said owner call before left alive hushed _ _ _ how (Calls opens settings one state) = few_opening owner call (begun_in before) settings false [] one
+few_said owner call before left alive hushed _ _ _ how (Marks opens may settings one state is plain) = few_opening owner call (begun_in before) settings true one.draws one.call
 
 pub reps_more : (sent frames : List Sent) → count_reps (sent ++ frames) ≡ count_reps sent + count_reps frames
 reps_more sent frames = sum_by-append (λ (one : Sent). cond (is_rep one) 1 0) sent frames
@@ -112,11 +112,11 @@ out_keeps setting m = record {
   at_lends = λ owner doing ltxid pool number link ready waits strange idle old here.
       let step : Step = on_hello setting.terms doing.talk None ltxid true m.tick in
       sends_out m.event (spoken_by owner pool number step) link (idle_none link idle)
-      (few_said owner (call_in step.0.phase) (Greeting None) (has_next doing.talk) true step.0.phase step.1.send step.1.hold (give_back_answer pool number) (said_lent setting.terms doing.talk ltxid m.tick));
+      (few_said owner (call_in step.0.phase) (Greeting None) (has_next doing.talk) true false step.0.phase step.1.send step.1.hold (give_back_answer pool number) (said_lent setting.terms doing.talk ltxid m.tick));
   at_takes = λ owner doing pool number link reply left ready out down old here.
       let step : Step = taken_by setting.terms doing.talk doing.talk.phase reply.frame link.is_open m.tick in
       sends_out m.event (spoken_by owner pool number step) (takes (Took reply.frame link.is_open) reply left link) (taken_none link reply (awaits_out owner doing.talk.phase link out))
-      (few_said owner (call_in step.0.phase) doing.talk.phase (has_next doing.talk) link.is_open step.0.phase step.1.send step.1.hold (give_back_answer pool number) (said setting.terms doing.talk doing.talk.phase reply.frame link.is_open m.tick refl));
+      (few_said owner (call_in step.0.phase) doing.talk.phase (has_next doing.talk) link.is_open (is_hushed reply.frame) step.0.phase step.1.send step.1.hold (give_back_answer pool number) (said setting.terms doing.talk doing.talk.phase reply.frame link.is_open m.tick refl));
   at_drains = λ link idle old here. sends_out m.event (closed_by_drain ∷ []) link (idle_none link idle) refl;
   served = out_served m;
 }

@@ -32,7 +32,7 @@ use Rattle.world_model.proofs.FrontLists.{Begins, begins_behind, whole_begins, f
 use Rattle.world_model.proofs.Ends.{sends_alike, handled_alike, cut_case, fallen_case}
 use Rattle.world_model.proofs.LinkLives.{no_test, implied}
 use Rattle.world_model.proofs.LinkEnds.{ends_at}
-use Rattle.world_model.proofs.Saying.{has_next, said, dead_silent}
+use Rattle.world_model.proofs.Saying.{has_next, said, dead_silent, is_hushed}
 use Rattle.world_model.proofs.AllLinks.{IsFront, KeepsServed}
 use Rattle.world_model.proofs.SentLinks.{spoken_by, sends_none, KeepsSent}
 
@@ -44,7 +44,7 @@ pub open_or_silent : (terms : Terms) (owner : Owner) (talk : Talk) (pool : Slots
 open_or_silent terms owner talk pool number frame true now = inl refl
 open_or_silent terms owner talk pool number frame false now =
     let step : Step = taken_by terms talk talk.phase frame false now in
-    inr (ap (map (sent_by owner (call_in step.0.phase))) (dead_silent talk.phase (has_next talk) false step.0.phase step.1.send step.1.hold (give_back_answer pool number) (said terms talk talk.phase frame false now refl) refl))
+    inr (ap (map (sent_by owner (call_in step.0.phase))) (dead_silent talk.phase (has_next talk) false (is_hushed frame) step.0.phase step.1.send step.1.hold (give_back_answer pool number) (said terms talk talk.phase frame false now refl) refl))
 
 pub idle_open : (link : Link) → is_idle link ≡ true → link.is_open ≡ true
 idle_open link idle = (and_parts link.is_open _ idle).0

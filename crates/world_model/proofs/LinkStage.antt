@@ -34,7 +34,7 @@ use Rattle.world_model.proofs.SameSelf.{owner_self}
 use Rattle.world_model.proofs.Fronts.{moved}
 use Rattle.world_model.proofs.Ends.{sends_alike, handled_alike, cut_case, fallen_case}
 use Rattle.world_model.proofs.LinkLives.{no_test, implied}
-use Rattle.world_model.proofs.Saying.{has_next, said, repeats_in}
+use Rattle.world_model.proofs.Saying.{has_next, said, repeats_in, is_hushed}
 use Rattle.world_model.proofs.AllLinks.{KeepsServed}
 use Rattle.world_model.proofs.SentLinks.{spoken_by, awaits, is_strange, KeepsSent}
 use Rattle.world_model.proofs.Strangers.{same_owner_is, owned_is}
@@ -160,7 +160,7 @@ takes_right setting m owner doing pool number link reply left ready out here =
     ∙ (ap (λ (one : Option Owner). behind found.last.frame one) (owned_is owner found.last two.0) ∙ awaited_leads owner phase found.last two.1) in
     let step : Step = taken_by setting.terms doing.talk phase reply.frame link.is_open m.tick in
     sends_right m.event (spoken_by owner pool number step) (takes (Took reply.frame link.is_open) reply left link) (stage_in owner phase) stage
-    (said_right owner (call_in step.0.phase) phase (has_next doing.talk) link.is_open step.0.phase step.1.send step.1.hold (give_back_answer pool number) (said setting.terms doing.talk phase reply.frame link.is_open m.tick refl)
+    (said_right owner (call_in step.0.phase) phase (has_next doing.talk) link.is_open (is_hushed reply.frame) step.0.phase step.1.send step.1.hold (give_back_answer pool number) (said setting.terms doing.talk phase reply.frame link.is_open m.tick refl)
     (awaited_on phase found.last two.1) (ready_left setting.terms doing ready) (ready_records setting.terms doing ready))
 
 -- BY EVENTS ---------------------------------------------------------------------------------------

@@ -1,10 +1,10 @@
 -- The pool counts the connections that were opened, and drains no more than these.
-use Rattle.std.proofs.Common.{◌≡◌, refl, sym, ap, subst, ◌∙◌, Bool, true, false, ℕ, suc, zero, ◌+◌, ◌≤◌, ◌&&◌, length, length-append, List, [], ◌∷◌, ◌++◌, map, fold, Option, Some, None, if◌then◌else◌, arith, le_refl}
+use Rattle.std.proofs.Common.{◌≡◌, refl, ap, ◌∙◌, Bool, true, false, ℕ, suc, zero, ◌+◌, ◌≤◌, ◌&&◌, length, length-append, List, [], ◌∷◌, ◌++◌, fold, Option, Some, None, if◌then◌else◌, arith}
 use Rattle.std.specs.Prelude.{◌==◌, nat_le, slice_set, drop}
 use Rattle.std.specs.Option.{option_map_or}
 use Rattle.std.proofs.lemmas.Bool.{and_parts, and_from}
 use Rattle.std.proofs.lemmas.List.{length-map}
-use Rattle.pool_core.specs.Slots.{Slots, drains, has_to_wait, joined, without, after_take, after_opened, after_give_back, after_lost, after_gone, after_leave, after_drain}
+use Rattle.pool_core.specs.Slots.{Slots, has_to_wait, joined, without, after_take, after_gone}
 use Rattle.client_model.specs.declared.act.Hold.{Hold}
 use Rattle.client_model.specs.declared.act.Hold.TheVariants.{Keep, GiveBack, Drop}
 use Rattle.client_model.specs.declared.input.Input.{Input}

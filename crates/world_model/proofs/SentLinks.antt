@@ -86,7 +86,7 @@ silent_all test event frames links number none all =
     changed_all test (sends event frames) links number all
     (λ link is here. subst (λ (one : Link). test one ≡ true) (sym (ap (λ (sent : List Sent). sends event sent link) none ∙ sends_none event link)) here)
 
-last_at : {A : Type 0} (xs : List A) (x : A) → slice_get (xs ++ x ∷ []) (length xs) ≡ Some x
+pub last_at : {A : Type 0} (xs : List A) (x : A) → slice_get (xs ++ x ∷ []) (length xs) ≡ Some x
 last_at [] x = refl
 last_at (y ∷ xs) x = last_at xs x
 

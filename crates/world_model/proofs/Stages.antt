@@ -209,14 +209,14 @@ module _ (owner : Owner) (call : ℕ) where
   stands phase = refl
 
   -- what is said keeps to the grammar
-  pub said_right : (before : Phase) (left alive : Bool) (phase : Phase) (send : List Up) (held : Hold) (how : Back) → Spoken before left alive phase send held → on_connection before ≡ true
+  pub said_right : (before : Phase) (left alive hushed : Bool) (phase : Phase) (send : List Up) (held : Hold) (how : Back) → Spoken before left alive hushed phase send held → on_connection before ≡ true
       → (is_unbegun before ≡ true → left ≡ true) → repeats_in before ≡ true → is_right (fold moved (stage_in owner before) (map (sent_by owner call) (send ++ closing held how))) ≡ true
-  said_right before left alive phase _ _ how (Quiet _ stays) on calls plain = stands before
-  said_right before left true _ _ _ how Fails on calls plain = closes before on
-  said_right before left false _ _ _ how Fails on calls plain = stands before
-  said_right before left true _ _ _ how (Ends may) on calls plain = ended before left how on may calls
-  said_right before left false _ _ _ how (Ends may) on calls plain = stands before
-  said_right before left alive _ _ _ how (Asks opens may asking) on calls plain = asks before asking.ltxid may
-  said_right before left alive _ _ _ how (Calls opens settings one state) on calls plain = calls_out before settings one on
-  said_right before left alive _ _ _ how (Marks opens may settings one state next none) on calls plain =
+  said_right before left alive hushed phase _ _ how (Quiet _ hush stays) on calls plain = stands before
+  said_right before left true hushed _ _ _ how Fails on calls plain = closes before on
+  said_right before left false hushed _ _ _ how Fails on calls plain = stands before
+  said_right before left true hushed _ _ _ how (Ends may) on calls plain = ended before left how on may calls
+  said_right before left false hushed _ _ _ how (Ends may) on calls plain = stands before
+  said_right before left alive hushed _ _ _ how (Asks opens may asking) on calls plain = asks before asking.ltxid may
+  said_right before left alive hushed _ _ _ how (Calls opens settings one state) on calls plain = calls_out before settings one on
+  said_right before left alive hushed _ _ _ how (Marks opens may settings one state next none) on calls plain =
       marks_out before settings one.draws one.call may (at_all (λ (r : Recorded). not (is_alter r.call)) state.track.recorder.calls state.verified one (none plain) next)
