@@ -4,3 +4,4 @@ pub mod Standing
 pub mod Underway
 pub mod Coupling
 pub mod Reaping
+pub mod Opening

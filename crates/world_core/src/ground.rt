@@ -1,10 +1,13 @@
 //! The service of a run, and the traffic to it.
-ghost use Rattle.std.specs.Prelude.{◌≡◌, ◌<◌, ◌^◌, false, []};
+ghost use Rattle.std.specs.Prelude.{◌≡◌, ◌<◌, ◌^◌, false, true, [], IfOk};
+ghost use Rattle.server_model.specs.ServiceCalls.{MayForget};
 ghost use Rattle.world_core.specs.Making.{Makes};
 
 use crate::traffic::Traffic;
 use outage_schedule::{Event, Note};
 use service_calls::Service;
+use std::alloc::Global;
+use svc_values::NoMemory;
 
 /// The service of a run, and the traffic to it: what an event finds beside the clients.
 ///
@@ -68,5 +71,29 @@ impl<S: Service + Drop> Ground<S> {
             connection,
             reaped: true,
         }
+    }
+
+    /// Opens the store, where the server is down, and forgets the outcomes of all incarnations below
+    /// the horizon. The cost is linear in the store. A stop is told as want of memory: a service that
+    /// is quiet and under no stop has none.
+    pub fn up(&mut self, alloc: Global, horizon: u64) -> Result<Note, NoMemory>
+        requires events { self.old.traffic.event < 2 ^ 48 }
+        requires live { (S.state self.old.service).is_spent ≡ false }
+        requires few { (S.state self.old.service).calls < 2 ^ 48 }
+        requires settled { (S.state self.old.service).is_up ≡ false → (S.state self.old.service).is_settled ≡ true }
+        requires may { MayForget (S.state self.old.service) horizon }
+        ensures { IfOk result (λ note. Makes (S.sees self.old.service) self.old.traffic (S.sees self.new.service) self.new.traffic Event.Up note []) }
+    {
+        self.traffic.begin();
+        if self.service.is_up() {
+            return Ok(Note::Up { incarnation: None });
+        }
+        let Ok(()) = self.service.up(alloc, horizon) else {
+            return Err(NoMemory);
+        };
+        let incarnation = self.service.incarnation();
+        Ok(Note::Up {
+            incarnation: Some(incarnation),
+        })
     }
 }

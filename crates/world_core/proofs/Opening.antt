@@ -1,0 +1,116 @@
+-- The store is opened, or the server is up already.
+use Rattle.std.proofs.Common.{◌≡◌, ◌≤◌, ℕ, ◌+◌, Bool, true, false, [], Some, None, refl, sym, ◌∙◌, arith}
+use Rattle.std.proofs.lemmas.List.{append-nil}
+use Rattle.std.proofs.lemmas.Bool.{le-leb}
+use Rattle.outage_schedule.specs.declared.event.Event.TheVariants as event
+use Rattle.outage_schedule.specs.declared.note.Note.TheVariants as note
+use Rattle.server_model.specs.Seen.{Seen, IsHistory}
+use Rattle.server_model.specs.ServiceCalls.{Opened}
+use Rattle.service_calls.specs.Kept.{Goes}
+use Rattle.world_model.specs.Machines.{Server, Machine}
+use Rattle.world_model.specs.Traced.{Traced}
+use Rattle.world_model.specs.Opening.{may_open, opened}
+use Rattle.world_model.specs.Walking.{follow}
+use Rattle.world_model.specs.Coupled.{SameServer, Coupled}
+use Rattle.world_core.specs.declared.traffic.Traffic.{Traffic}
+use Rattle.world_core.specs.Underway.{IsUnderway}
+use Rattle.world_core.specs.Making.{Makes}
+use Rattle.world_core.proofs.Coupling.{moved, begun, one_alone, stays_coupled}
+
+-- what is underway knows nothing of the server
+pub any_server : (held : Traffic) (m : Machine) (server : Server) → IsUnderway held m → IsUnderway held (record m { server = server })
+any_server held m server is = record { event = is.event; tick = is.tick; links = is.links; pool = is.pool; opened = is.opened }
+
+-- it was up
+pub ups_none : (sees : Seen → Type 0) (before after : Traffic) → ((seen : Seen) → sees seen → seen.state.is_up ≡ true) → ((m : Machine) → IsUnderway before m → IsUnderway after (begun m))
+    → Makes sees before sees after event.Up (note.Up None) []
+ups_none sees before after up goes seen t is =
+    let server_up : t.machine.server.is_up ≡ true = is.coupled.server.is_up ∙ up seen is.seen_so in
+    let follows : follow t.setting t.machine event.Up (note.Up None) [] ≡ Some (begun t.machine, []) = rw server_up refl in (
+      seen,
+      (
+        moved t (begun t.machine),
+        (
+          one_alone seen t event.Up (note.Up None) (begun t.machine) is.coupled follows refl refl refl refl refl,
+          record { seen_so = is.seen_so; coupled = stays_coupled seen t (begun t.machine) is.coupled refl refl; underway = goes t.machine is.underway },
+        ),
+      ),
+    )
+
+-- the next incarnation is one that may open
+may_open_next : (server : Server) (store incarnation : ℕ) → server.incarnation ≤ store → store ≤ server.incarnation + server.stopped → incarnation ≡ store + 1 → may_open server incarnation ≡ true
+may_open_next server store incarnation low high is =
+    rw (le-leb (server.incarnation + 1) incarnation (omega (arith, low, is)), le-leb incarnation (server.incarnation + 1 + server.stopped) (omega (arith, high, is))) refl
+
+up_false : {A : Type 0} (b : Bool) → b ≡ true → b ≡ false → A
+up_false b t f = absurd (let same : true ≡ false = sym t ∙ f in let nothing : ⊥ = cc in nothing)
+
+server_opened : (server : Server) (old new : Seen) (horizon incarnation : ℕ) → SameServer server old → Opened old horizon new → incarnation ≡ new.state.store.incarnation → SameServer (opened server incarnation) new
+server_opened server old new horizon incarnation same did told = record {
+  is_up = sym did.is_up.0;
+  per_record = same.per_record ∙ sym did.keeps.per_record;
+  opened = λ up. (told, (sym did.sessions, refl));
+  closed = λ down. up_false new.state.is_up did.is_up.0 down;
+}
+
+abbrev opened_machine : Machine → ℕ → Machine
+opened_machine m incarnation = record (begun m) { server = opened m.server incarnation }
+
+opened_coupled : (old new : Seen) (t : Traced) (horizon incarnation : ℕ) → Coupled old t → IsHistory new → Opened old horizon new → incarnation ≡ new.state.store.incarnation → Coupled new (moved t (opened_machine t.machine incarnation))
+opened_coupled old new t horizon incarnation coupled history did told = record {
+  history = history;
+  sound = rw did.keeps.start coupled.sound;
+  stops = rw did.keeps.history coupled.stops;
+  server = server_opened t.machine.server old new horizon incarnation coupled.server did told;
+  living = λ number. did.keeps.living number ∙ coupled.living number;
+  stored = λ number link there. rw did.keeps.entries.0 (coupled.stored number link there);
+  entries = coupled.entries ∙ sym did.keeps.entries.0;
+  blocked = coupled.blocked ∙ sym did.keeps.entries.1;
+  image = rw did.keeps.start coupled.image;
+}
+
+-- it was opened
+pub ups_some : (sees sees_later : Seen → Type 0) (before after : Traffic) (horizon incarnation : ℕ)
+    → ((seen : Seen) → sees seen → seen.state.is_up ≡ false)
+    → ((seen : Seen) → sees_later seen → IsHistory seen)
+    → ((seen : Seen) → sees_later seen → incarnation ≡ seen.state.store.incarnation)
+    → Goes sees sees_later (λ old new. Opened old horizon new)
+    → ((m : Machine) → IsUnderway before m → IsUnderway after (begun m))
+    → Makes sees before sees_later after event.Up (note.Up (Some incarnation)) []
+ups_some sees sees_later before after horizon incarnation down honest told goes leads seen t is =
+    let gone = goes seen is.seen_so in
+    let new = gone.0 in
+    let did : Opened seen horizon new = gone.1.1 in
+    let is_down = down seen is.seen_so in
+    let server_down : t.machine.server.is_up ≡ false = is.coupled.server.is_up ∙ is_down in
+    let near = is.coupled.server.closed is_down in
+    let next : incarnation ≡ seen.state.store.incarnation + 1 = told new gone.1.0 ∙ did.incarnation in
+    let may = may_open_next t.machine.server seen.state.store.incarnation incarnation near.0 near.1 next in
+    let m = opened_machine t.machine incarnation in
+    let follows : follow t.setting t.machine event.Up (note.Up (Some incarnation)) [] ≡ Some (m, []) = rw (server_down, may) refl in
+    let coupled : Coupled new (moved t m) = opened_coupled seen new t horizon incarnation is.coupled (honest new gone.1.0) did (told new gone.1.0) in (
+      new,
+      (
+        moved t m,
+        (
+          record {
+            follows = follows;
+            happened = [];
+            did = refl;
+            history = did.keeps.history ∙ sym (append-nil seen.history);
+            start = did.keeps.start;
+            coupled_before = is.coupled;
+            coupled_after = coupled;
+            more_entries = [];
+            entries = sym (append-nil t.entries);
+            more_blocked = [];
+            blocked = sym (append-nil t.blocked);
+            setting = refl;
+            image = refl;
+            outside = sym (append-nil t.outside);
+            outside_draws = sym (append-nil t.outside_draws);
+          },
+          record { seen_so = gone.1.0; coupled = coupled; underway = any_server after (begun t.machine) (opened t.machine.server incarnation) (leads t.machine is.underway) },
+        ),
+      ),
+    )
