@@ -16,7 +16,7 @@ use Rattle.client_model.specs.declared.input.Input.TheVariants.{Waiting, Lent, O
 use Rattle.client_model.specs.declared.input.Wants.{Wants}
 use Rattle.client_model.specs.declared.input.Wants.TheVariants as wants
 use Rattle.client_model.specs.Terms.{Phase}
-use Rattle.client_model.specs.Talk.{Step, lost_of, on_hello, on_waiting, waits_from, on_try_failed, takes as taken_by, wants_of}
+use Rattle.client_model.specs.Talk.{Step, lost_of, on_hello, on_waiting, waits_from, on_try_failed, takes as taken_by}
 use Rattle.outage_schedule.specs.declared.document.Request.{Request}
 use Rattle.world_model.specs.Settings.{Setting}
 use Rattle.world_model.specs.Frames.{Owner, Sent, Reply}
@@ -36,6 +36,7 @@ use Rattle.world_model.proofs.LinkOrder.{is_orderly}
 use Rattle.world_model.proofs.LinkSent.{open_living}
 use Rattle.world_model.proofs.Moves.{IsDoing, next_number}
 use Rattle.world_model.proofs.Others.{changed_others}
+use Rattle.world_model.proofs.Strangers.{frame_now}
 use Rattle.world_model.proofs.SentLinks.{awaits, spoken_by, last_at, lent_idle}
 use Rattle.world_model.proofs.Lookups.{IsSaid, with_others, with_own, changed_own, new_others}
 use Rattle.world_model.proofs.Saying.{is_hushed}
@@ -107,14 +108,6 @@ module _ (setting : Setting) (m : Machine)
   free : (who : ℕ) (doing : Doing) (wanted : Wants) → IsDoing setting m who doing wanted → (wanted ≡ wants.Frame → ⊥) → doing.connection ≡ None
   free who doing wanted is other =
       free_by who is.client doing is.client.now is.client.next is.here refl is.does (slot_holds_none setting.terms doing.talk doing.talk.phase m.tick wanted is.wants other)
-
-  -- one that awaits a frame is in course
-  now_by : (doing : Doing) (now : Option Doing) (next : Option Request) → option_or now (option_map (begun setting.terms m.event m.tick) next) ≡ Some doing → wants_of setting.terms doing.talk m.tick ≡ wants.Frame → now ≡ Some doing
-  now_by doing (Some one) next does wanted = does
-  now_by doing None (Some request) does wanted =
-      let same : begun setting.terms m.event m.tick request ≡ doing = cc in
-      absurd (let slot : wants.Slot ≡ wants.Frame = ap (λ (one : Doing). wants_of setting.terms one.talk m.tick) same ∙ wanted in let none : ⊥ = cc in none)
-  now_by doing None None does wanted = absurd (let none : ⊥ = cc in none)
 
   owner_same : (who : ℕ) (client : Client) → client_at m.clients who ≡ Some client → owner_at m who ≡ record { client = who; place = length client.past }
   owner_same who client here = ap (λ (found : Option Client). record { client = who; place = option_map_or (λ (one : Client). length one.past) found 0 }) here
@@ -233,7 +226,7 @@ module _ (setting : Setting) (m : Machine)
     number_is = ap (λ (one : Option ℕ). unwrap_or one 0) has
 
     now_is : is.client.now ≡ Some doing
-    now_is = now_by doing is.client.now is.client.next is.does is.wants
+    now_is = frame_now setting m who doing is
 
     found_now : link_at links_now connection ≡ Some (change_now taken)
     found_now =

@@ -46,7 +46,7 @@ use Rattle.world_model.proofs.SentLinks.{awaits}
 
 -- THE LAST FRAME ----------------------------------------------------------------------------------
 
-last_behind : {A : Type 0} (first : Option A) (xs ys : List A) → last_or first (xs ++ ys) ≡ last_or (last_or first xs) ys
+pub last_behind : {A : Type 0} (first : Option A) (xs ys : List A) → last_or first (xs ++ ys) ≡ last_or (last_or first xs) ys
 last_behind first [] ys = refl
 last_behind first (x ∷ xs) ys = last_behind (Some x) xs ys
 

@@ -1,5 +1,5 @@
 -- Of Hold, test by test, at the start and behind each event.
-use Rattle.std.proofs.Common.{◌≡◌, refl, true, ℕ, ◌+◌, List, [], ◌∷◌, map}
+use Rattle.std.proofs.Common.{◌≡◌, refl, true, length, ℕ, ◌+◌, List, [], ◌∷◌, map}
 use Rattle.std.specs.List.{list_all}
 use Rattle.outage_schedule.specs.declared.document.Client.{Client as Scripted}
 use Rattle.outage_schedule.specs.declared.document.Document.{Document}
@@ -8,9 +8,17 @@ use Rattle.world_model.specs.Clients.{resting}
 use Rattle.world_model.specs.Traced.{courses_of_clients}
 use Rattle.world_model.specs.Reached.{traced_start}
 use Rattle.world_model.specs.KeptLaws.{IsKept}
-use Rattle.world_model.specs.Hold.{is_held, are_held, are_opened}
+use Rattle.world_model.specs.Hold.{is_held, are_held, are_idle, are_opened}
 use Rattle.world_model.proofs.Happened.{Followed, follow_happens, at_event}
-use Rattle.world_model.proofs.Courses.{all_courses_by}
+use Rattle.client_model.specs.declared.input.Wants.TheVariants as wants
+use Rattle.world_model.proofs.SentLinks.{IsHeld, slot_waits}
+use Rattle.world_model.proofs.Strangers.{frame_now}
+use Rattle.world_model.proofs.BasicSessions.{all_wired}
+use Rattle.world_model.proofs.LinkOut.{awaits_out}
+use Rattle.world_model.proofs.LinkStage.{ready_left, waiting_unbegun}
+use Rattle.world_model.proofs.IdleAll.{happens_rest}
+use Rattle.world_model.specs.Frames.{Owner}
+use Rattle.world_model.proofs.Courses.{all_courses_by, held_busy}
 use Rattle.world_model.proofs.Held.{held_now}
 use Rattle.world_model.proofs.HeldAll.{held_after}
 use Rattle.world_model.proofs.KeptWire.{all_orderly}
@@ -37,4 +45,20 @@ held_law = record {
       all_courses_by (is_held new) new (λ client place past. refl)
       (λ number client doing here now.
       held_after old inv.hold.had inv.hold.held (held_now granted old inv).idle (all_orderly old.machine.links inv.wire.sent inv.wire.replies inv.wire.handled inv.basic.life) inv.basic.ended items left by.kind new.machine by.happens number client doing here now);
+}
+
+pub idle_law : IsKept are_idle
+idle_law = record {
+  at_start = λ document. refl;
+  at_event = λ granted before after old new event note items left one inv.
+      let by : Followed old.setting old.machine event note items left new.machine = follow_happens old.setting old.machine event note items left new.machine one.follows in
+      let known : IsHeld old.setting (at_event old.machine) = held_now granted old inv in
+      happens_rest old.setting (at_event old.machine) inv.hold.idle known.apart (all_wired old.machine.links inv.wire.sent inv.wire.grammar inv.wire.replies inv.wire.handled) inv.wire.fresh
+      (λ number doing connection link is has there.
+      let owner : Owner = record { client = number; place = length is.client.past } in
+      awaits_out owner doing.talk.phase link (known.out number is.client doing connection link is.here (frame_now old.setting (at_event old.machine) number doing is) has there))
+      (λ number doing connection link is has there. held_busy old connection link number is.client doing inv.hold.had there is.here (frame_now old.setting (at_event old.machine) number doing is) has)
+      (λ number doing is.
+      ready_left old.setting.terms doing (known.ready number doing wants.Slot is) (waiting_unbegun doing.talk.phase (slot_waits old.setting.terms doing.talk doing.talk.phase old.machine.tick is.wants)))
+      items left by.kind new.machine by.happens;
 }

@@ -230,7 +230,7 @@ either_some : (told : Option Ltxid) (x : Ltxid) → is_some (option_or told (Som
 either_some None x = refl
 either_some (Some y) x = refl
 
-taken_held : (link : Link) (reply : Reply) (left : List Reply) (held : Option Ltxid) → link.held ≡ held → is_wired link ≡ true → is_fresh link ≡ true → is_out link ≡ true → link.down ≡ reply ∷ left
+pub taken_held : (link : Link) (reply : Reply) (left : List Reply) (held : Option Ltxid) → link.held ≡ held → is_wired link ≡ true → is_fresh link ≡ true → is_out link ≡ true → link.down ≡ reply ∷ left
     → is_some (option_or (told_by (Took reply.frame link.is_open)) held) ≡ true
 taken_held link reply left (Some x) is wired fresh out down = either_some (told_by (Took reply.frame link.is_open)) x
 taken_held link reply left None is wired fresh out down =

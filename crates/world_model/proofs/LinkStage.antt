@@ -105,7 +105,7 @@ next_right terms owner talk state pool number now found None some strange = absu
 next_right terms owner talk state pool number now found (Some call) some strange = lent_right owner state.track.call found talk.settings call strange
 
 -- a call is left to a request that did not begin
-waiting_unbegun : (phase : Phase) → is_waiting phase ≡ true → is_unbegun phase ≡ true
+pub waiting_unbegun : (phase : Phase) → is_waiting phase ≡ true → is_unbegun phase ≡ true
 waiting_unbegun phase is = by phase is
   where
     by : (phase : Phase) → is_waiting phase ≡ true → is_unbegun phase ≡ true
@@ -117,7 +117,7 @@ left_some : (calls : List Call) → not (length calls == 0) ≡ true → is_some
 left_some [] is = absurd (let none : ⊥ = cc in none)
 left_some (call ∷ calls) is = refl
 
-ready_left : (terms : Terms) (doing : Doing) → is_ready terms doing ≡ true → is_unbegun doing.talk.phase ≡ true → has_next doing.talk ≡ true
+pub ready_left : (terms : Terms) (doing : Doing) → is_ready terms doing ≡ true → is_unbegun doing.talk.phase ≡ true → has_next doing.talk ≡ true
 ready_left terms doing ready new =
     let one = and_parts (implies (is_unbegun doing.talk.phase) (not (length doing.talk.left == 0))) (implies (is_waiting doing.talk.phase) (length (held_in doing.steps) == 0) && records_rightly terms doing.talk doing.talk.phase) ready in
     left_some doing.talk.left (implied (is_unbegun doing.talk.phase) (not (length doing.talk.left == 0)) new one.0)

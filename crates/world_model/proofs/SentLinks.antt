@@ -144,7 +144,7 @@ both_at test other links (number ∷ numbers) passes all =
     and_from (passes_at (λ link. test link && other link) links number) (list_all (passes_at (λ link. test link && other link) links) numbers)
     (both_found test other links number (link_at links number) refl parts.0 all) (both_at test other links numbers parts.1 all)
 
-differs_from : (a b : ℕ) → differ a b ≡ true → b ≢ a
+pub differs_from : (a b : ℕ) → differ a b ≡ true → b ≢ a
 differs_from a b is same = by (a == b) is (eq_to a b (sym same))
   where
     by : (test : Bool) → not test ≡ true → test ≡ true → ⊥
@@ -191,14 +191,14 @@ lent_idle pool number connection links link answer all is =
 -- STEPS -------------------------------------------------------------------------------------------
 
 -- a request that waits, or whose try failed, sends nothing
-waiting_silent : (terms : Terms) (talk : Talk) (from now : ℕ) (pool : Slots) (connection : ℕ) → frames_of pool connection (on_waiting terms talk from now).1 ≡ []
+pub waiting_silent : (terms : Terms) (talk : Talk) (from now : ℕ) (pool : Slots) (connection : ℕ) → frames_of pool connection (on_waiting terms talk from now).1 ≡ []
 waiting_silent terms talk from now pool connection = by (nat_le terms.limits.wait (now - from))
   where
     by : (long : Bool) → frames_of pool connection (if long then fails talk false None (PoolWait from now) else (stands talk (Queued (Some from)), quiet)).1 ≡ []
     by true = refl
     by false = refl
 
-failed_silent : (terms : Terms) (talk : Talk) (now : ℕ) (pool : Slots) (connection : ℕ) → frames_of pool connection (on_try_failed terms talk now).1 ≡ []
+pub failed_silent : (terms : Terms) (talk : Talk) (now : ℕ) (pool : Slots) (connection : ℕ) → frames_of pool connection (on_try_failed terms talk now).1 ≡ []
 failed_silent terms talk now pool connection = by (nat_le terms.limits.retries (talk.tries + 1))
   where
     by : (many : Bool) → frames_of pool connection (if many then fails (with_tried talk now) false None (Retries (talk.tries + 1)) else (stands (with_tried talk now) (Seeking (lost_of talk.phase)), quiet)).1 ≡ []

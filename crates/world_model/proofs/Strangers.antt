@@ -8,6 +8,7 @@ use Rattle.std.proofs.lemmas.List.{nil_from_length}
 use Rattle.std.proofs.lemmas.List.Folds.{list_any-append}
 use Rattle.client_model.specs.declared.input.Wants.{Wants}
 use Rattle.client_model.specs.declared.input.Wants.TheVariants as wants
+use Rattle.client_model.specs.Talk.{wants_of}
 use Rattle.client_model.specs.Terms.{Terms}
 use Rattle.outage_schedule.specs.declared.document.Request.{Request}
 use Rattle.world_model.specs.Settings.{Setting}
@@ -45,6 +46,18 @@ pub doing_ready : (setting : Setting) (m : Machine) (number : ℕ) (doing : Doin
 doing_ready setting m number doing wanted all is =
     let parts = and_parts (option_map_or (is_ready setting.terms) is.client.now true) (option_map_or has_calls is.client.next true) (at_client (is_ready_client setting.terms) m.clients number is.client all is.here) in
     does_ready setting m.event m.tick is.client.now is.client.next doing is.does parts.0 parts.1
+
+-- one that awaits a frame is in course already
+now_by : (setting : Setting) (m : Machine) (doing : Doing) (now : Option Doing) (next : Option Request) → option_or now (option_map (begun setting.terms m.event m.tick) next) ≡ Some doing
+    → wants_of setting.terms doing.talk m.tick ≡ wants.Frame → now ≡ Some doing
+now_by setting m doing (Some one) next does wanted = does
+now_by setting m doing None (Some request) does wanted =
+    let same : begun setting.terms m.event m.tick request ≡ doing = cc in
+    absurd (let slot : wants.Slot ≡ wants.Frame = ap (λ (one : Doing). wants_of setting.terms one.talk m.tick) same ∙ wanted in let none : ⊥ = cc in none)
+now_by setting m doing None None does wanted = absurd (let none : ⊥ = cc in none)
+
+pub frame_now : (setting : Setting) (m : Machine) (number : ℕ) (doing : Doing) (is : IsDoing setting m number doing wants.Frame) → is.client.now ≡ Some doing
+frame_now setting m number doing is = now_by setting m doing is.client.now is.client.next is.does is.wants
 
 -- without a slot it had no connection
 pub waiting_none : (terms : Terms) (doing : Doing) → is_ready terms doing ≡ true → is_waiting doing.talk.phase ≡ true → held_in doing.steps ≡ []
