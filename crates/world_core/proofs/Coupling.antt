@@ -27,15 +27,15 @@ use Rattle.world_core.specs.Making.{Makes}
 -- VIEWS -------------------------------------------------------------------------------------------
 
 -- what the service knows of a connection
-record View : Type 0 where
-  is_living : Bool
-  session : Option SessionId
-  commits : ℕ
+pub record View : Type 0 where
+  pub is_living : Bool
+  pub session : Option SessionId
+  pub commits : ℕ
 
-abbrev view : Link → View
+abbrev pub view : Link → View
 view link = record { is_living = link.is_living; session = link.session; commits = link.commits }
 
-abbrev views : List Link → List View
+abbrev pub views : List Link → List View
 views links = map view links
 
 abbrev view_at : List View → ℕ → Option View
@@ -156,7 +156,7 @@ view_kept (one ∷ links) zero link after there same = ap (λ v. v ∷ views lin
     living_or (Some l) = view l
 view_kept (one ∷ links) (suc index) link after there same = ap (λ r. view one ∷ r) (view_kept links index link after there same)
 
-view_with : (links : List Link) (number : ℕ) (link after : Link) → link_at links number ≡ Some link → view after ≡ view link → views (with_link links number after) ≡ views links
+pub view_with : (links : List Link) (number : ℕ) (link after : Link) → link_at links number ≡ Some link → view after ≡ view link → views (with_link links number after) ≡ views links
 view_with links zero link after there same = refl
 view_with links (suc index) link after there same = view_kept links index link after there same
 

@@ -5,3 +5,5 @@ pub mod Underway
 pub mod Coupling
 pub mod Reaping
 pub mod Opening
+pub mod Places
+pub mod Draining

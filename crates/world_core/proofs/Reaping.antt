@@ -1,7 +1,7 @@
 -- The session of an orphan ends, at the machine and at the service.
-use Rattle.std.proofs.Common.{◌≡◌, ◌≤◌, ℕ, zero, suc, ◌+◌, ◌==◌, Bool, true, false, List, [], ◌∷◌, Option, Some, None, refl, sym, ap, ◌∙◌, subst, eq-eqb, inl, inr}
+use Rattle.std.proofs.Common.{◌≡◌, ◌≤◌, ℕ, zero, suc, ◌+◌, ◌==◌, Bool, true, false, List, [], Option, Some, None, refl, sym, ap, ◌∙◌, subst, eq-eqb, inl, inr}
 use Rattle.std.proofs.lemmas.Bool.Decides.{eqb_tells}
-use Rattle.std.specs.Prelude.{◌⊎◌, slice_get, slice_set, if◌then◌else◌}
+use Rattle.std.specs.Prelude.{◌⊎◌, if◌then◌else◌}
 use Rattle.std.specs.Option.{option_map_or}
 use Rattle.std.proofs.lemmas.List.{append-nil}
 use Rattle.svc_values.specs.Same.{same_bool}
@@ -20,21 +20,10 @@ use Rattle.world_model.specs.Coupled.{living_of, HasStored, SameServer, Coupled}
 use Rattle.world_core.specs.declared.traffic.Traffic.{Traffic}
 use Rattle.world_core.specs.Underway.{IsUnderway, Leads}
 use Rattle.world_core.specs.Making.{Makes}
+use Rattle.world_core.proofs.Places.{slice_same, slice_other}
 use Rattle.world_core.proofs.Coupling.{moved, begun, one_alone, stays_coupled}
 
 -- ONE OF MANY -------------------------------------------------------------------------------------
-
-slice_same : {A : Type 0} (all : List A) (index : ℕ) (old new : A) → slice_get all index ≡ Some old → slice_get (slice_set all index new) index ≡ Some new
-slice_same [] index old new there = absurd (let nothing : ⊥ = cc in nothing)
-slice_same (one ∷ all) zero old new there = refl
-slice_same (one ∷ all) (suc index) old new there = slice_same all index old new there
-
-slice_other : {A : Type 0} (all : List A) (index other : ℕ) (new : A) → (other ≡ index → ⊥) → slice_get (slice_set all index new) other ≡ slice_get all other
-slice_other [] index other new apart = refl
-slice_other (one ∷ all) zero zero new apart = absurd (apart refl)
-slice_other (one ∷ all) zero (suc other) new apart = refl
-slice_other (one ∷ all) (suc index) zero new apart = refl
-slice_other (one ∷ all) (suc index) (suc other) new apart = slice_other all index other new (λ same. apart (ap suc same))
 
 pub link_same : (links : List Link) (number : ℕ) (old new : Link) → link_at links number ≡ Some old → link_at (with_link links number new) number ≡ Some new
 link_same links zero old new there = absurd (let nothing : ⊥ = cc in nothing)

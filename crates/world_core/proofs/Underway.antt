@@ -54,7 +54,7 @@ links_kept : (links : List Link) (number : ℕ) (link : Link) → length (with_l
 links_kept links zero link = refl
 links_kept links (suc at) link = length-set links at link
 
-changed_kept : (change : Link → Link) (links : List Link) (number : ℕ) (found : Option Link) → length (option_map_or (λ link. with_link links number (change link)) found links) ≡ length links
+pub changed_kept : (change : Link → Link) (links : List Link) (number : ℕ) (found : Option Link) → length (option_map_or (λ link. with_link links number (change link)) found links) ≡ length links
 changed_kept change links number None = refl
 changed_kept change links number (Some link) = links_kept links number (change link)
 

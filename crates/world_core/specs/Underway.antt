@@ -1,5 +1,5 @@
 -- How the clock, the connections and the pool of a run stand for those of the machine.
-use Rattle.std.specs.Prelude.{◌≡◌, ◌≤◌, ◌<◌, ℕ, Bool, true, false, List, [], ◌∷◌, length, Option, Some, None}
+use Rattle.std.specs.Prelude.{◌≡◌, ◌≤◌, ◌<◌, ℕ, Bool, true, false, List, [], ◌∷◌, length, fold, Option, Some, None}
 use Rattle.svc_values.specs.declared.frame.Up.{Up}
 use Rattle.svc_values.specs.declared.frame.Up.TheVariants as up
 use Rattle.pool_core.specs.Slots.{Slots, is_among}
@@ -8,11 +8,13 @@ use Rattle.client_model.specs.declared.act.Hold.TheVariants.{GiveBack, Drop}
 use Rattle.svc_values.specs.declared.frame.Down.{Down}
 use Rattle.client_model.specs.declared.input.Input.TheVariants.{Took}
 use Rattle.world_model.specs.Frames.{Reply}
-use Rattle.world_model.specs.Links.{Link, with_link, takes}
+use Rattle.world_model.specs.Links.{Link, with_link, changed, sends, takes}
 use Rattle.world_model.specs.Machines.{Machine}
+use Rattle.world_model.specs.Outside.{closed_by_drain}
 use Rattle.world_model.specs.Serving.{Front, front_at}
+use Rattle.world_core.specs.declared.connection.Connection.{Connection}
 use Rattle.world_core.specs.declared.traffic.Traffic.{Traffic}
-use Rattle.world_core.specs.Linked.{Stand}
+use Rattle.world_core.specs.Linked.{Stand, connection_at, MaySend}
 
 pub record IsUnderway (held : Traffic) (m : Machine) : Type 0 where
   pub event : m.event ≡ held.event
@@ -50,3 +52,12 @@ MayRelease pool number _ _ = Unit {0}
 abbrev pub closes_with : Bool → List Up
 closes_with true = up.Close ∷ []
 closes_with false = []
+
+-- each is open, and stands there once
+abbrev pub AreClosable : List Connection → List ℕ → Type 0
+AreClosable all [] = Unit {0}
+AreClosable all (number ∷ numbers) = MaySend (connection_at all number) (up.Close ∷ []) × ((is_among number numbers ≡ false) × AreClosable all numbers)
+
+-- a Close is sent on each
+abbrev pub all_closed : ℕ → List Link → List ℕ → List Link
+all_closed event links numbers = fold (changed (sends event (closed_by_drain ∷ []))) links numbers

@@ -1,5 +1,5 @@
 //! The connections of a run.
-ghost use Rattle.std.specs.Prelude.{◌≡◌, ◌+◌, ◌<◌, ◌⊎◌, suc, List, [], ◌∷◌, ◌++◌, length, map, fold, Some, OnOk, IfOk, IfSome, MatchOption, if◌then◌else◌};
+ghost use Rattle.std.specs.Prelude.{◌≡◌, ◌+◌, ◌<◌, ◌⊎◌, ℕ, suc, List, [], ◌∷◌, ◌++◌, length, map, fold, Some, OnOk, IfOk, IfSome, MatchOption, if◌then◌else◌};
 ghost use Rattle.std.specs.Option.{option_copied};
 ghost use Rattle.std.specs.List.{AllByRecursion};
 ghost use Rattle.canon_bytes.specs.UpBytes.{IsMadeUp};
@@ -72,7 +72,8 @@ impl Connections {
     pub fn send(&mut self, number: u64, event: u64, frames: &[Up]) -> Result<(), NoMemory>
         requires may { MaySend (connection_at self.old.all.items number) frames.now }
         requires made { AllByRecursion IsMadeUp frames.now }
-        ensures { OnOk result ((links : List Link) (sent : List Sent) → up_frames sent ≡ frames.now → Stand self.old links → Stand self.new (changed (sends event sent) links number)) }
+        ensures others { (other : ℕ) → (other ≡ number → ⊥) → connection_at self.new.all.items other ≡ connection_at self.old.all.items other }
+        ensures sent { OnOk result ((links : List Link) (sent : List Sent) → up_frames sent ≡ frames.now → Stand self.old links → Stand self.new (changed (sends event sent) links number)) }
     {
         let Some(at) = self.place(number) else {
             return Ok(());

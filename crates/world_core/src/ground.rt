@@ -1,6 +1,7 @@
 //! The service of a run, and the traffic to it.
 ghost use Rattle.std.specs.Prelude.{◌≡◌, ◌<◌, ◌^◌, false, true, [], IfOk};
 ghost use Rattle.server_model.specs.ServiceCalls.{MayForget};
+ghost use Rattle.world_core.specs.Underway.{AreClosable};
 ghost use Rattle.world_core.specs.Making.{Makes};
 
 use crate::traffic::Traffic;
@@ -95,5 +96,17 @@ impl<S: Service + Drop> Ground<S> {
         Ok(Note::Up {
             incarnation: Some(incarnation),
         })
+    }
+
+    /// Closes the idle connections, and lets the others go once they are given back. Linear in the
+    /// idle connections.
+    pub fn drain(&mut self) -> Result<Note, NoMemory>
+        requires events { self.old.traffic.event < 2 ^ 48 }
+        requires closable { AreClosable self.old.traffic.connections.all.items self.old.traffic.pool.idle }
+        ensures { IfOk result (λ note. Makes (S.sees self.old.service) self.old.traffic (S.sees self.new.service) self.new.traffic Event.Drain note []) }
+    {
+        self.traffic.begin();
+        let closed = self.traffic.drain()?;
+        Ok(Note::Drain { closed })
     }
 }

@@ -13,9 +13,9 @@ ghost use Rattle.world_model.specs.Serving.{Front, is_last as is_last_def, after
 ghost use Rattle.world_model.specs.Acting.{closing};
 ghost use Rattle.world_model.specs.Cutting.{follow_cut, follow_reap};
 ghost use Rattle.world_model.specs.Crashing.{fallen_link};
-ghost use Rattle.world_model.specs.Outside.{ticked};
+ghost use Rattle.world_model.specs.Outside.{ticked, follow_drain};
 ghost use Rattle.world_core.specs.Linked.{up_frames, connection_at, MaySend};
-ghost use Rattle.world_core.specs.Underway.{IsUnderway, Leads, GivesFrontOf, GivesReplyOf, MayRelease, closes_with};
+ghost use Rattle.world_core.specs.Underway.{AreClosable, all_closed, IsUnderway, Leads, GivesFrontOf, GivesReplyOf, MayRelease, closes_with};
 
 use crate::connections::Connections;
 use client_model::Hold;
@@ -182,6 +182,29 @@ impl Traffic {
         } else {
             self.pool.leave(client);
         }
+    }
+
+    /// Closes the idle connections, and lets the others go once they are given back. Tells how many
+    /// were closed. Linear in the idle connections.
+    pub fn drain(&mut self) -> Result<u64, NoMemory>
+        requires { AreClosable self.old.connections.all.items self.old.pool.idle }
+        ensures { IfOk result (λ closed. (m : Machine) → IsUnderway self.old m → Leads (follow_drain m closed) self.new) }
+    {
+        let idle = self.pool.drain()?;
+        self.close(&idle)?;
+        Ok(idle.len() as u64)
+    }
+
+    /// Closes these connections.
+    fn close(&mut self, numbers: &[u64]) -> Result<(), NoMemory>
+        requires { AreClosable self.old.connections.all.items numbers.now }
+        ensures pool { self.new.pool ≡ self.old.pool }
+        ensures closed { OnOk result ((m : Machine) → IsUnderway self.old m → IsUnderway self.new (record m { links = all_closed m.event m.links numbers.now })) }
+    {
+        for number in numbers {
+            self.connections.send(*number, self.event, &[Up::Close])?;
+        }
+        Ok(())
     }
 
     /// All connections and sessions end, and those that were idle leave the pool. Of what is on its

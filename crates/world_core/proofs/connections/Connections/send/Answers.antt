@@ -1,14 +1,18 @@
 use Rattle.world_model.specs.Links.{sends}
 use Rattle.world_core.proofs.Standing.{stands_changed, none_changed, sends_open, on_ok}
+use Rattle.world_core.proofs.Places.{connection_other}
 use Rattle.world_core.proofs.connections.Connections.send.Goals as goal
 
-pub returns-in_default : goal.returns-in_default
-returns-in_default c = λ links sent same are. none_changed c.args.self.now.all.items c.args.number (sends c.args.event sent) c.in_default.ensures links are
+pub returns-in_default-clause-sent : goal.returns-in_default-clause-sent
+returns-in_default-clause-sent c = λ links sent same are. none_changed c.args.self.now.all.items c.args.number (sends c.args.event sent) c.in_default.ensures links are
 
 pub send-requires-clause-open_for : goal.send-requires-clause-open_for
 send-requires-clause-open_for c = sends_open c.args.self.now.all.items c.args.number c.in-Some.at c.index_mut.result.now c.args.frames.now c.in-Some.ensures c.index_mut.ensures.value c.requires.may
 
-pub returns : goal.returns
-returns c = on_ok c.send.result
+pub returns-clause-sent : goal.returns-clause-sent
+returns-clause-sent c = on_ok c.send.result
     (λ sending links sent same are. stands_changed c.args.self.now.all.items c.args.number c.in-Some.at c.index_mut.result.now c.send.new.self (sends c.args.event sent) c.in-Some.ensures c.index_mut.ensures.value (λ link is. sending link sent same is) links are)
     c.send.ensures
+
+pub returns-clause-others : goal.returns-clause-others
+returns-clause-others c = λ other apart. connection_other c.args.self.now.all.items c.args.number c.in-Some.at other c.send.new.self c.in-Some.ensures.0 apart
