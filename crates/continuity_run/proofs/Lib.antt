@@ -1,8 +1,4 @@
-pub mod CallItems
 mod Moves
-pub mod ReadTables
-pub mod ReadCalls
-pub mod ReadDocuments
 mod NoDraws
 mod SerialRun
 mod Literals

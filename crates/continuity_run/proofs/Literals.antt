@@ -15,7 +15,7 @@ use Rattle.stmt_meaning.specs.Operands.{Reading, ◌>>=◌, value_of, values_of}
 use Rattle.stmt_meaning.specs.Plans.{Aim, plan_at, plan_of, plan_for, aim_of}
 use Rattle.svc_values.specs.Calls.{operands_of}
 use Rattle.stmt_meaning.specs.Meaning.{OneDone, AllDone, Meant, done_at, mean1, is_refusal, ended_by, after_first, and_on, statements_done, worked, mean}
-use Rattle.continuity_run.specs.DocumentForm.{is_literal, has_literals}
+use Rattle.continuity_run.specs.Plain.{is_literal, has_literals}
 use Rattle.json_form.proofs.Offered.{first_true, second_true}
 use Rattle.svc_values.specs.SettingsList.{NamedValues}
 

@@ -1,55 +1,52 @@
 -- The report of a run keeps to the headline.
 use Rattle.std.proofs.Common.{◌≡◌, List, [], ◌∷◌, Bool, true, false, Some, refl, sym, subst, ap, ◌∙◌}
-use Rattle.std.specs.Prelude.{map, ◌&&◌, nat_le, length}
+use Rattle.std.specs.Prelude.{map, ◌&&◌, ◌==◌, not, is_none, nat_le, length}
 use Rattle.std.specs.List.{list_all}
 use Rattle.svc_values.specs.declared.call.Call.{Call}
-use Rattle.svc_values.specs.Calls.{is_made}
 use Rattle.svc_values.specs.declared.tables.PlainRow.{PlainRow}
 use Rattle.stmt_meaning.specs.Serial.{Serial}
 use Rattle.svc_values.specs.Tables.{with_writes}
-use Rattle.continuity_run.specs.declared.document.Request.{Request}
-use Rattle.continuity_run.specs.declared.document.Client.{Client}
-use Rattle.continuity_run.specs.declared.document.Document.{Document}
+use Rattle.outage_schedule.specs.declared.document.Request.{Request}
+use Rattle.outage_schedule.specs.declared.document.Client.{Client}
+use Rattle.outage_schedule.specs.declared.document.Document.{Document}
 use Rattle.continuity_run.specs.declared.report.ShownCall.{ShownCall}
 use Rattle.svc_values.specs.declared.entry.Entry.{Entry}
 use Rattle.continuity_run.specs.declared.report.Report.{Report}
-use Rattle.continuity_run.specs.DocumentForm.{is_built}
-use Rattle.continuity_run.specs.Documents.{IsDocument, is_script_call, is_request, is_client}
+use Rattle.continuity_run.specs.Plain.{is_plain_call, is_plain_request, is_plain_client, is_plain}
+use Rattle.json_form.proofs.Offered.{first_true, second_true}
 use Rattle.svc_values.specs.declared.schema.Schema.{Schema}
-use Rattle.continuity_run.specs.declared.document.DocTable.{DocTable}
-use Rattle.continuity_run.specs.Start.{schema_in, shape_of, start_of}
+use Rattle.outage_schedule.specs.declared.document.DocTable.{DocTable}
+use Rattle.doc_reader.specs.Keeping.{schema_in}
+use Rattle.continuity_run.specs.Start.{shape_of, start_of}
 use Rattle.continuity_run.specs.Run.{Run, run_of, start_run}
 use Rattle.continuity_run.specs.Headline.{Headline, ShownInTurn, OneEntryEach, calls_of, calls_of_requests, transcripts_of, table_at, writes_of}
 use Rattle.continuity_run.proofs.SerialRun.{Good, goes}
 
-first : (a b : Bool) → a && b ≡ true → a ≡ true
-first true b h = refl
-first false b h = h
+plain_requests : (requests : List Request) → list_all is_plain_request requests ≡ true → list_all is_plain_call (calls_of_requests requests) ≡ true
+unfolding is_plain_request
+plain_requests [] h = refl
+plain_requests (r ∷ rs) h =
+    second_true (r.again == 0) (list_all is_plain_call r.calls) (second_true (length r.settings == 0) ((r.again == 0) && list_all is_plain_call r.calls)
+    (first_true (is_plain_request r) (list_all is_plain_request rs) h))
 
-second : (a b : Bool) → a && b ≡ true → b ≡ true
-second true b h = h
-second false b h = absurd (let e : ◌≡◌ {A = Bool} false true = h in cc)
+plain_clients : (clients : List Client) → list_all is_plain_client clients ≡ true → list_all is_plain_call (calls_of clients) ≡ true
+unfolding is_plain_client
+plain_clients [] h = refl
+plain_clients (c ∷ cs) h =
+    plain_requests c.requests (second_true (nat_le (length c.requests) 1) (list_all is_plain_request c.requests) (first_true (is_plain_client c) (list_all is_plain_client cs) h))
 
-all_built : (calls : List Call) → list_all is_script_call calls ≡ true → list_all is_built calls ≡ true
-all_built [] h = refl
-all_built (c ∷ cs) h =
-    let here = first (is_script_call c) (list_all is_script_call cs) h in
-    let later = all_built cs (second (is_script_call c) (list_all is_script_call cs) h) in
-    ap (λ b. b && list_all is_built cs) (second (is_made c) (is_built c) here) ∙ later
-
-built_requests : (requests : List Request) → list_all is_request requests ≡ true → list_all is_built (calls_of_requests requests) ≡ true
-unfolding is_request
-built_requests [] h = refl
-built_requests (r ∷ rs) h = all_built r.calls (first (list_all is_script_call r.calls) (nat_le (length r.calls) 1024) (first (list_all is_script_call r.calls && nat_le (length r.calls) 1024) (list_all is_request rs) h))
-
-built_clients : (clients : List Client) → list_all is_client clients ≡ true → list_all is_built (calls_of clients) ≡ true
-unfolding is_client
-built_clients [] h = refl
-built_clients (c ∷ cs) h = built_requests c.requests (first (list_all is_request c.requests) (nat_le (length c.requests) 1) (first (list_all is_request c.requests && nat_le (length c.requests) 1) (list_all is_client cs) h))
-
--- the calls of a document ask for no draw
-pub script_built : (document : Document) → IsDocument document → list_all is_built (calls_of document.clients) ≡ true
-script_built document h = built_clients document.clients h.clients
+-- the calls of a document that is run ask for no draw
+pub plain_script : (document : Document) → is_plain document ≡ true → list_all is_plain_call (calls_of document.clients) ≡ true
+unfolding is_plain
+plain_script document h =
+    let few : Bool = nat_le (length document.clients) 1 in
+    let each : Bool = list_all is_plain_client document.clients in
+    let unscheduled : Bool = length document.schedule == 0 in
+    let unprinted : Bool = not document.print_image in
+    let alone : Bool = is_none document.image in
+    plain_clients document.clients
+    (second_true few each (second_true unscheduled (few && each) (second_true unprinted (unscheduled && (few && each)) (second_true alone (unprinted && (unscheduled && (few && each)))
+    (second_true (length document.sequences == 0) (alone && (unprinted && (unscheduled && (few && each)))) h)))))
 
 pub headline : (document : Document) (after : Run) → run_of (shape_of document.tables) (start_run (start_of document.tables)) (calls_of document.clients) ≡ Some after
     → (report : Report) → report.clients ≡ transcripts_of document.clients after.shown → report.entries ≡ after.entries → report.tables ≡ map (λ table. table_at after.committed table.name) document.tables → Headline document report

@@ -8,7 +8,7 @@ use Rattle.std.proofs.lemmas.List.Folds.{list_all-append}
 use Rattle.std.proofs.lemmas.Slice.Eq.{bytes_eq-Decides}
 use Rattle.svc_values.specs.declared.value.Value.{Value}
 use Rattle.svc_values.specs.declared.schema.Schema.{Schema}
-use Rattle.svc_values.specs.Kinds.{row_fits}
+use Rattle.svc_values.specs.Kinds.{row_fits, has_column}
 use Rattle.svc_values.specs.Same.{same_value}
 use Rattle.svc_values.specs.SameLaws.{same_value_decides}
 use Rattle.svc_values.specs.Schemas.{is_declared, schema_of, key_of}
@@ -18,10 +18,10 @@ use Rattle.svc_values.specs.declared.tables.Place.TheVariants as place
 use Rattle.svc_values.specs.Tables.{is_at, rows_at}
 use Rattle.svc_values.specs.Fitting.{is_row_of, tables_fit}
 use Rattle.table_store.specs.Stored.{AreApart}
-use Rattle.continuity_run.specs.declared.document.DocTable.{DocTable}
-use Rattle.continuity_run.specs.Documents.{is_table}
+use Rattle.outage_schedule.specs.declared.document.DocTable.{DocTable}
+use Rattle.doc_reader.specs.Keeping.{is_table, schema_in}
 use Rattle.json_form.specs.Arrays.{have_distinct_keys}
-use Rattle.continuity_run.specs.Start.{schema_in, plain_row, rows_of_table}
+use Rattle.continuity_run.specs.Start.{plain_row, rows_of_table}
 use Rattle.json_form.proofs.Offered.{first_true, second_true, both_true}
 
 same_bytes : (a : List ℕ) → bytes_eq a a ≡ true
@@ -63,14 +63,19 @@ rows_fit schemas t found (row ∷ rows) fit =
     let one : is_row_of (Some (schema_in t)) (key_of row) row ≡ true = both_true (row_fits t.columns row) (same_value (key_of row) (key_of row)) (first_true _ _ fit) ((same_value_decides (key_of row) (key_of row)).1 refl) in
     both_true _ _ (ap (λ s. is_row_of s (key_of row) row) found ∙ one) (rows_fit schemas t found rows (second_true _ _ fit))
 
+-- what is said of a table behind its rows
+abbrev few_and_indexed : DocTable → Bool
+few_and_indexed t = nat_le (length t.rows) 10000 && (list_all (has_column t.columns) t.index && have_distinct_keys bytes_eq (λ name. name) t.index)
+
 -- what is_table says of the rows
 fitting_rows : (t : DocTable) → is_table t ≡ true → list_all (row_fits t.columns) t.rows ≡ true
 unfolding is_table
-fitting_rows t is = first_true _ _ (second_true (is_declared (schema_in t)) (list_all (row_fits t.columns) t.rows && (have_distinct_keys same_value key_of t.rows && nat_le (length t.rows) 10000)) is)
+fitting_rows t is = first_true (list_all (row_fits t.columns) t.rows) (have_distinct_keys same_value key_of t.rows && few_and_indexed t) (second_true (is_declared (schema_in t)) (list_all (row_fits t.columns) t.rows && (have_distinct_keys same_value key_of t.rows && few_and_indexed t)) is)
 
 distinct_rows : (t : DocTable) → is_table t ≡ true → have_distinct_keys same_value key_of t.rows ≡ true
 unfolding is_table
-distinct_rows t is = first_true _ _ (second_true (list_all (row_fits t.columns) t.rows) (have_distinct_keys same_value key_of t.rows && nat_le (length t.rows) 10000) (second_true (is_declared (schema_in t)) (list_all (row_fits t.columns) t.rows && (have_distinct_keys same_value key_of t.rows && nat_le (length t.rows) 10000)) is))
+distinct_rows t is = first_true (have_distinct_keys same_value key_of t.rows) (few_and_indexed t) (second_true (list_all (row_fits t.columns) t.rows) (have_distinct_keys same_value key_of t.rows && few_and_indexed t)
+    (second_true (is_declared (schema_in t)) (list_all (row_fits t.columns) t.rows && (have_distinct_keys same_value key_of t.rows && few_and_indexed t)) is))
 
 all_fit : (schemas : List Schema) (all tables : List DocTable) → schemas ≡ map schema_in all → Found all tables → list_all is_table tables ≡ true → tables_fit schemas (flat_map rows_of_table tables) ≡ true
 all_fit schemas all [] same found each = refl

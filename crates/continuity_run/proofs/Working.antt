@@ -11,7 +11,7 @@ use Rattle.stmt_meaning.specs.Drawing.{AsksNext}
 use Rattle.stmt_meaning.specs.Meaning.{Meant}
 use Rattle.table_store.specs.Stored.{Stored}
 use Rattle.table_txn.specs.Transactions.{Transaction, HasRun, meaning, shape_of}
-use Rattle.continuity_run.specs.DocumentForm.{has_literals}
+use Rattle.continuity_run.specs.Plain.{has_literals}
 use Rattle.continuity_run.specs.Progress.{HasWorked}
 use Rattle.continuity_run.proofs.Literals.{literals_leave}
 use Rattle.svc_values.specs.SettingsList.{NamedValues}

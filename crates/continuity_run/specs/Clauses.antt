@@ -5,12 +5,13 @@ use Rattle.std.specs.Str.{bytes_eq}
 use Rattle.std.specs.Io.KnownBytes.{Appends, Consumes}
 use Rattle.serde_json.specs.Written.{compact_text}
 use Rattle.json_form.specs.Faults.{Fault}
-use Rattle.continuity_run.specs.declared.document.Document.{Document}
+use Rattle.outage_schedule.specs.declared.document.Document.{Document}
 use Rattle.continuity_run.specs.declared.report.Report.{Report}
 use Rattle.continuity_run.specs.declared.top.Status.{Status}
 use Rattle.continuity_run.specs.declared.top.Status.TheVariants as status
 use Rattle.continuity_run.specs.Causes.{AppendsFront}
-use Rattle.continuity_run.specs.DocumentForm.{document_at, limit}
+use Rattle.doc_reader.specs.Documents.{limit}
+use Rattle.continuity_run.specs.Plain.{run_at}
 use Rattle.continuity_run.specs.Headline.{Headline}
 use Rattle.continuity_run.specs.ReportText.{report_of}
 
@@ -28,12 +29,12 @@ pub record IsReported (document : Document) (text : List ℕ) : Type 0 where
 -- The bytes are a document, and the text is that of its report.
 pub record IsAnswer (bytes text : List ℕ) : Type 0 where
   pub document : Document
-  pub accepted : document_at bytes ≡ Ok document
+  pub accepted : run_at bytes ≡ Ok document
   pub reported : IsReported document text
 
 -- where the source tells what is left, what was read is judged as all of that is
 abbrev pub IsJudged : Option (List ℕ) → List ℕ → Type 0
-IsJudged left front = IfSome left (λ bytes. document_at front ≡ document_at bytes)
+IsJudged left front = IfSome left (λ bytes. run_at front ≡ run_at bytes)
 
 -- the bytes that were read: at most one past the limit, and judged as the whole input is
 pub record IsRead (left_before left_after : Option (List ℕ)) (bytes : List ℕ) : Type 0 where
@@ -61,7 +62,7 @@ pub record IsCut (left_before left_after held_before held_after : Option (List �
 pub record IsRefused (left_before left_after : Option (List ℕ)) (fault : Fault) : Type 0 where
   pub bytes : List ℕ
   pub read : IsRead left_before left_after bytes
-  pub refused : document_at bytes ≡ Err fault
+  pub refused : run_at bytes ≡ Err fault
 
 abbrev pub Writes : List ℕ → Option (List ℕ) → Option (List ℕ) → Type 0
 Writes bytes held_before held_after = (text : List ℕ) × (IsAnswer bytes text × Appends held_before held_after text)

@@ -16,9 +16,9 @@ use Rattle.svc_values.specs.declared.tables.Place.TheVariants as place
 use Rattle.svc_values.specs.Tables.{rows_at, with_writes}
 use Rattle.stmt_meaning.specs.Meaning.{Meant, mean}
 use Rattle.stmt_meaning.specs.Serial.{Serial}
-use Rattle.continuity_run.specs.declared.document.Client.{Client}
-use Rattle.continuity_run.specs.declared.document.Request.{Request}
-use Rattle.continuity_run.specs.declared.document.Document.{Document}
+use Rattle.outage_schedule.specs.declared.document.Client.{Client}
+use Rattle.outage_schedule.specs.declared.document.Request.{Request}
+use Rattle.outage_schedule.specs.declared.document.Document.{Document}
 use Rattle.continuity_run.specs.declared.report.ShownCall.{ShownCall}
 use Rattle.continuity_run.specs.declared.report.RequestReport.{RequestReport}
 use Rattle.continuity_run.specs.declared.report.ReportTable.{ReportTable}

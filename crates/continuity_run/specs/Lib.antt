@@ -1,15 +1,12 @@
-pub mod CallForm
 pub mod CallText
 pub mod Causes
 pub mod Clauses
-pub mod DocumentForm
-pub mod Documents
 pub mod Headline
 pub mod Memory
+pub mod Plain
 pub mod Progress
 pub mod Reads
 pub mod ReportText
 pub mod Run
 pub mod Start
 pub mod Statuses
-pub mod ValueForm

@@ -2,17 +2,14 @@
 use Rattle.std.specs.Prelude.{ℕ, List, [], map}
 use Rattle.std.specs.List.{flat_map}
 use Rattle.svc_values.specs.declared.value.Value.{Value}
-use Rattle.svc_values.specs.declared.schema.Schema.{Schema}
 use Rattle.svc_values.specs.declared.schema.Shape.{Shape}
 use Rattle.svc_values.specs.declared.tables.PlainRow.{PlainRow}
 use Rattle.svc_values.specs.Tables.{in_order}
 use Rattle.svc_values.specs.Schemas.{key_of}
-use Rattle.continuity_run.specs.declared.document.DocTable.{DocTable}
+use Rattle.doc_reader.specs.Keeping.{schema_in}
+use Rattle.outage_schedule.specs.declared.document.DocTable.{DocTable}
 
-abbrev pub schema_in : DocTable → Schema
-schema_in table = record { name = table.name; columns = table.columns }
-
--- no document of this form has sequences
+-- no document that is run yet has sequences
 abbrev pub shape_of : List DocTable → Shape
 shape_of tables = record { schemas = map schema_in tables; sequences = [] }
 

@@ -1,11 +1,9 @@
 //! A run from the bytes in to the bytes out.
 #![tactic(auto)]
 
-mod document;
-mod item;
 mod memory;
 mod outside;
-mod reading;
+mod plain;
 mod report;
 mod run;
 mod start;
@@ -13,12 +11,8 @@ mod top;
 mod whole;
 mod writing;
 
-pub use document::{
-    Calls, Client, Clients, DocRows, DocTable, DocTables, Document, Request, Requests,
-};
 pub use memory::{MemSink, MemSource};
 pub use outside::{Failed, Sink, Source};
-pub use reading::{DOCUMENT_LIMIT, read_document};
 pub use report::{
     Report, ReportEntries, ReportTable, ReportTables, RequestReport, ShownCall, ShownCalls,
     Transcript, Transcripts,

@@ -1,6 +1,6 @@
 //! The report of a run.
 
-use crate::document::DocRows;
+use outage_schedule::DocRows;
 use svc_values::{Answers, Draws, Entry, Listed, Ltxid, Name};
 
 /// A call's answers and draws, and the identifier that the client holds after it.

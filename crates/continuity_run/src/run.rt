@@ -2,17 +2,17 @@
 ghost use Rattle.std.specs.Prelude.{◌≡◌, ◌++◌, ◌∷◌, [], IfOk, OnOk, IsTrue, Some};
 ghost use Rattle.std.specs.List.{list_all};
 ghost use Rattle.stmt_meaning.specs.Laws.{closed_by};
-ghost use Rattle.continuity_run.specs.DocumentForm.{is_built, has_literals};
-ghost use Rattle.continuity_run.specs.Documents.{IsDocument};
+ghost use Rattle.doc_reader.specs.Keeping.{IsDocument};
+ghost use Rattle.continuity_run.specs.Plain.{is_plain, is_plain_call, has_literals};
 ghost use Rattle.continuity_run.specs.Headline.{Headline, calls_of as calls_of_def, calls_of_requests as calls_of_requests_def, transcript_of as transcript_def, transcripts_of as transcripts_def};
 ghost use Rattle.continuity_run.specs.Progress.{run_seen, shape_now, IsAlone, HasWorked, IsNext, IsNoted, IsCommitted};
 ghost use Rattle.continuity_run.specs.Run.{run_of, start_run, identifier as identifier_def};
 
-use crate::document::{Client, Document, Request};
 use crate::report::{
     Report, ReportEntries, RequestReport, ShownCall, ShownCalls, Transcript, Transcripts,
 };
 use crate::start::{start_of, tables_at};
+use outage_schedule::{Client, Document, Request};
 use std::alloc::Global;
 use stmt_meaning::ends_refused;
 use svc_values::{
@@ -174,7 +174,7 @@ fn committed(
 
 /// One call more.
 fn step(alloc: Global, mut progress: Progress, call: &Call) -> Result<Progress, NoMemory>
-    requires built { IsTrue (is_built call.now) }
+    requires plain { IsTrue (is_plain_call call.now) }
     requires alone { IsAlone progress.tables progress.transaction }
     ensures { IfOk result (IsNext progress call.now) }
 {
@@ -198,7 +198,7 @@ fn step(alloc: Global, mut progress: Progress, call: &Call) -> Result<Progress, 
 
 /// The calls in order.
 fn run_calls(alloc: Global, tables: Tables, calls: &[Call]) -> Result<Progress, NoMemory>
-    requires { IsTrue (list_all is_built calls.now) }
+    requires { IsTrue (list_all is_plain_call calls.now) }
     ensures ran { IfOk result (λ after. run_of (record { schemas = tables.schemas; sequences = [] }) (start_run tables.rows) calls.now ≡ Some (run_seen after)) }
     ensures declared { IfOk result (λ after. after.tables.schemas ≡ tables.schemas) }
 {
@@ -262,10 +262,15 @@ fn transcripts_of(
 /// The report of a document. A call costs the rows of the tables that it reads whole, and for each row
 /// that it reads or writes by its key the logarithm of their number.
 pub fn run_document(alloc: Global, document: Document) -> Result<Report, NoMemory>
-    requires { IsDocument document }
+    requires document { IsDocument document }
+    requires plain { IsTrue (is_plain document) }
     ensures { IfOk result (Headline document) }
 {
-    let Document { tables, clients } = document;
+    let Document {
+        tables,
+        clients,
+        ..
+    } = document;
     let tables = start_of(alloc, tables)?;
     let calls = calls_of(clients.as_slice());
     let progress = run_calls(alloc, tables, calls)?;

@@ -3,13 +3,13 @@ ghost use Rattle.std.specs.Prelude.{◌≡◌, ◌++◌, ◌≤◌, IfOk, OnOk, 
 ghost use Rattle.std.specs.List.{list_all};
 ghost use Rattle.std.specs.Str.{bytes_eq};
 ghost use Rattle.table_store.specs.Given.{plain};
-ghost use Rattle.continuity_run.specs.Documents.{is_table};
+ghost use Rattle.doc_reader.specs.Keeping.{is_table, schema_in};
 ghost use Rattle.json_form.specs.Arrays.{have_distinct_keys};
 ghost use Rattle.continuity_run.specs.Headline.{table_at as table_at_def};
-ghost use Rattle.continuity_run.specs.Start.{plain_row, schema_in, rows_of, start_of as start_def};
+ghost use Rattle.continuity_run.specs.Start.{plain_row, rows_of, start_of as start_def};
 
-use crate::document::{DocRows, DocTable, DocTables};
 use crate::report::{ReportTable, ReportTables};
+use outage_schedule::{DocRows, DocTable, DocTables};
 use std::alloc::Global;
 use svc_values::{Name, NoMemory, Schema, Schemas, TryCopy};
 use table_store::{TableRow, Tables};
@@ -42,6 +42,7 @@ fn gathered(alloc: Global, tables: DocTables) -> Result<(Vec<Schema>, Vec<TableR
             name,
             columns,
             rows: more,
+            index: _,
         } = table;
         push_rows(alloc, &mut rows, &name, more)?;
         schemas.push(Schema { name, columns })?;

@@ -1,18 +1,19 @@
 //! The top call: from the words and the bytes in to the bytes out.
-ghost use Rattle.std.specs.Prelude.{◌≡◌, ◌↔◌, false, Err, IfOk, IfErr, IsErrOf, OnErr};
-ghost use Rattle.json_form.specs.Faults.{Fails};
+ghost use Rattle.std.specs.Prelude.{◌≡◌, ◌↔◌, false, Err, IfOk, IfErr, IsErrOf, IsTrue, OnErr};
+ghost use Rattle.json_form.specs.Faults.{Fails, Gives};
 ghost use Rattle.continuity_run.specs.Causes.{Rose};
-ghost use Rattle.continuity_run.specs.DocumentForm.{document_at};
-ghost use Rattle.continuity_run.specs.Documents.{IsDocument};
+ghost use Rattle.doc_reader.specs.Keeping.{IsDocument};
+ghost use Rattle.continuity_run.specs.Plain.{is_plain as is_plain_def, run_at};
 ghost use Rattle.continuity_run.specs.Clauses.{is_command as is_command_def, IsAnswer, IsReported, IsDone, IsCut, IsRead, IsRefused, Writes, WritesFront, IfDocument, IsBefore, IsReply};
 
-use crate::document::Document;
 use crate::outside::{Sink, Source};
-use crate::reading::{DOCUMENT_LIMIT, read_document};
+use crate::plain::is_plain;
 use crate::run::run_document;
 use crate::whole::{ReadError, read_to_limit, write_whole};
 use crate::writing::report_bytes;
+use doc_reader::{DOCUMENT_LIMIT, read_document};
 use json_form::{DocCode, DocFault, Pointer};
+use outage_schedule::Document;
 use std::alloc::Global;
 use svc_values::NoMemory;
 
@@ -63,7 +64,8 @@ fn is_command(words: &[String]) -> bool
 
 /// The text of the document's report.
 fn report_text(alloc: Global, document: Document) -> Result<Vec<u8>, NoMemory>
-    requires { IsDocument document }
+    requires document { IsDocument document }
+    requires plain { IsTrue (is_plain_def document) }
     ensures { IfOk result (λ text. IsReported document text.items) }
 {
     let report = run_document(alloc, document)?;
@@ -71,12 +73,25 @@ fn report_text(alloc: Global, document: Document) -> Result<Vec<u8>, NoMemory>
     Ok(text)
 }
 
+/// The document that the bytes are, if it is one that is run.
+fn plain_document(alloc: Global, bytes: &[u8]) -> Result<Document, DocFault>
+    ensures read { Gives result (run_at bytes.now) }
+    ensures document { IfOk result IsDocument }
+    ensures plain { IfOk result (λ document. IsTrue (is_plain_def document)) }
+{
+    let document = read_document(alloc, bytes)?;
+    if !is_plain(&document) {
+        return Err(DocFault::here(alloc, DocCode::NotBuilt));
+    }
+    Ok(document)
+}
+
 /// The text of the report of the document that the bytes are.
 fn answer(alloc: Global, bytes: &[u8]) -> Result<Vec<u8>, DocFault>
     ensures answered { IfOk result (λ text. IsAnswer bytes.now text.items) }
-    ensures refused { IfErr result (λ e. Fails e (document_at bytes.now)) }
+    ensures refused { IfErr result (λ e. Fails e (run_at bytes.now)) }
 {
-    let document = read_document(alloc, bytes)?;
+    let document = plain_document(alloc, bytes)?;
     match report_text(alloc, document) {
         Ok(text) => Ok(text),
         Err(NoMemory) => Err(DocFault::NoMemory),
@@ -95,7 +110,7 @@ fn respond<K: Sink>(alloc: Global, bytes: &[u8], sink: &mut K) -> Status
     ensures done { result ≡ Status.Done → Writes bytes.now (K.held sink.old) (K.held sink.new) }
     ensures cut { result ≡ Status.Write → WritesFront bytes.now (K.held sink.old) (K.held sink.new) }
     ensures write { result ≡ Status.Write → Rose (K.faults sink.old) (K.faults sink.new) }
-    ensures document { IfDocument result (λ fault. document_at bytes.now ≡ Err fault) }
+    ensures document { IfDocument result (λ fault. run_at bytes.now ≡ Err fault) }
     ensures untouched { IsBefore result → sink.new ≡ sink.old }
     ensures others { IsReply result }
 {

@@ -2,7 +2,7 @@
 use Rattle.std.proofs.Common.{◌≡◌, ℕ, ◌==◌, List, [], length, Bool, true, false, Option, Some, None, Result, Ok, Err, codes, refl, sym, ap, subst}
 use Rattle.std.specs.Prelude.{not, is_some, IfOk}
 use Rattle.serde_json.specs.Data.{Data}
-use Rattle.json_form.specs.declared.fault.DocCode.TheVariants.{Limit, Rule}
+use Rattle.json_form.specs.declared.fault.DocCode.TheVariants.{Limit, Rule, BadImage}
 use Rattle.json_form.specs.declared.fault.DocFault.{DocFault}
 use Rattle.json_form.specs.Faults.{Fault, ◌>>=◌, here, within, Gives}
 use Rattle.json_form.specs.Pointers.{escaped}
@@ -22,7 +22,8 @@ use Rattle.doc_reader.specs.Built.{built}
 use Rattle.doc_reader.specs.Tables.{tables_of, sequences_of}
 use Rattle.doc_reader.specs.Service.{service_of, usual_service}
 use Rattle.doc_reader.specs.Events.{schedule_of}
-use Rattle.doc_reader.specs.Images.{if_alone, image_of}
+use Rattle.commit_log.specs.Journals.{journal_of}
+use Rattle.doc_reader.specs.Images.{if_alone, is_store, if_store, image_of}
 use Rattle.doc_reader.specs.Counts.{is_small, if_small}
 use Rattle.doc_reader.specs.Documents.{is_alone, store_of, begin_of, document_with, clients_of, rest_of, document_members, document_of, limit, document_at}
 use Rattle.doc_reader.specs.Keeping.{is_service, is_begin, IsDocument}
@@ -32,13 +33,16 @@ use Rattle.doc_reader.proofs.ReadService.{service_read, usual_is}
 use Rattle.doc_reader.proofs.ReadScripts.{clients_read}
 use Rattle.doc_reader.proofs.ReadEvents.{AreEvents, schedule_read, no_events}
 
--- an image was read only where it stands alone
+-- an image was read only where it stands alone, and is that of a store
 abbrev Alone : Bool → Option (List ℕ) → Type 0
 Alone alone None = Unit {0}
-Alone alone (Some image) = alone ≡ true
+Alone alone (Some image) = (alone ≡ true) × (is_store (journal_of image) ≡ true)
+
+abbrev with_bytes : List ℕ → Result (Option (List ℕ)) Fault
+with_bytes bytes = if_store (journal_of bytes) >>= λ _. Ok (Some bytes)
 
 abbrev with_octets : List ℕ → Result (Option (List ℕ)) Fault
-with_octets text = octets_in text >>= λ bytes. Ok (Some bytes)
+with_octets text = octets_in text >>= with_bytes
 
 abbrev with_text : Bool → Data → Result (Option (List ℕ)) Fault
 with_text alone d = text_of d >>= λ text. if_alone alone >>= λ _. with_octets text
@@ -50,8 +54,9 @@ image_read alone d image h =
     let a = after (text_of d) (λ text. if_alone alone >>= λ _. with_octets text) image z.2 in
     let b = after (if_alone alone) (λ _. with_octets a.0) image a.2 in
     let p = passed alone (Ok tt) (here Rule) b.0 b.1 in
-    let c = after (octets_in a.0) (λ bytes. Ok (Some bytes)) image b.2 in
-    subst (Alone alone) {x = Some c.0} (ok_is (Some c.0) image c.2) p.0
+    let c = after (octets_in a.0) with_bytes image b.2 in
+    let j = after (if_store (journal_of c.0)) (λ _. Ok (Some c.0)) image c.2 in
+    subst (Alone alone) {x = Some c.0} (ok_is (Some c.0) image j.2) (p.0, (passed (is_store (journal_of c.0)) (Ok tt) (here BadImage) j.0 j.1).0)
 
 -- a member that is not there was not read
 missing : {A : Type 0} (name : List ℕ) (read : Data → Result (List A) Fault) (o : Option Data) (xs : List A) → not (is_some o) ≡ true → read_or name [] read o ≡ Ok xs → xs ≡ []
@@ -69,8 +74,8 @@ begins : (ms : Named) (tables : List DocTable) (sequences : List DocSequence) (i
     → Alone (is_alone ms) image → is_begin tables sequences image ≡ true
 begins ms tables sequences None ht hs is = refl
 begins ms tables sequences (Some image) ht hs is =
-    both_true _ _ (no_length tables (not_there (codes "tables") tables_of ms tables (first_true (not (has (codes "tables") ms)) (not (has (codes "sequences") ms)) is) ht))
-    (no_length sequences (not_there (codes "sequences") sequences_of ms sequences (second_true (not (has (codes "tables") ms)) (not (has (codes "sequences") ms)) is) hs))
+    both_true _ _ (no_length tables (not_there (codes "tables") tables_of ms tables (first_true (not (has (codes "tables") ms)) (not (has (codes "sequences") ms)) is.0) ht))
+    (both_true _ _ (no_length sequences (not_there (codes "sequences") sequences_of ms sequences (second_true (not (has (codes "tables") ms)) (not (has (codes "sequences") ms)) is.0) hs)) is.1)
 
 record IsStore (store : Store) : Type 0 where
   tables : AreTables store.tables

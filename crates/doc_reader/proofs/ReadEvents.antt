@@ -17,7 +17,8 @@ use Rattle.doc_reader.specs.declared.event.EventWord.TheVariants as word
 use Rattle.doc_reader.specs.Built.{built}
 use Rattle.doc_reader.specs.Calls.{call_of}
 use Rattle.doc_reader.specs.Events.{count_of, pick_of, lost_pick_of, go_of, serve_of, reap_of, cut_of, crash_of, upcrash_of, bare_of, outside_of, ltxid_of, ask_of, if_second, failover_of, event_words, event_by, event_of, schedule_of}
-use Rattle.doc_reader.specs.Keeping.{is_count, is_asked, is_event}
+use Rattle.doc_reader.specs.Numbers.{is_count, is_small_ltxid}
+use Rattle.doc_reader.specs.Keeping.{is_event}
 use Rattle.json_form.proofs.Offered.{after, ok_is, given, passed, part_read, each_long, read_array, all_read, both_true, second_true}
 use Rattle.doc_reader.proofs.ReadNumbers.{part_whole, whole_read}
 use Rattle.doc_reader.proofs.ReadScripts.{calls_read}
@@ -123,7 +124,7 @@ with_number ds incarnation session = part 2 count_of ds >>= λ number. Ok (recor
 abbrev with_session : Placed → ℕ → Result Ltxid Fault
 with_session ds incarnation = part 1 count_of ds >>= with_number ds incarnation
 
-ltxid_read : (d : Data) (x : Ltxid) → ltxid_of d ≡ Ok x → is_asked x ≡ true
+ltxid_read : (d : Data) (x : Ltxid) → ltxid_of d ≡ Ok x → is_small_ltxid x ≡ true
 unfolding ltxid_of
 ltxid_read d x h =
     let a = after (fixed 3 d) (λ ds. part 0 count_of ds >>= with_session ds) x h in
@@ -131,7 +132,7 @@ ltxid_read d x h =
     let c = after (part 1 count_of a.0) (with_number a.0 b.0) x b.2 in
     let e = after (part 2 count_of a.0) (λ number. Ok (record { incarnation = b.0; session = c.0; number = number })) x c.2 in
     let made : Ltxid = record { incarnation = b.0; session = c.0; number = e.0 } in
-    ap is_asked (sym (ok_is made x e.2)) ∙ both_true _ _ (count_read 0 a.0 b.0 b.1) (both_true _ _ (count_read 1 a.0 c.0 c.1) (count_read 2 a.0 e.0 e.1))
+    ap is_small_ltxid (sym (ok_is made x e.2)) ∙ both_true _ _ (count_read 0 a.0 b.0 b.1) (both_true _ _ (count_read 1 a.0 c.0 c.1) (count_read 2 a.0 e.0 e.1))
 
 ask_read : (clients : ℕ) (standby : Bool) (d : Data) (one : Event) → ask_of d ≡ Ok one → Fits clients standby one
 unfolding ask_of is_event

@@ -6,7 +6,7 @@ use Rattle.json_form.specs.Faults.{here}
 use Rattle.json_form.specs.Values.{number_of, in_limits, whole_of}
 use Rattle.json_form.specs.Arrays.{Placed, part}
 use Rattle.json_form.specs.Objects.{Named, optional}
-use Rattle.doc_reader.specs.Keeping.{is_between}
+use Rattle.doc_reader.specs.Numbers.{is_between}
 use Rattle.json_form.proofs.Offered.{after, ok_is, passed, part_read, optional_keeps}
 
 limits_read : (low high : ℕ) (z : ℤ) (n : ℕ) → in_limits low high z ≡ Ok n → is_between low high n ≡ true

@@ -16,7 +16,8 @@ use Rattle.outage_schedule.specs.declared.document.Request.{Request}
 use Rattle.outage_schedule.specs.declared.document.Client.{Client}
 use Rattle.doc_reader.specs.Calls.{call_of}
 use Rattle.doc_reader.specs.Scripts.{settings_of, is_one_transaction, if_submitted_rightly, request_of, client_of}
-use Rattle.doc_reader.specs.Keeping.{is_between, is_request, is_client}
+use Rattle.doc_reader.specs.Numbers.{is_between}
+use Rattle.doc_reader.specs.Keeping.{is_request, is_client}
 use Rattle.json_form.proofs.Offered.{after, ok_is, within_ok, passed, each_long, read_array, all_read, both_true}
 use Rattle.doc_reader.proofs.ReadNumbers.{member_whole}
 use Rattle.doc_reader.proofs.ReadCalls.{call_read}

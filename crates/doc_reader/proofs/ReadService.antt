@@ -11,7 +11,8 @@ use Rattle.doc_reader.specs.declared.service.Limits.{Limits}
 use Rattle.doc_reader.specs.declared.service.Shares.{Shares}
 use Rattle.doc_reader.specs.declared.service.Stores.{Stores}
 use Rattle.doc_reader.specs.Service.{usual_pool, usual_keep, pool_of, keep_of, words_of, limits_of, shares_of, standby_of, stores_of, service_with, service_members, service_of, usual_service}
-use Rattle.doc_reader.specs.Keeping.{is_between, is_service}
+use Rattle.doc_reader.specs.Numbers.{is_between}
+use Rattle.doc_reader.specs.Keeping.{is_service}
 use Rattle.json_form.proofs.Offered.{after, ok_is, both_true, optional_keeps}
 use Rattle.doc_reader.proofs.ReadNumbers.{member_whole}
 

@@ -1,5 +1,5 @@
 -- Forms of a document that are read only once there is what carries them out.
-use Rattle.std.specs.Prelude.{Bool, false, if◌then◌else◌, Result, Ok, Err, ⊤}
+use Rattle.std.specs.Prelude.{Bool, true, false, if◌then◌else◌, Result, Ok, Err, ⊤}
 use Rattle.json_form.specs.declared.fault.DocCode.TheVariants.{NotBuilt}
 use Rattle.json_form.specs.Faults.{Fault, here}
 use Rattle.doc_reader.specs.declared.built.LateForm.{LateForm}
@@ -8,7 +8,7 @@ use Rattle.doc_reader.specs.declared.built.LateForm.TheVariants as form
 -- which of them are read
 unfoldable pub is_built : LateForm → Bool
 is_built form.Index = false
-is_built form.Image = false
+is_built form.Image = true
 is_built form.Standby = false
 is_built form.Failover = false
 

@@ -4,7 +4,6 @@ use Rattle.std.specs.List.{list_all}
 use Rattle.std.specs.Str.{bytes_eq}
 use Rattle.json_form.specs.Arrays.{have_distinct_keys}
 use Rattle.svc_values.specs.declared.schema.Schema.{Schema}
-use Rattle.svc_values.specs.declared.entry.Ltxid.{Ltxid}
 use Rattle.svc_values.specs.Kinds.{row_fits, has_column}
 use Rattle.svc_values.specs.Same.{same_value}
 use Rattle.svc_values.specs.Schemas.{is_declared, key_of}
@@ -17,11 +16,11 @@ use Rattle.outage_schedule.specs.declared.document.Client.{Client}
 use Rattle.outage_schedule.specs.declared.document.Document.{Document}
 use Rattle.outage_schedule.specs.declared.event.Event.{Event}
 use Rattle.outage_schedule.specs.declared.event.Event.TheVariants as event
+use Rattle.commit_log.specs.Journals.{journal_of}
+use Rattle.doc_reader.specs.Numbers.{is_between, is_count, is_small_ltxid}
+use Rattle.doc_reader.specs.Images.{is_store}
 use Rattle.doc_reader.specs.Scripts.{is_one_transaction}
 use Rattle.doc_reader.specs.Counts.{is_small}
-
-abbrev pub is_between : ℕ → ℕ → ℕ → Bool
-is_between low high n = nat_le low n && nat_le n high
 
 -- the limits of the service's members
 unfoldable pub is_service : ServiceOf → Bool
@@ -49,13 +48,6 @@ is_request request =
 unfoldable pub is_client : Client → Bool
 is_client client = list_all is_request client.requests
 
-abbrev pub is_count : ℕ → Bool
-is_count n = nat_le n 4611686018427387904
-
--- an identifier that may be asked for
-abbrev pub is_asked : Ltxid → Bool
-is_asked x = is_count x.incarnation && (is_count x.session && is_count x.number)
-
 -- an image of 0 to 3; with a second store also 4 more, for a crash that leaves it alone
 abbrev pub is_pick : Bool → ℕ → Bool
 is_pick standby pick = nat_le pick 3 || (standby && nat_le pick 7)
@@ -71,13 +63,13 @@ is_event clients standby event.Up = true
 is_event clients standby (event.UpCrash after pick) = is_count after && nat_le pick 3
 is_event clients standby event.Tick = true
 is_event clients standby (event.Outside calls) = list_all is_made calls && is_between 1 1024 (length calls)
-is_event clients standby (event.Ask ltxid) = is_asked ltxid
+is_event clients standby (event.Ask ltxid) = is_small_ltxid ltxid
 is_event clients standby event.Drain = true
 
--- an image stands alone
+-- an image stands alone, and is that of a store
 abbrev pub is_begin : List DocTable → List DocSequence → Option (List ℕ) → Bool
 is_begin tables sequences None = true
-is_begin tables sequences (Some image) = (length tables == 0) && (length sequences == 0)
+is_begin tables sequences (Some image) = (length tables == 0) && ((length sequences == 0) && is_store (journal_of image))
 
 pub record IsDocument (document : Document) : Type 0 where
   pub service : IsTrue (is_service document.service)

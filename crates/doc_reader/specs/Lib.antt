@@ -11,3 +11,4 @@ pub mod Counts
 pub mod InnerCounting
 pub mod Documents
 pub mod Keeping
+pub mod Numbers

@@ -26,7 +26,7 @@ fn is_built(form: LateForm) -> bool
 {
     match form {
         LateForm::Index => false,
-        LateForm::Image => false,
+        LateForm::Image => true,
         LateForm::Standby => false,
         LateForm::Failover => false,
     }

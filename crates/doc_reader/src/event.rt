@@ -30,7 +30,7 @@ pub enum EventWord {
 }
 
 /// The greatest connection, number of bytes or of device calls, and part of an identifier: 2^62.
-const COUNT_LIMIT: u64 = 4_611_686_018_427_387_904;
+pub(crate) const COUNT_LIMIT: u64 = 4_611_686_018_427_387_904;
 
 /// Reads a connection, a number of bytes or of device calls, or a part of an identifier.
 struct CountReader;

@@ -1,14 +1,82 @@
 //! Reader of the image of a store.
 ghost use Rattle.std.specs.Prelude.{◌≡◌};
+ghost use Rattle.std.specs.List.{list_all};
 ghost use Rattle.json_form.specs.Faults.{Gives};
-ghost use Rattle.doc_reader.specs.Images.{image_of};
+ghost use Rattle.commit_log.specs.Journals.{journal_of};
+ghost use Rattle.doc_reader.specs.Numbers.{is_count as is_count_def, is_small_ltxid as is_small_ltxid_def};
+ghost use Rattle.doc_reader.specs.Images.{is_small_reservation, leaves_room as leaves_room_def, if_store, image_of};
 
 use crate::built::{LateForm, built};
+use crate::event::COUNT_LIMIT;
+use commit_log::{Journal, Log, LogFault, Reservation};
+use disk_model::MemDisk;
 use json_form::{DocCode, DocFault, Reader, octets_in, text_from};
 use outage_schedule::Image;
 use serde_json::Value as Json;
 use std::alloc::Global;
-use svc_values::Listed;
+use svc_values::{Entry, Listed, Ltxid};
+
+/// The greatest end of a reservation: 2^62.
+const RESERVATION_LIMIT: i64 = 4_611_686_018_427_387_904;
+
+fn is_count(number: u64) -> bool
+    ensures { result ≡ is_count_def number }
+{
+    number <= COUNT_LIMIT
+}
+
+fn is_small_ltxid(x: &Ltxid) -> bool
+    ensures { result ≡ is_small_ltxid_def x.now }
+{
+    is_count(x.incarnation) && is_count(x.session) && is_count(x.number)
+}
+
+fn have_small_ltxids(entries: &[Entry]) -> bool
+    ensures { result ≡ list_all (λ entry. is_small_ltxid_def entry.ltxid) entries.now }
+{
+    entries.iter().all(|entry| is_small_ltxid(&entry.ltxid))
+}
+
+fn are_small_ltxids(ltxids: &[Ltxid]) -> bool
+    ensures { result ≡ list_all is_small_ltxid_def ltxids.now }
+{
+    ltxids.iter().all(|x| is_small_ltxid(x))
+}
+
+fn are_small_reservations(reservations: &[Reservation]) -> bool
+    ensures { result ≡ list_all is_small_reservation reservations.now }
+{
+    reservations
+        .iter()
+        .all(|reservation| reservation.upto <= RESERVATION_LIMIT)
+}
+
+/// Whether the numbers of the journal leave room for a run.
+#[tactic(auto, unfolding(crate::specs::Images::leaves_room))]
+fn leaves_room(journal: &Journal) -> bool
+    ensures { result ≡ leaves_room_def journal.now }
+{
+    is_count(journal.incarnation)
+        && have_small_ltxids(journal.entries.as_slice())
+        && are_small_ltxids(journal.blocked.as_slice())
+        && are_small_reservations(journal.reserved.as_slice())
+}
+
+/// Refuses bytes that no run may begin with. They are read as a service reads its store, from a copy
+/// that is given back.
+fn judge(alloc: Global, bytes: &[u8]) -> Result<(), DocFault>
+    ensures { Gives result (if_store (journal_of bytes.now)) }
+{
+    let Ok(mut disk) = MemDisk::of(alloc, bytes) else {
+        return Err(DocFault::NoMemory);
+    };
+    match Log::read(alloc, &mut disk) {
+        Ok(journal) if leaves_room(&journal) => Ok(()),
+        Ok(_) | Err(LogFault::Damaged(_)) => Err(DocFault::here(alloc, DocCode::BadImage)),
+        Err(LogFault::NoMemory) => Err(DocFault::NoMemory),
+        Err(LogFault::Stopped) => unreachable!(),
+    }
+}
 
 /// Reads an image, which stands alone or beside tables or sequences.
 #[derive(Drop)]
@@ -27,6 +95,7 @@ impl Reader<Option<Image>> for ImageReader {
             return Err(DocFault::here(alloc, DocCode::Rule));
         }
         let bytes = octets_in(alloc, text.as_str())?;
+        judge(alloc, &bytes)?;
         Ok(Some(Listed::from_vec(bytes)))
     }
 }

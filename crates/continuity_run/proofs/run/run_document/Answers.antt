@@ -3,17 +3,18 @@ use Rattle.std.specs.List.{list_all}
 use Rattle.svc_values.specs.declared.call.Call.{Call}
 use Rattle.svc_values.specs.declared.schema.Schema.{Schema}
 use Rattle.table_store.specs.Stored.{Stored}
-use Rattle.continuity_run.specs.DocumentForm.{is_built}
+use Rattle.doc_reader.specs.Keeping.{schema_in}
+use Rattle.continuity_run.specs.Plain.{is_plain_call}
 use Rattle.continuity_run.specs.Headline.{calls_of, transcripts_of, table_at}
 use Rattle.continuity_run.specs.Progress.{run_seen}
 use Rattle.continuity_run.specs.Run.{run_of, start_run}
-use Rattle.continuity_run.specs.Start.{schema_in, shape_of, start_of}
-use Rattle.continuity_run.proofs.Reports.{script_built, headline, tables_shown}
+use Rattle.continuity_run.specs.Start.{shape_of, start_of}
+use Rattle.continuity_run.proofs.Reports.{plain_script, headline, tables_shown}
 use Rattle.continuity_run.proofs.run.run_document.Goals as goal
 
 pub run_calls-requires : goal.run_calls-requires
 run_calls-requires c =
-    subst (λ (calls : List Call). list_all is_built calls ≡ true) (sym (c.calls_of-calls.ensures ∙ ap calls_of c.as_slice.ensures)) (script_built c.args.document c.requires)
+    subst (λ (calls : List Call). list_all is_plain_call calls ≡ true) (sym (c.calls_of-calls.ensures ∙ ap calls_of c.as_slice.ensures)) (plain_script c.args.document c.requires.plain)
 
 pub returns : goal.returns
 returns c =

@@ -1,7 +1,8 @@
 use Rattle.std.proofs.Common.{◌≡◌, ◌++◌, map}
 use Rattle.std.specs.List.{flat_map}
 use Rattle.table_store.specs.Given.{plain}
-use Rattle.continuity_run.specs.Start.{schema_in, rows_of_table}
+use Rattle.doc_reader.specs.Keeping.{schema_in}
+use Rattle.continuity_run.specs.Start.{rows_of_table}
 use Rattle.continuity_run.proofs.start.gathered.Given as goal
 
 abbrev pub invariant-loop-table : goal.invariant-loop-table

@@ -4,7 +4,7 @@ use Rattle.svc_values.specs.declared.tables.PlainRow.{PlainRow}
 use Rattle.svc_values.specs.Fitting.{tables_fit}
 use Rattle.table_store.specs.Given.{plain}
 use Rattle.table_store.specs.Stored.{AreApart}
-use Rattle.continuity_run.specs.Start.{schema_in}
+use Rattle.doc_reader.specs.Keeping.{schema_in}
 use Rattle.continuity_run.proofs.StartRows.{start_fits, start_apart}
 use Rattle.continuity_run.proofs.start.start_of.Goals as goal
 
