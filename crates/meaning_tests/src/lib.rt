@@ -8,4 +8,6 @@ mod makers;
 #[cfg(test)]
 mod plain;
 #[cfg(test)]
+mod tables;
+#[cfg(test)]
 mod transactions;

@@ -5,8 +5,6 @@ mod row_map;
 mod select;
 mod shelves;
 mod tables;
-#[cfg(test)]
-mod tests;
 
 pub use row_map::RowMap;
 pub use tables::{TableRow, Tables};

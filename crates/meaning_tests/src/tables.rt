@@ -1,9 +1,11 @@
-use super::*;
+//! Committed tables: what writes leave, and how many rows a select answers.
+
 use std::alloc::Global;
 use std::test::Fail;
 use svc_values::{
     Column, Columns, Kind, Name, NoMemory, Row, Schema, Schemas, Test, Value, Write, Writes,
 };
+use table_store::Tables;
 
 /// The name of the only table.
 fn accounts(alloc: Global) -> Result<Name, Fail> {
