@@ -20,6 +20,7 @@ use Rattle.client_model.specs.declared.input.Wants.{Wants}
 use Rattle.client_model.specs.declared.input.Wants.TheVariants as wants
 use Rattle.client_model.specs.Terms.{Terms, Talk, Phase, Idle, Unbegun, Queued, Seeking, Greeting, Asked, Running, Replaying}
 use Rattle.client_model.specs.Talk.{Step, stands, quiet, fails, on_hello, on_waiting, waits_from, with_tried, lost_of, on_try_failed, loses as lost_to, takes as taken_by, wants_in}
+use Rattle.client_model.specs.Released.{has_slot}
 use Rattle.world_model.specs.Settings.{Setting}
 use Rattle.world_model.specs.Clients.{Step as Stepped, Doing, Client, client_at, with_client, script_at, reports_of, doing_at, heard, after_hold, after_step, past_of, step_at}
 use Rattle.world_model.specs.Machines.{Machine}
@@ -89,6 +90,12 @@ frame_out : (terms : Terms) (talk : Talk) (phase : Phase) (now : ℕ) → wants_
 frame_out terms talk (Queued from) now is = absurd (let none : ⊥ = cc in none)
 frame_out terms talk Unbegun now is = absurd (let none : ⊥ = cc in none)
 frame_out terms talk phase now is = refl
+
+pub frame_slot : (terms : Terms) (talk : Talk) (phase : Phase) (now : ℕ) → wants_in terms talk phase now ≡ wants.Frame → has_slot phase ≡ true
+frame_slot terms talk Idle now is = absurd (let none : ⊥ = cc in none)
+frame_slot terms talk Unbegun now is = absurd (let none : ⊥ = cc in none)
+frame_slot terms talk (Queued from) now is = absurd (let none : ⊥ = cc in none)
+frame_slot terms talk phase now is = refl
 
 gone_out : (phase : Phase) (event : ℕ) → is_waiting phase ≡ false → is_waiting (lost_to phase event) ≡ false
 gone_out Unbegun event out = absurd (let none : ⊥ = cc in none)
@@ -195,7 +202,7 @@ module _ (terms : Terms) (right : AreRight terms.rules) where
   taken_whole : (doing : Doing) (frame : Down) (alive : Bool) (tick : ℕ) → is_ready terms doing ≡ true → talk_ready alive terms (taken_by terms doing.talk doing.talk.phase frame alive tick).0 ≡ true
   taken_whole doing frame alive tick ready = takes_ready terms right doing.talk doing.talk.phase frame alive tick (doing_whole terms doing ready) (doing_records terms doing ready) (doing_left terms doing ready)
 
-  taken_out : (talk : Talk) (frame : Down) (alive : Bool) (tick : ℕ) → is_waiting talk.phase ≡ false → is_waiting (taken_by terms talk talk.phase frame alive tick).0.phase ≡ false
+  taken_out : (talk : Talk) (frame : Down) (alive : Bool) (tick : ℕ) → has_slot talk.phase ≡ true → is_waiting (taken_by terms talk talk.phase frame alive tick).0.phase ≡ false
   taken_out talk frame alive tick out =
       let step : Step = taken_by terms talk talk.phase frame alive tick in
       stays_out talk.phase (has_next talk) alive (is_hushed frame) step.0.phase step.1.send step.1.hold (said terms talk talk.phase frame alive tick refl) out
@@ -302,7 +309,7 @@ module _ (setting : Setting) (right : AreRight setting.terms.rules) (scripts : l
         let next : Doing = heard setting.terms m.event m.tick doing (Took reply.frame link.is_open) in
         unless_ready a m.clients number link.ended is.client next (taken_by setting.terms doing.talk doing.talk.phase reply.frame link.is_open m.tick).1.hold link.is_open refl is.here all
         (taken_whole setting.terms right doing reply.frame link.is_open m.tick ready)
-        (taken_out setting.terms right doing.talk reply.frame link.is_open m.tick (frame_out setting.terms doing.talk doing.talk.phase m.tick is.wants))
+        (taken_out setting.terms right doing.talk reply.frame link.is_open m.tick (frame_slot setting.terms doing.talk doing.talk.phase m.tick is.wants))
     goes_ready number _ (Loses doing connection link is on none closed) =
         let ready = is_now number doing wants.Frame is in
         let next : Doing = heard setting.terms m.event m.tick (record doing { connection = None }) (Gone (unwrap_or link.ended 0)) in

@@ -78,7 +78,7 @@ later_rest links pool after change connection (number ∷ numbers) drained all a
     (ap (λ (n : ℕ). not (nat_le number n)) drained ∙ both.1))
     (later_rest links pool after change connection numbers drained one.1 two.1)
 
-waits_hold : (terms : Terms) (talk : Talk) (from now : ℕ) → (on_waiting terms talk from now).1.hold ≡ hold.GiveBack → ⊥
+pub waits_hold : (terms : Terms) (talk : Talk) (from now : ℕ) → (on_waiting terms talk from now).1.hold ≡ hold.GiveBack → ⊥
 waits_hold terms talk from now is = by (nat_le terms.limits.wait (now - from)) is
   where
     by : (long : Bool) → (if long then fails talk false None (PoolWait from now) else (stands talk (Queued (Some from)), quiet)).1.hold ≡ hold.GiveBack → ⊥

@@ -1,14 +1,18 @@
 -- Of Hold, test by test, at the start and behind each event.
-use Rattle.std.proofs.Common.{◌≡◌, refl, true, length, ℕ, ◌+◌, List, [], ◌∷◌, map}
+use Rattle.std.proofs.Common.{◌≡◌, refl, true, length, ℕ, ◌+◌, List, [], ◌∷◌, map, sym, subst, ◌∙◌, cond, count_by, arith, ◌&&◌}
 use Rattle.std.specs.List.{list_all}
 use Rattle.outage_schedule.specs.declared.document.Client.{Client as Scripted}
 use Rattle.outage_schedule.specs.declared.document.Document.{Document}
 use Rattle.world_model.specs.Settings.{Setting, setting_of}
-use Rattle.world_model.specs.Clients.{resting}
+use Rattle.world_model.specs.Clients.{Client, resting}
+use Rattle.world_model.proofs.Tests.{le_to}
+use Rattle.std.proofs.lemmas.Bool.{and_from}
+use Rattle.std.proofs.lemmas.List.Sums.{sum_by-cons}
+use Rattle.std.specs.Prelude.{◌==◌, nat_le}
 use Rattle.world_model.specs.Traced.{courses_of_clients}
 use Rattle.world_model.specs.Reached.{traced_start}
 use Rattle.world_model.specs.KeptLaws.{IsKept}
-use Rattle.world_model.specs.Hold.{is_held, are_held, are_idle, are_opened}
+use Rattle.world_model.specs.Hold.{is_held, are_held, are_idle, slots_held, are_opened}
 use Rattle.world_model.proofs.Happened.{Followed, follow_happens, at_event}
 use Rattle.client_model.specs.declared.input.Wants.TheVariants as wants
 use Rattle.world_model.proofs.SentLinks.{IsHeld, slot_waits}
@@ -22,6 +26,8 @@ use Rattle.world_model.proofs.Courses.{all_courses_by, held_busy}
 use Rattle.world_model.proofs.Held.{held_now}
 use Rattle.world_model.proofs.HeldAll.{held_after}
 use Rattle.world_model.proofs.KeptWire.{all_orderly}
+use Rattle.world_model.proofs.SlotsLent.{holds_slot_now, slots_count}
+use Rattle.world_model.proofs.SlotsAll.{happens_lent}
 use Rattle.world_model.proofs.PoolOpened.{happens_opened, opened_kept}
 
 pub opened_law : IsKept are_opened
@@ -61,4 +67,26 @@ idle_law = record {
       (λ number doing is.
       ready_left old.setting.terms doing (known.ready number doing wants.Slot is) (waiting_unbegun doing.talk.phase (slot_waits old.setting.terms doing.talk doing.talk.phase old.machine.tick is.wants)))
       items left by.kind new.machine by.happens;
+}
+
+-- without a request in course no slot is held
+none_lent : (clients : List Scripted) → count_by holds_slot_now (map (λ client. resting client.requests []) clients) ≡ 0
+none_lent [] = refl
+none_lent (client ∷ clients) =
+    sum_by-cons (λ (one : Client). cond (holds_slot_now one) 1 0) (resting client.requests []) (map (λ one. resting one.requests []) clients) ∙ (zero_plus (count_by holds_slot_now (map (λ one. resting one.requests []) clients)) ∙ none_lent clients)
+  where
+    zero_plus : (n : ℕ) → 0 + n ≡ n
+    zero_plus n = omega arith
+
+pub lent_law : IsKept slots_held
+lent_law = record {
+  at_start = λ document.
+      let clients : List Client = map (λ client. resting client.requests []) document.clients in
+      subst (λ (n : ℕ). ((0 == n) && nat_le 0 document.service.pool.max) ≡ true) (sym (slots_count (setting_of document) 1 clients ∙ none_lent document.clients))
+      (and_from true (nat_le 0 document.service.pool.max) refl (le_to 0 document.service.pool.max (omega arith)));
+  at_event = λ granted before after old new event note items left one inv.
+      let by : Followed old.setting old.machine event note items left new.machine = follow_happens old.setting old.machine event note items left new.machine one.follows in
+      subst (λ (n : ℕ). ((new.machine.pool.lent == n) && nat_le new.machine.pool.lent new.machine.pool.max) ≡ true) (sym (slots_count new.setting 1 new.machine.clients))
+      (happens_lent old.setting (at_event old.machine)
+      (subst (λ (n : ℕ). ((old.machine.pool.lent == n) && nat_le old.machine.pool.lent old.machine.pool.max) ≡ true) (slots_count old.setting 1 old.machine.clients) inv.hold.lent) items left by.kind new.machine by.happens);
 }

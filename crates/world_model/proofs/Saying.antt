@@ -26,8 +26,9 @@ use Rattle.client_model.specs.Told.{Told, over, completed_on, repeated, is_late,
 use Rattle.client_model.specs.Told as told
 use Rattle.client_model.specs.States.{Living, Losing, Asking, Repeating, asked_on, resumed, next_of}
 use Rattle.client_model.specs.Verifying.{verified_more, mismatch, submitted}
-use Rattle.client_model.specs.Terms.{Terms, Talk, Phase, Idle, Greeting, Asked, Running, Replaying, unsubmitted}
+use Rattle.client_model.specs.Terms.{Terms, Talk, Phase, Idle, Unbegun, Queued, Greeting, Asked, Running, Replaying, unsubmitted}
 use Rattle.client_model.specs.Talk.{Step, if_alive, fails, talk_shown, with_shown, sends_call, sends_or_ends, next_call, begin_of, on_hello, on_reply, sends_marked, on_compared, on_repeated, after_completed, on_completed, on_told, takes}
+use Rattle.client_model.specs.Released.{has_slot}
 use Rattle.world_model.specs.Acting.{closing}
 use Rattle.world_model.specs.Parts.{implies}
 use Rattle.world_model.specs.Ready.{is_waiting, alters_none}
@@ -68,7 +69,7 @@ repeats_in _ = true
 -- What is sent in a phase, with the phase that it leads to, and what becomes of the connection. `left`: a call is left; `alive`: the connection is open;
 -- `hushed`: the frame that was taken ends the connection, and asks for nothing.
 pub data Spoken (before : Phase) (left alive hushed : Bool) : Phase → List Up → Hold → Type 0 where
-  Quiet : (phase : Phase) → (hushed || not alive) ≡ true → (is_waiting before ≡ false → is_waiting phase ≡ false) → Spoken before left alive hushed phase [] Keep
+  Quiet : (phase : Phase) → (hushed || not alive) ≡ true → (has_slot before ≡ true → has_slot phase ≡ true) → Spoken before left alive hushed phase [] Keep
   Fails : Spoken before left alive hushed Idle (if_alive alive (up.Close ∷ [])) Drop
   Ends : may_end before left ≡ true → Spoken before left alive hushed Idle (if_alive alive (up.End ∷ [])) (if alive then GiveBack else Drop)
   Asks : alive ≡ true → may_ask before ≡ true → (asking : Asking) → Spoken before left alive hushed (Asked asking) (up.Outcome asking.ltxid ∷ []) Keep
@@ -181,8 +182,8 @@ is_hushed _ = false
 
 -- at each frame that is taken
 pub said : (terms : Terms) (talk : Talk) (phase : Phase) (frame : Down) (alive : Bool) (now : ℕ) → talk.phase ≡ phase → IsSpoken phase (has_next talk) alive (is_hushed frame) (takes terms talk phase frame alive now)
-said terms talk phase down.Blocked alive now same = Quiet talk.phase refl (λ out. ap is_waiting same ∙ out)
-said terms talk phase (down.Refused cause) alive now same = Quiet talk.phase refl (λ out. ap is_waiting same ∙ out)
+said terms talk phase down.Blocked alive now same = Quiet talk.phase refl (λ slot. ap has_slot same ∙ slot)
+said terms talk phase (down.Refused cause) alive now same = Quiet talk.phase refl (λ slot. ap has_slot same ∙ slot)
 said terms talk (Greeting lost) (down.Hello ltxid) alive now same = said_hello terms talk lost ltxid alive now
 said terms talk (Asked asking) (down.OutcomeIs committed completed) alive now same = said_told asking (has_next talk) alive false terms talk now committed completed
 said terms talk (Asked asking) (down.OutcomeRefused ahead.Forgotten horizon) alive now same = Fails
@@ -190,14 +191,29 @@ said terms talk (Running state) (down.Reply answers draws ltxid) alive now same 
 said terms talk (Replaying state) (down.Reply answers draws ltxid) alive now same = said_repeated terms talk state (has_next talk) answers draws ltxid alive now (next_of state)
 said terms talk phase frame alive now same = Fails
 
+-- one with a slot does not wait for one
+slot_out : (phase : Phase) → has_slot phase ≡ true → is_waiting phase ≡ false
+slot_out Unbegun slot = absurd (let none : ⊥ = cc in none)
+slot_out (Queued from) slot = absurd (let none : ⊥ = cc in none)
+slot_out phase slot = refl
+
 -- a request that has a slot keeps one, or is over
-pub stays_out : (before : Phase) (left alive hushed : Bool) (phase : Phase) (send : List Up) (held : Hold) → Spoken before left alive hushed phase send held → is_waiting before ≡ false → is_waiting phase ≡ false
-stays_out before left alive hushed phase _ _ (Quiet _ hush stays) out = stays out
+pub stays_out : (before : Phase) (left alive hushed : Bool) (phase : Phase) (send : List Up) (held : Hold) → Spoken before left alive hushed phase send held → has_slot before ≡ true → is_waiting phase ≡ false
+stays_out before left alive hushed phase _ _ (Quiet _ hush stays) out = slot_out phase (stays out)
 stays_out before left alive hushed _ _ _ Fails out = refl
 stays_out before left alive hushed _ _ _ (Ends may) out = refl
 stays_out before left alive hushed _ _ _ (Asks opens may asking) out = refl
 stays_out before left alive hushed _ _ _ (Calls opens settings call state) out = refl
 stays_out before left alive hushed _ _ _ (Marks opens may settings one state is plain) out = refl
+
+pub stays_slot : (before : Phase) (left alive hushed : Bool) (phase : Phase) (send : List Up) (held : Hold) → Spoken before left alive hushed phase send held → has_slot before ≡ true → held ≡ Keep → has_slot phase ≡ true
+stays_slot before left alive hushed phase _ _ (Quiet _ hush stays) slot keep = stays slot
+stays_slot before left alive hushed _ _ _ Fails slot keep = absurd (let none : ⊥ = cc in none)
+stays_slot before left true hushed _ _ _ (Ends may) slot keep = absurd (let none : ⊥ = cc in none)
+stays_slot before left false hushed _ _ _ (Ends may) slot keep = absurd (let none : ⊥ = cc in none)
+stays_slot before left alive hushed _ _ _ (Asks opens may asking) slot keep = refl
+stays_slot before left alive hushed _ _ _ (Calls opens settings call state) slot keep = refl
+stays_slot before left alive hushed _ _ _ (Marks opens may settings one state is plain) slot keep = refl
 
 -- ON A DEAD CONNECTION ----------------------------------------------------------------------------
 
