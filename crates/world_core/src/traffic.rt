@@ -34,6 +34,18 @@ pub struct Traffic {
     pub(crate) pool: Pool,
 }
 
+/// These frames, and a Close behind them where the connection is to be closed.
+fn with_close(mut frames: Vec<Up>, closes: bool) -> Result<Vec<Up>, NoMemory>
+    requires { AllByRecursion IsMadeUp frames.items }
+    ensures all { IfOk result (λ all. all.items ≡ frames.items ++ closes_with closes) }
+    ensures made { IfOk result (λ all. AllByRecursion IsMadeUp all.items) }
+{
+    if closes {
+        frames.push(Up::Close)?;
+    }
+    Ok(frames)
+}
+
 impl Traffic {
     /// Before the first event, with a pool of so many slots. It takes no memory.
     pub fn new(alloc: Global, slots: u64) -> Traffic
@@ -160,7 +172,9 @@ impl Traffic {
         hold: Hold,
     ) -> Result<bool, NoMemory>
         requires { MayRelease self.old.pool number holds_slot hold }
-        ensures { IfOk result (λ closes. (m : Machine) → IsUnderway self.old m → (closes_with closes ≡ closing hold (give_back_answer m.pool number)) × IsUnderway self.new (record m { pool = released m.pool client number holds_slot hold })) }
+        ensures closing { IfOk result (λ closes. closes_with closes ≡ closing hold (give_back_answer self.old.pool number)) }
+        ensures others { (self.new.event ≡ self.old.event) × (self.new.connections ≡ self.old.connections) }
+        ensures released { OnOk result ((m : Machine) → IsUnderway self.old m → IsUnderway self.new (record m { pool = released m.pool client number holds_slot hold })) }
     {
         match hold {
             Hold::Keep => Ok(false),
@@ -172,10 +186,33 @@ impl Traffic {
         }
     }
 
+    /// What a client does at a step: its frames are sent, and the pool gets back what its request lets
+    /// go. A connection that is given back and not kept is closed. Tells how many frames were sent.
+    pub fn act(
+        &mut self,
+        client: u64,
+        number: u64,
+        holds_slot: bool,
+        send: Vec<Up>,
+        hold: Hold,
+    ) -> Result<u64, NoMemory>
+        requires release { MayRelease self.old.pool number holds_slot hold }
+        requires may { MaySend (connection_at self.old.connections.all.items number) (send.items ++ closing hold (give_back_answer self.old.pool number)) }
+        requires made { AllByRecursion IsMadeUp send.items }
+        ensures count { IfOk result (λ sent. sent ≡ length (send.items ++ closing hold (give_back_answer self.old.pool number))) }
+        ensures acted { OnOk result ((m : Machine) (sent : List Sent) → up_frames sent ≡ send.items ++ closing hold (give_back_answer self.old.pool number) → IsUnderway self.old m → IsUnderway self.new (record m { links = changed (sends m.event sent) m.links number; pool = released m.pool client number holds_slot hold })) }
+    {
+        let closes = self.release(client, number, holds_slot, hold)?;
+        let frames = with_close(send, closes)?;
+        self.send(number, &frames)?;
+        Ok(frames.len() as u64)
+    }
+
     /// A request ends whose connection is used no more: its slot is lost, or it leaves the queue.
     fn let_go(&mut self, client: u64, holds_slot: bool)
         requires { MayRelease self.old.pool 0 holds_slot Hold.Drop }
-        ensures { (m : Machine) → IsUnderway self.old m → IsUnderway self.new (record m { pool = released m.pool client 0 holds_slot Hold.Drop }) }
+        ensures others { (self.new.event ≡ self.old.event) × (self.new.connections ≡ self.old.connections) }
+        ensures released { (m : Machine) → IsUnderway self.old m → IsUnderway self.new (record m { pool = released m.pool client 0 holds_slot Hold.Drop }) }
     {
         if holds_slot {
             self.pool.lost();
