@@ -1,0 +1,17 @@
+mod Committing
+mod Cores
+mod Dealing
+mod Desks
+mod Drawing
+mod Frames
+mod Framing
+mod Gaining
+mod Lifting
+mod Plains
+mod Quiet
+mod Reaching
+mod Reserving
+mod Storeless
+mod Telling
+mod Worked
+mod Working

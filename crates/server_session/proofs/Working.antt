@@ -1,0 +1,367 @@
+-- A work call: what its statements leave, and its commit where it reaches one.
+use Rattle.std.proofs.Common.{◌≡◌, ◌≤◌, ◌+◌, inl, inr, ℕ, ℤ, Bool, true, false, List, [], ◌∷◌, ◌++◌, length, map, fold, refl, sym, ◌∙◌, ap, subst, arith, length-append, append-nil, append_assoc}
+use Rattle.std.proofs.lemmas.List.{length-map, map-append}
+use Rattle.std.specs.Prelude.{IsTrue, IfOk, Option, Some, Result, Ok, Err}
+use Rattle.disk_model.specs.Disk.{DiskState}
+use Rattle.svc_values.specs.declared.answer.Answer.{Answer}
+use Rattle.svc_values.specs.declared.call.Call.{Call}
+use Rattle.svc_values.specs.declared.call.Call.TheVariants as call
+use Rattle.svc_values.specs.declared.draw.Draw.{Draw}
+use Rattle.svc_values.specs.declared.frame.Down.{Down}
+use Rattle.svc_values.specs.declared.frame.Down.TheVariants as down
+use Rattle.svc_values.specs.declared.frame.Up.TheVariants as up
+use Rattle.svc_values.specs.declared.schema.Shape.{Shape}
+use Rattle.svc_values.specs.declared.statement.Statement.{Statement}
+use Rattle.svc_values.specs.declared.tables.PlainRow.{PlainRow}
+use Rattle.svc_values.specs.Calls.{IsMade, sequences_in}
+use Rattle.std.specs.List.{AllByRecursion}
+use Rattle.svc_values.specs.Endings.{ends_committed}
+use Rattle.svc_values.specs.Fitting.{writes_fit}
+use Rattle.canon_bytes.specs.Entries.{IsMadePiece}
+use Rattle.svc_values.specs.Tables.{with_writes}
+use Rattle.ltxid_book.specs.Sessions.{is_forgotten}
+use Rattle.mutable_values.specs.declared.grants.Grants.{Grants}
+use Rattle.mutable_values.specs.Sources.{Opening, names_of, reserved_to}
+use Rattle.table_store.specs.Stored.{Stored}
+use Rattle.table_txn.specs.declared.txn.Ran.{Ran}
+use Rattle.table_txn.specs.Readings.{AreReadings}
+use Rattle.table_txn.specs.Transactions.{Transaction, shape_of, meaning}
+use Rattle.commit_log.specs.declared.base.BaseSequence.{BaseSequence}
+use Rattle.commit_log.specs.declared.journal.Journal.{Journal}
+use Rattle.commit_log.specs.declared.journal.Reservation.{Reservation}
+use Rattle.commit_log.specs.declared.records.Record.{Record}
+use Rattle.commit_log.specs.declared.records.Record.TheVariants as kept
+use Rattle.commit_log.specs.Bases.{sequence_name, shape_of as shape_of_base}
+use Rattle.commit_log.specs.Growth.{HasAdded, with_records}
+use Rattle.commit_log.specs.Journals.{journal_of}
+use Rattle.commit_log.specs.Judging.{IsBookFor}
+use Rattle.commit_log.specs.Rules.{sessions_of, with_record}
+use Rattle.commit_log.proofs.Offered.{grown_then}
+use Rattle.stmt_meaning.specs.Asked.{kind_drawn}
+use Rattle.stmt_meaning.specs.Laws.{closed_by}
+use Rattle.stmt_meaning.specs.Meaning.{Meant, mean}
+use Rattle.stmt_meaning.specs.Reads.{Read, reads_at}
+use Rattle.stmt_meaning.proofs.Offered.{commits_last, sequences-few}
+use Rattle.server_model.specs.Base.{Sequence}
+use Rattle.server_model.specs.Core.{Core as Plain, committed}
+use Rattle.server_model.specs.Draws.{brought, DrawsAll, HaltsAt, BlockLost, BlockStands}
+use Rattle.server_model.specs.Outcomes.{Telling, Says, Stopped}
+use Rattle.server_model.specs.Sessions.{Sess, ended, piece_of, with_piece, with_work}
+use Rattle.server_model.specs.Serve.{Commits, Means, Works, Answers, Reaches, HaltsInDraw, IsWork, reply, with_opening}
+use Rattle.server_session.specs.declared.shared.Core.{Core}
+use Rattle.server_model.specs.declared.fault.ServeFault.{ServeFault}
+use Rattle.server_model.specs.declared.fault.ServeFault.TheVariants as fault
+use Rattle.server_session.specs.Adding.{HasGained, HasHalted, IsLeftOf}
+use Rattle.server_session.specs.Dealing.{AtDesk, IsPrepared, HasDealt, reserving, reservation_of}
+use Rattle.server_session.specs.Fits.{Fits, Belongs, IsSourceOf, sequence_of, tables_of}
+use Rattle.server_session.specs.Plain.{IsStored, IsPlain}
+use Rattle.server_session.specs.Running.{Ground, HasRunOver, HasHaltedOver, RunsOver}
+use Rattle.server_session.specs.Seen.{Seen, sess_of}
+use Rattle.server_session.specs.Serving.{HasServed, HasStopped, HasLacked, Serves, called_as, commits_as, told_of}
+use Rattle.server_session.proofs.Committing.{same_rows}
+use Rattle.server_session.proofs.Cores.{belongs_with, same_journal}
+use Rattle.server_session.proofs.Desks.{given_few, with_meant}
+use Rattle.server_session.proofs.Gaining.{gained_then, halted_then}
+use Rattle.server_session.proofs.Plains.{is_stored, reads_stored}
+use Rattle.server_session.proofs.Quiet.{made_more, noting}
+use Rattle.server_session.proofs.Reserving.{names_by, source_told}
+
+-- ---- a journal with reservations more
+
+abbrev pub with_reserved : Journal → List Reservation → Journal
+with_reserved journal more = record journal { reserved = journal.reserved ++ more }
+
+fold_reserving : (journal : Journal) (more : List Reservation) → fold with_record journal (reserving more) ≡ with_reserved journal more
+fold_reserving journal [] = ap (λ (l : List Reservation). let j : Journal = record journal { reserved = l } in j) (sym (append-nil journal.reserved))
+fold_reserving journal (one ∷ more) =
+    fold_reserving (with_record journal (kept.Reserved one)) more
+    ∙ ap (λ (l : List Reservation). let j : Journal = record journal { reserved = l } in j) (append_assoc journal.reserved (one ∷ []) more)
+
+-- the journal that an image reads as behind reservations
+reads_reserved : (old image : List ℕ) (journal : Journal) (more : List Reservation) → journal_of old ≡ Ok journal → HasAdded old (reserving more) image → journal_of image ≡ Ok (with_reserved journal more)
+reads_reserved old image journal more reads added =
+    added.journal ∙ ap (with_records (reserving more)) reads ∙ ap (λ (j : Journal). let r : Result Journal ℕ = Ok j in r) (fold_reserving journal more)
+
+bases_names : (journal : Journal) (bases : List BaseSequence) → map (λ (s : Sequence). s.name) (map (sequence_of journal) bases) ≡ map sequence_name bases
+bases_names journal [] = refl
+bases_names journal (one ∷ bases) = ap (λ (l : List (List ℕ)). one.name ∷ l) (bases_names journal bases)
+
+-- the plain server's core, its source elsewhere, beside such a journal
+stored_at : (plain : Plain) (journal : Journal) (more : List Reservation) (opening : Opening) (later : Journal) → IsStored plain journal → later ≡ with_reserved journal more → IsSourceOf opening later → IsStored (with_opening plain opening) later
+stored_at plain journal more opening later is e source = record {
+  shape = is.shape ∙ ap (λ (j : Journal). shape_of_base j.base) (sym e);
+  entries = is.entries ∙ ap (λ (j : Journal). j.entries) (sym e);
+  blocked = is.blocked ∙ ap (λ (j : Journal). j.blocked) (sym e);
+  alerts = is.alerts ∙ ap (λ (j : Journal). j.alerts) (sym e);
+  horizon = is.horizon ∙ ap (λ (j : Journal). j.horizon) (sym e);
+  tables = is.tables ∙ ap (λ (j : Journal). (tables_of j).rows) (sym e);
+  source = source;
+}
+
+module _ (statements : List Statement) (commit replay : Bool) (marks : List Draw) (now : ℕ) (old : Seen) (core : Core) (disk : DiskState) (fits : Fits core disk) (belongs : Belongs core old) where
+  abbrev pub called : Call
+  called = call.Work statements commit
+
+  abbrev pub most : ℕ
+  most = 1 + sequences_in (up.Call replay marks called)
+
+  abbrev pub ground : Ground
+  ground = record { tables = core.tables; settings = old.settings; txn = old.txn; statements = statements }
+
+  abbrev pub before : AtDesk
+  before = record { opening = core.source; left = brought core.grants core.source replay marks; log = core.log; disk = disk }
+
+  abbrev pub core_at : AtDesk → Core
+  core_at desk = record core { source = desk.opening; log = desk.log }
+
+  abbrev pub seen_at : Transaction → Seen
+  seen_at txn = record old { txn = txn }
+
+  pub prepared_here : IsPrepared core.source core.log disk
+  prepared_here = record { ready = fits.log; journal = fits.journal; reads = fits.reads; source = fits.source }
+
+  -- ---- the core after the draws
+
+  module _ (desk : AtDesk) (more : List Reservation) (gained : HasGained (reserving more) disk desk.disk) (prepared : IsPrepared desk.opening desk.log desk.disk) where
+    journal_is : prepared.journal ≡ with_reserved fits.journal more
+    journal_is = same_journal desk.disk.now.seen prepared.journal (with_reserved fits.journal more) prepared.reads (reads_reserved disk.now.seen desk.disk.now.seen fits.journal more fits.reads gained.added)
+
+    pub fits_at : Fits (core_at desk) desk.disk
+    fits_at = record {
+      log = prepared.ready;
+      journal = prepared.journal;
+      reads = prepared.reads;
+      tables = fits.tables ∙ ap tables_of (sym journal_is);
+      book = subst (λ (j : Journal). IsBookFor core.book j) (sym journal_is) (record { sessions = fits.book.sessions; blocks = fits.book.blocks });
+      source = prepared.source;
+      current = subst (λ (j : Journal). is_forgotten (sessions_of j) j.incarnation ≡ false) (sym journal_is) fits.current;
+    }
+
+    incarnation_at : desk.opening.incarnation ≡ core.source.incarnation
+    incarnation_at = prepared.source.incarnation ∙ ap (λ (j : Journal). j.incarnation) journal_is ∙ sym fits.source.incarnation
+
+    pub others_at : (other : Seen) → Belongs core other → Belongs (core_at desk) other
+    others_at other stays = belongs_with core (core_at desk) other refl incarnation_at refl stays
+
+    pub plain_at : (plain : Plain) → IsPlain plain core disk → IsPlain (with_opening plain desk.opening) (core_at desk) desk.disk
+    plain_at plain is = record {
+      stored = reads_stored (with_opening plain desk.opening) desk.disk.now.seen prepared.journal prepared.reads (stored_at plain fits.journal more desk.opening prepared.journal (is_stored plain core disk fits is) journal_is prepared.source);
+      opening = refl;
+      grants = is.grants;
+    }
+
+    pub belongs_at : (txn : Transaction) → IsTrue (writes_fit core.tables.schemas txn.writes) → txn.pieces ≡ old.txn.pieces → Belongs (core_at desk) (seen_at txn)
+    belongs_at txn writes pieces = record {
+      incarnation = belongs.incarnation ∙ sym incarnation_at;
+      number = belongs.number;
+      writes = writes;
+      calls = subst (AllByRecursion IsMadePiece) (sym pieces) belongs.calls;
+    }
+
+  -- ---- what the statements mean to the plain server
+
+  module _ (plain : Plain) (is : IsPlain plain core disk) where
+    stored_here : IsStored plain fits.journal
+    stored_here = is_stored plain core disk fits is
+
+    rows_here : core.tables.rows ≡ committed plain
+    rows_here = same_rows plain core disk fits stored_here
+
+    schemas_here : core.tables.schemas ≡ plain.base.shape.schemas
+    schemas_here = ap (λ (t : Stored). t.schemas) fits.tables ∙ sym (ap (λ (s : Shape). s.schemas) stored_here.shape)
+
+    names_here : names_of core.source.sequences ≡ plain.base.shape.sequences
+    names_here =
+        names_by core.source.sequences ∙ ap (map (λ (s : Sequence). s.name)) fits.source.sequences ∙ bases_names fits.journal fits.journal.base.sequences
+        ∙ sym (ap (λ (s : Shape). s.sequences) stored_here.shape)
+
+    shape_here : shape_of core.tables (names_of core.source.sequences) ≡ plain.base.shape
+    shape_here = λ i. record { schemas = schemas_here i; sequences = names_here i }
+
+    pub means_here : (reads : List Read) (draws : List Draw) (meant : Meant) → meaning core.tables (names_of core.source.sequences) old.settings old.txn statements draws ≡ Some meant → meant.rest ≡ []
+        → Means plain (sess_of old reads) called draws (record meant { answers = closed_by commit meant.answers })
+    means_here reads draws meant means used = record {
+      run =
+          let said = commits_last (shape_of core.tables (names_of core.source.sequences)) (with_writes core.tables.rows old.txn.writes) old.settings statements draws meant means commit in
+          subst (λ (s : Shape). mean s (with_writes (committed plain) old.txn.writes) old.settings called draws ≡ Some (record meant { answers = closed_by commit meant.answers })) shape_here
+          (subst (λ (rows : List PlainRow). mean (shape_of core.tables (names_of core.source.sequences)) (with_writes rows old.txn.writes) old.settings called draws ≡ Some (record meant { answers = closed_by commit meant.answers })) rows_here said);
+      used = used;
+    }
+
+    pub draws_here : (draws : List Draw) (opening : Opening) (left : List Draw) → DrawsAll now core.source (brought core.grants core.source replay marks) draws opening left
+        → DrawsAll now plain.opening (brought plain.base.grants plain.opening replay marks) draws opening left
+    draws_here draws opening left drawn =
+        subst (λ (g : Grants). DrawsAll now plain.opening (brought g plain.opening replay marks) draws opening left) (sym is.grants)
+        (subst (λ (o : Opening). DrawsAll now o (brought core.grants o replay marks) draws opening left) (sym is.opening) drawn)
+
+  -- ---- the statements ran
+
+  module _ (ran : Ran) (txn : Transaction) (desk : AtDesk) (over : HasRunOver now ground before ran txn desk) (answers : List Answer) (closed : answers ≡ closed_by commit ran.answers) where
+    few_here : length over.dealt.reservations ≤ sequences_in (up.Call replay marks called)
+    few_here =
+        let few = sequences-few (shape_of core.tables (names_of core.source.sequences)) (with_writes core.tables.rows old.txn.writes) old.settings (call.Work statements false) ran.draws over.run.meant over.run.means over.run.used true [] in
+        omega (arith, over.dealt.few, few)
+
+    abbrev meant_here : Meant
+    meant_here = record over.run.meant { answers = closed_by commit over.run.meant.answers }
+
+    answers_here : answers ≡ closed_by commit over.run.meant.answers
+    answers_here = closed ∙ ap (closed_by commit) over.run.answered
+
+    fits_now : Fits (core_at desk) desk.disk
+    fits_now = fits_at desk over.dealt.reservations over.dealt.gained over.dealt.prepared
+
+    pub fits_then : Fits (core_at desk) desk.disk
+    fits_then = fits_now
+
+    pub belongs_then : Belongs (core_at desk) (seen_at txn)
+    belongs_then = belongs_at desk over.dealt.reservations over.dealt.gained over.dealt.prepared txn over.fits over.run.same_pieces
+
+    abbrev reads_then : Plain → List Read → List Read
+    reads_then plain reads = reads ++ reads_at (committed plain) over.run.meant.reads
+
+    noted_then : (plain : Plain) (is : IsPlain plain core disk) (reads : List Read) → AreReadings old.txn.readings reads → AreReadings txn.readings (reads_then plain reads)
+    noted_then plain is reads noted = subst (λ (rows : List PlainRow). AreReadings txn.readings (reads ++ reads_at rows over.run.meant.reads)) (rows_here plain is) (over.run.was_read reads noted)
+
+    -- the session with its work, as the plain server has it
+    sess_then : (plain : Plain) (reads : List Read) → with_work (sess_of old reads) (committed plain) meant_here ≡ sess_of (seen_at txn) (reads_then plain reads)
+    sess_then plain reads = λ i. record {
+      ltxid = old.ltxid;
+      life = old.life;
+      settings = old.settings;
+      at_start = old.at_start;
+      pieces = sym over.run.same_pieces i;
+      writes = sym over.run.wrote i;
+      reads = reads_then plain reads;
+    }
+
+    -- it is answered, and its transaction goes on
+    pub answered : (told : Down) (new : Seen) → ends_committed answers ≡ false → IsMade called → told ≡ down.Reply answers ran.draws old.ltxid → new ≡ noting (seen_at txn) (piece_of called answers ran.draws)
+        → HasServed (called_as replay marks called now) most (Says told) old core disk new (core_at desk) desk.disk
+    answered told new open_still made said seen =
+        rw (said, seen) (record {
+          records = reserving over.dealt.reservations;
+          few = simp length-map (omega (arith, few_here));
+          gained = over.dealt.gained;
+          fits = fits_now;
+          belongs = let own = belongs_then in record { incarnation = own.incarnation; number = own.number; writes = own.writes; calls = made_more txn.pieces (piece_of called answers ran.draws) own.calls made };
+          others = λ other apart stays. others_at desk over.dealt.reservations over.dealt.gained over.dealt.prepared other stays;
+          steps = λ plain reads is noted. (
+            with_opening plain desk.opening,
+            (
+              plain_at desk over.dealt.reservations over.dealt.gained over.dealt.prepared plain is,
+              record { reads = reads_then plain reads; noted = noted_then plain is reads noted; steps = step plain is reads },
+            ),
+          );
+        })
+      where
+        works : (plain : Plain) (is : IsPlain plain core disk) (reads : List Read) (a : List Answer) → a ≡ closed_by commit over.run.meant.answers → ends_committed a ≡ false
+            → Works plain (sess_of old reads) replay marks called now (with_opening plain desk.opening) (with_piece (with_work (sess_of old reads) (committed plain) meant_here) called a ran.draws) (reply a ran.draws (sess_of old reads))
+        works plain is reads a e ends =
+            subst (λ (b : List Answer). Works plain (sess_of old reads) replay marks called now (with_opening plain desk.opening) (with_piece (with_work (sess_of old reads) (committed plain) meant_here) called b ran.draws) (reply b ran.draws (sess_of old reads))) (sym e)
+            (Answers desk.opening ran.draws desk.left meant_here (draws_here plain is ran.draws desk.opening desk.left over.dealt.draws) (means_here plain is reads ran.draws over.run.meant over.run.means over.run.used) (ap ends_committed (sym e) ∙ ends))
+
+        step : (plain : Plain) (is : IsPlain plain core disk) (reads : List Read)
+            → called_as replay marks called now plain (sess_of old reads) (with_opening plain desk.opening) (sess_of (noting (seen_at txn) (piece_of called answers ran.draws)) (reads_then plain reads)) (Says (down.Reply answers ran.draws old.ltxid))
+        step plain is reads =
+            subst (λ (s : Sess). called_as replay marks called now plain (sess_of old reads) (with_opening plain desk.opening) (with_piece s called answers ran.draws) (Says (down.Reply answers ran.draws old.ltxid))) (sess_then plain reads)
+            (IsWork statements commit _ _ _ (works plain is reads answers answers_here open_still))
+
+    -- a commit behind it is one of the call's
+    commits_on : (plain after : Plain) (is : IsPlain plain core disk) (reads : List Read) (t : Sess) (told : Telling) → ends_committed answers ≡ true
+        → Commits (with_opening plain desk.opening) (sess_of (seen_at txn) (reads_then plain reads)) replay called answers ran.draws after t told → called_as replay marks called now plain (sess_of old reads) after t told
+    commits_on plain after is reads t told ends commits =
+        let there = subst (λ (a : List Answer). Commits (with_opening plain desk.opening) (with_work (sess_of old reads) (committed plain) meant_here) replay called a ran.draws after t told) answers_here
+        (subst (λ (s : Sess). Commits (with_opening plain desk.opening) s replay called answers ran.draws after t told) (sym (sess_then plain reads)) commits) in
+        IsWork statements commit after t told
+        (Reaches desk.opening ran.draws desk.left meant_here after t told (draws_here plain is ran.draws desk.opening desk.left over.dealt.draws) (means_here plain is reads ran.draws over.run.meant over.run.means over.run.used) (ap ends_committed (sym answers_here) ∙ ends) there)
+
+    pub committed_on : (result : Result (Option Down) ServeFault) (new : Seen) (later : Core) (end : DiskState) → ends_committed answers ≡ true
+        → Serves (commits_as replay called answers ran.draws) 1 result (seen_at txn) (core_at desk) desk.disk new later end → Serves (called_as replay marks called now) most result old core disk new later end
+    committed_on (Ok told) new later end ends served = record {
+      records = reserving over.dealt.reservations ++ served.records;
+      few = simp (length-append, length-map) (omega (arith, few_here, served.few));
+      gained = gained_then disk desk.disk end (reserving over.dealt.reservations) served.records over.dealt.gained served.gained;
+      fits = served.fits;
+      belongs = served.belongs;
+      others = λ other apart stays. served.others other apart (others_at desk over.dealt.reservations over.dealt.gained over.dealt.prepared other stays);
+      steps = λ plain reads is noted.
+          let next = served.steps (with_opening plain desk.opening) (reads_then plain reads) (plain_at desk over.dealt.reservations over.dealt.gained over.dealt.prepared plain is) (noted_then plain is reads noted) in
+          let steps = next.1.1 in
+          (next.0, (next.1.0, record { reads = steps.reads; noted = steps.noted; steps = commits_on plain next.0 is reads (sess_of new steps.reads) (told_of told) ends steps.steps }));
+    }
+    committed_on (Err fault.NoMemory) new later end ends served = record {
+      records = reserving over.dealt.reservations ++ served.records;
+      few = simp (length-append, length-map) (omega (arith, few_here, served.few));
+      moments = grown_then disk desk.disk end disk.now.seen (reserving over.dealt.reservations) served.records over.dealt.gained.moments over.dealt.gained.added served.moments;
+    }
+    committed_on (Err fault.Stopped) new later end ends served = record {
+      records = reserving over.dealt.reservations ++ served.records;
+      last = served.last;
+      few = simp (length-append, length-map) (omega (arith, few_here, served.few));
+      halted = halted_then disk desk.disk end (reserving over.dealt.reservations) served.records served.last over.dealt.gained served.halted;
+      steps = λ plain reads is noted image left.
+          let next = served.steps (with_opening plain desk.opening) (reads_then plain reads) (plain_at desk over.dealt.reservations over.dealt.gained over.dealt.prepared plain is) (noted_then plain is reads noted) image left in
+          (next.0, (next.1.0, commits_on plain next.0 is reads (ended (sess_of old reads)) Stopped ends next.1.1));
+    }
+
+    -- no memory behind the run
+    pub lacked_on : HasLacked most disk desk.disk
+    lacked_on = record { records = reserving over.dealt.reservations; few = simp length-map (omega (arith, few_here)); moments = over.dealt.gained.moments }
+
+  -- ---- the store was stopped in a draw
+
+  halts_by : (h : AtDesk) (name : List ℕ) (upto : ℤ) (plain : Plain) (reads : List Read) (is : IsPlain plain core disk) (given more : List Draw) (next : Draw) (dealt : HasDealt now before given h) (meant : Meant)
+      → Means plain (sess_of old reads) called (given ++ next ∷ more) meant → HaltsAt now h.left (kind_drawn next) h.opening h.opening → HaltsAt now h.left (kind_drawn next) h.opening (reserved_to h.opening name upto)
+      → (image : List ℕ) → IsLeftOf disk.now.seen (reserving dealt.reservations) (kept.Reserved (reservation_of name upto)) image
+      → (after : Plain) × (IfOk (journal_of image) (IsStored after) × called_as replay marks called now plain (sess_of old reads) after (ended (sess_of old reads)) Stopped)
+  halts_by h name upto plain reads is given more next dealt meant means lost stands image (inl none) =
+      let journal = with_reserved fits.journal dealt.reservations in
+      let source : IsSourceOf h.opening journal = subst (λ (j : Journal). IsSourceOf h.opening j) (journal_is h dealt.reservations dealt.gained dealt.prepared) dealt.prepared.source in (
+        with_opening plain h.opening,
+        (
+          reads_stored (with_opening plain h.opening) image journal (reads_reserved disk.now.seen image fits.journal dealt.reservations fits.reads none)
+              (stored_at plain fits.journal dealt.reservations h.opening journal (is_stored plain core disk fits is) refl source),
+          IsWork statements commit _ _ _ (HaltsInDraw h.opening h.opening given next more h.left meant (draws_here plain is given h.opening h.left dealt.draws) means lost),
+        ),
+      )
+  halts_by h name upto plain reads is given more next dealt meant means lost stands image (inr one) =
+      let opening = reserved_to h.opening name upto in
+      let all = dealt.reservations ++ reservation_of name upto ∷ [] in
+      let journal = with_reserved fits.journal all in
+      let between : IsSourceOf h.opening (with_reserved fits.journal dealt.reservations) = subst (λ (j : Journal). IsSourceOf h.opening j) (journal_is h dealt.reservations dealt.gained dealt.prepared) dealt.prepared.source in
+      let more_reserved : ◌≡◌ {A = Journal} (with_record (with_reserved fits.journal dealt.reservations) (kept.Reserved (reservation_of name upto))) journal =
+      ap (λ (l : List Reservation). let j : Journal = record fits.journal { reserved = l } in j) (append_assoc fits.journal.reserved dealt.reservations (reservation_of name upto ∷ [])) in
+      let source : IsSourceOf opening journal = subst (λ (j : Journal). IsSourceOf opening j) more_reserved (source_told h.opening name upto (with_reserved fits.journal dealt.reservations) between) in
+      let added : HasAdded disk.now.seen (reserving all) image = subst (λ (l : List Record). HasAdded disk.now.seen l image) (sym (map-append (λ (r : Reservation). kept.Reserved r) dealt.reservations (reservation_of name upto ∷ []))) one in (
+        with_opening plain opening,
+        (
+          reads_stored (with_opening plain opening) image journal (reads_reserved disk.now.seen image fits.journal all fits.reads added) (stored_at plain fits.journal all opening journal (is_stored plain core disk fits is) refl source),
+          IsWork statements commit _ _ _ (HaltsInDraw h.opening opening given next more h.left meant (draws_here plain is given h.opening h.left dealt.draws) means stands),
+        ),
+      )
+
+  pub halted_on : (end : DiskState) → HasHaltedOver now ground before end → HasStopped (called_as replay marks called now) most old core disk end
+  halted_on end h =
+      let at = h.halted in
+      let dealt = h.dealt in
+      let few = given_few ground (names_of core.source.sequences) h.given (h.next ∷ h.more) h.asks in
+      let means = with_meant (meaning core.tables (names_of core.source.sequences) old.settings old.txn statements (h.given ++ h.next ∷ h.more)) h.asks in
+      let halts : HasHalted (reserving dealt.reservations) (kept.Reserved (reservation_of at.name at.upto)) disk end =
+      subst (λ (d : DiskState). HasHalted (reserving dealt.reservations) (kept.Reserved (reservation_of at.name at.upto)) disk d) h.ends
+      (subst (λ (l : List Record). HasHalted l (kept.Reserved (reservation_of at.name at.upto)) disk h.after.disk) (append-nil (reserving dealt.reservations))
+      (halted_then disk h.between.disk h.after.disk (reserving dealt.reservations) [] (kept.Reserved (reservation_of at.name at.upto)) dealt.gained at.halted)) in
+      record {
+        records = reserving dealt.reservations;
+        last = kept.Reserved (reservation_of at.name at.upto);
+        few = simp length-map (omega (arith, dealt.few, few));
+        halted = halts;
+        steps = λ plain reads is noted image left.
+            halts_by h.between at.name at.upto plain reads is h.given h.more h.next dealt _ (means_here plain is reads (h.given ++ h.next ∷ h.more) means.0 means.1.0 means.1.1)
+            (BlockLost at.name at.upto at.wanted) (BlockStands at.name at.upto at.wanted) image (halts.left image left);
+      }
+
+  -- the run was ended
+  pub ended_on : (error : ServeFault) (txn : Transaction) (after : AtDesk) (new : Seen) (later : Core) → RunsOver now ground most before (Err error) txn after → Serves (called_as replay marks called now) most (Err error) old core disk new later after.disk
+  ended_on fault.NoMemory txn after new later lacked = lacked
+  ended_on fault.Stopped txn after new later halted = halted_on after.disk halted

@@ -1,0 +1,11 @@
+pub mod Adding
+pub mod Dealing
+pub mod Desks
+pub mod Fits
+pub mod Lives
+pub mod Plain
+pub mod Running
+pub mod Seen
+pub mod Serving
+pub mod Stored
+pub mod Storing

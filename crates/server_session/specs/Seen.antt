@@ -1,0 +1,48 @@
+-- What is seen of a session.
+use Rattle.std.specs.Prelude.{Bool, true, false, List, [], Option, Some, None}
+use Rattle.svc_values.specs.declared.entry.Ltxid.{Ltxid}
+use Rattle.svc_values.specs.SettingsList.{NamedValues}
+use Rattle.stmt_meaning.specs.Reads.{Read}
+use Rattle.table_txn.specs.Transactions.{Transaction, empty}
+use Rattle.server_model.specs.Sessions.{Life, New, Ended, Sess}
+
+-- `ltxid` is the session's next identifier, and `at_start` are the settings before the first call of
+-- its transaction.
+pub record Seen : Type 0 where
+  pub ltxid : Ltxid
+  pub life : Life
+  pub settings : NamedValues
+  pub at_start : NamedValues
+  pub txn : Transaction
+
+-- the settings before a transaction's first call, where a call has changed them, and else those of now
+abbrev pub started_with : Option NamedValues → NamedValues → NamedValues
+started_with None now = now
+started_with (Some earlier) now = earlier
+
+-- as it is made
+abbrev pub begins : Ltxid → Seen
+begins ltxid = record { ltxid = ltxid; life = New; settings = []; at_start = []; txn = empty }
+
+-- the plain server's session, which read this
+abbrev pub sess_of : Seen → List Read → Sess
+sess_of seen reads = record {
+  ltxid = seen.ltxid;
+  life = seen.life;
+  settings = seen.settings;
+  at_start = seen.at_start;
+  pieces = seen.txn.pieces;
+  writes = seen.txn.writes;
+  reads = reads;
+}
+
+abbrev pub is_alive : Life → Bool
+is_alive Ended = false
+is_alive _ = true
+
+-- rolled back, with these settings
+abbrev pub begun_so : Seen → Life → NamedValues → Seen
+begun_so seen life settings = record { ltxid = seen.ltxid; life = life; settings = settings; at_start = settings; txn = empty }
+
+abbrev pub ended_so : Seen → Seen
+ended_so seen = begun_so seen Ended seen.settings
