@@ -133,7 +133,7 @@ pub record IsHad (t : Traced) (number : ℕ) : Type 0 where
   pub holders : holders_of (courses_of t) number ≤ 1
   pub either : holders_of (courses_of t) number + idle_of t number ≤ 1
 
-had_by : (opens : Bool) (holders idle : ℕ) → (if opens then holders + idle == 1 else ((idle == 0) && nat_le holders 1)) ≡ true → holders + idle ≤ 1
+pub had_by : (opens : Bool) (holders idle : ℕ) → (if opens then holders + idle == 1 else ((idle == 0) && nat_le holders 1)) ≡ true → holders + idle ≤ 1
 had_by true holders idle had = let sum : holders + idle ≡ 1 = eq_from (holders + idle) 1 had in omega arith
 had_by false holders idle had =
     let parts = and_parts (idle == 0) (nat_le holders 1) had in

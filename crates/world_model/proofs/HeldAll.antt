@@ -40,7 +40,7 @@ data IsStepOf (m : Machine) : Machine → Type 0 where
   NoStep : IsStepOf m m
   OneStep : (who : ℕ) (client : Client) (n : Machine) → client_at m.clients who ≡ Some client → Stepped m who client n → IsStepOf m n
 
-not_frame : (m : Machine) (number : ℕ) (wanted : Wants) (pool : Slots) → Tries m number wanted pool → wanted ≡ wants.Frame → ⊥
+pub not_frame : (m : Machine) (number : ℕ) (wanted : Wants) (pool : Slots) → Tries m number wanted pool → wanted ≡ wants.Frame → ⊥
 not_frame m number _ _ (FromQueue answer) is = let never : ⊥ = cc in never
 not_frame m number _ _ Again is = let never : ⊥ = cc in never
 

@@ -105,7 +105,7 @@ module _ (setting : Setting) (m : Machine)
       let same : begun setting.terms m.event m.tick request ≡ doing = cc in ap (λ (d : Doing). d.connection) (sym same)
   free_by who client doing None None here now does phase = absurd (let none : ⊥ = cc in none)
 
-  free : (who : ℕ) (doing : Doing) (wanted : Wants) → IsDoing setting m who doing wanted → (wanted ≡ wants.Frame → ⊥) → doing.connection ≡ None
+  pub free : (who : ℕ) (doing : Doing) (wanted : Wants) → IsDoing setting m who doing wanted → (wanted ≡ wants.Frame → ⊥) → doing.connection ≡ None
   free who doing wanted is other =
       free_by who is.client doing is.client.now is.client.next is.here refl is.does (slot_holds_none setting.terms doing.talk doing.talk.phase m.tick wanted is.wants other)
 

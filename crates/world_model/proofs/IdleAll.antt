@@ -85,7 +85,7 @@ waits_hold terms talk from now is = by (nat_le terms.limits.wait (now - from)) i
     by true is = let none : ⊥ = cc in none
     by false is = let none : ⊥ = cc in none
 
-fails_hold : (terms : Terms) (talk : Talk) (now : ℕ) → (on_try_failed terms talk now).1.hold ≡ hold.GiveBack → ⊥
+pub fails_hold : (terms : Terms) (talk : Talk) (now : ℕ) → (on_try_failed terms talk now).1.hold ≡ hold.GiveBack → ⊥
 fails_hold terms talk now is = by (nat_le terms.limits.retries (talk.tries + 1)) is
   where
     by : (many : Bool) → (if many then fails (with_tried talk now) false None (Retries (talk.tries + 1)) else (stands (with_tried talk now) (Seeking (lost_of talk.phase)), quiet)).1.hold ≡ hold.GiveBack → ⊥
@@ -93,7 +93,7 @@ fails_hold terms talk now is = by (nat_le terms.limits.retries (talk.tries + 1))
     by false is = let none : ⊥ = cc in none
 
 -- where a call is left, the request goes on
-lent_hold : (left alive hushed : Bool) (phase : Phase) (send : List Up) (held : Hold) → Spoken (Greeting None) left alive hushed phase send held → left ≡ true → held ≡ hold.GiveBack → ⊥
+pub lent_hold : (left alive hushed : Bool) (phase : Phase) (send : List Up) (held : Hold) → Spoken (Greeting None) left alive hushed phase send held → left ≡ true → held ≡ hold.GiveBack → ⊥
 lent_hold left alive hushed phase _ _ (Quiet _ hush stays) calls is = let none : ⊥ = cc in none
 lent_hold left alive hushed _ _ _ Fails calls is = let none : ⊥ = cc in none
 lent_hold true alive hushed _ _ _ (Ends may) calls is = let none : ⊥ = cc in none
@@ -102,7 +102,7 @@ lent_hold left alive hushed _ _ _ (Asks opens may asking) calls is = let none : 
 lent_hold left alive hushed _ _ _ (Calls opens settings one state) calls is = let none : ⊥ = cc in none
 lent_hold left alive hushed _ _ _ (Marks opens may settings one state next plain) calls is = let none : ⊥ = cc in none
 
-tried_rest : (m : Machine) (number : ℕ) (wanted : Wants) (pool : Slots) → Tries m number wanted pool → IsSameRest m.pool pool
+pub tried_rest : (m : Machine) (number : ℕ) (wanted : Wants) (pool : Slots) → Tries m number wanted pool → IsSameRest m.pool pool
 tried_rest m number _ _ (FromQueue answer) = opening_rest m.pool number answer
 tried_rest m number _ _ Again = record { idle = refl; drained = refl }
 

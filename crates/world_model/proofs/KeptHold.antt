@@ -12,7 +12,7 @@ use Rattle.std.specs.Prelude.{◌==◌, nat_le}
 use Rattle.world_model.specs.Traced.{courses_of_clients}
 use Rattle.world_model.specs.Reached.{traced_start}
 use Rattle.world_model.specs.KeptLaws.{IsKept}
-use Rattle.world_model.specs.Hold.{is_held, are_held, are_idle, slots_held, are_opened}
+use Rattle.world_model.specs.Hold.{are_had, is_held, are_held, are_idle, slots_held, are_opened}
 use Rattle.world_model.proofs.Happened.{Followed, follow_happens, at_event}
 use Rattle.client_model.specs.declared.input.Wants.TheVariants as wants
 use Rattle.world_model.proofs.SentLinks.{IsHeld, slot_waits}
@@ -28,6 +28,8 @@ use Rattle.world_model.proofs.HeldAll.{held_after}
 use Rattle.world_model.proofs.KeptWire.{all_orderly}
 use Rattle.world_model.proofs.SlotsLent.{holds_slot_now, slots_count}
 use Rattle.world_model.proofs.SlotsAll.{happens_lent}
+use Rattle.world_model.proofs.HadKept.{had_all}
+use Rattle.world_model.proofs.HadAll.{had_after}
 use Rattle.world_model.proofs.PoolOpened.{happens_opened, opened_kept}
 
 pub opened_law : IsKept are_opened
@@ -67,6 +69,19 @@ idle_law = record {
       (λ number doing is.
       ready_left old.setting.terms doing (known.ready number doing wants.Slot is) (waiting_unbegun doing.talk.phase (slot_waits old.setting.terms doing.talk doing.talk.phase old.machine.tick is.wants)))
       items left by.kind new.machine by.happens;
+}
+
+pub had_law : IsKept are_had
+had_law = record {
+  at_start = λ document. refl;
+  at_event = λ granted before after old new event note items left one inv.
+      let by : Followed old.setting old.machine event note items left new.machine = follow_happens old.setting old.machine event note items left new.machine one.follows in
+      let known : IsHeld old.setting (at_event old.machine) = held_now granted old inv in
+      had_all new
+      (had_after old inv.hold.had inv.hold.held known.idle (all_orderly old.machine.links inv.wire.sent inv.wire.replies inv.wire.handled inv.basic.life) inv.basic.ended
+      (λ number doing is.
+      ready_left old.setting.terms doing (known.ready number doing wants.Slot is) (waiting_unbegun doing.talk.phase (slot_waits old.setting.terms doing.talk doing.talk.phase old.machine.tick is.wants)))
+      items left by.kind new.machine by.happens (idle_law.at_event granted before after old new event note items left one inv));
 }
 
 -- without a request in course no slot is held

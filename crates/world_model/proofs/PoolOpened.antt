@@ -78,7 +78,7 @@ found_long change links number (Some link) = with_long links number (change link
 pub changed_long : (change : Link → Link) (links : List Link) (number : ℕ) → length (changed change links number) ≡ length links
 changed_long change links number = found_long change links number (link_at links number)
 
-each_long : (change : Link → Link) (links : List Link) (numbers : List ℕ) → length (fold (changed change) links numbers) ≡ length links
+pub each_long : (change : Link → Link) (links : List Link) (numbers : List ℕ) → length (fold (changed change) links numbers) ≡ length links
 each_long change links [] = refl
 each_long change links (number ∷ numbers) = each_long change (changed change links number) numbers ∙ changed_long change links number
 

@@ -1,19 +1,19 @@
 -- The pool counts the slots that requests hold, behind each event.
-use Rattle.std.proofs.Common.{◌≡◌, refl, sym, ap, subst, ◌∙◌, Bool, true, false, ℕ, suc, zero, ◌+◌, ◌-◌, ◌≤◌, ◌&&◌, cond, List, [], ◌∷◌, count_by, Option, Some, None, if◌then◌else◌, arith}
-use Rattle.std.specs.Prelude.{◌==◌, not, nat_le, slice_get, slice_set, drop}
+use Rattle.std.proofs.Common.{◌≡◌, refl, sym, ap, subst, ◌∙◌, Bool, true, false, ℕ, ◌+◌, ◌-◌, ◌≤◌, ◌&&◌, cond, List, [], ◌∷◌, count_by, Option, Some, if◌then◌else◌, arith}
+use Rattle.std.specs.Prelude.{◌==◌, not, nat_le, drop}
 use Rattle.std.specs.Option.{option_map_or}
 use Rattle.std.proofs.lemmas.Bool.{and_parts, and_from}
 use Rattle.std.proofs.lemmas.Bool.Decides.{nat_tests}
-use Rattle.std.proofs.lemmas.List.Sums.{sum_by-cons, sum_by-append}
 use Rattle.pool_core.specs.declared.answers.Take.TheVariants as take
 use Rattle.pool_core.specs.Slots.{Slots, joined, without, ahead_of, has_to_wait, lends, take_answer, after_take}
 use Rattle.client_model.specs.declared.act.Hold.{Hold}
 use Rattle.client_model.specs.declared.act.Hold.TheVariants as hold
 use Rattle.client_model.specs.Released.{has_slot, released}
 use Rattle.world_model.specs.Settings.{Setting}
-use Rattle.world_model.specs.Clients.{Past, Doing, Client, client_at, with_client, after_hold}
-use Rattle.world_model.specs.Traced.{Course, course_over, course_now, courses_from, courses_of_clients}
+use Rattle.world_model.specs.Clients.{Doing, Client, client_at, with_client, after_hold}
+use Rattle.world_model.specs.Traced.{Course, courses_of_clients}
 use Rattle.world_model.proofs.Tests.{eq_from, eq_to, le_from, le_to}
+use Rattle.world_model.proofs.Counts.{clients_count, with_count}
 
 -- COUNTS ------------------------------------------------------------------------------------------
 
@@ -24,57 +24,9 @@ slot_now now = option_map_or (λ doing. has_slot doing.talk.phase) now false
 abbrev pub holds_slot_now : Client → Bool
 holds_slot_now client = slot_now client.now
 
-abbrev course_slot : Course → Bool
-course_slot course = has_slot course.phase
-
-from_count : (setting : Setting) (client place : ℕ) (past : List Past) (now : Option Doing) → count_by course_slot (courses_from setting client place past now) ≡ cond (slot_now now) 1 0
-from_count setting client place [] None = refl
-from_count setting client place [] (Some doing) = sum_by-cons (λ (course : Course). cond (course_slot course) 1 0) (course_now setting client place doing) [] ∙ plus_zero (cond (has_slot doing.talk.phase) 1 0)
-  where
-    plus_zero : (n : ℕ) → n + 0 ≡ n
-    plus_zero n = omega arith
-from_count setting client place (one ∷ past) now =
-    sum_by-cons (λ (course : Course). cond (course_slot course) 1 0) (course_over client place one) (courses_from setting client (place + 1) past now)
-    ∙ (zero_plus (count_by course_slot (courses_from setting client (place + 1) past now)) ∙ from_count setting client (place + 1) past now)
-  where
-    zero_plus : (n : ℕ) → 0 + n ≡ n
-    zero_plus n = omega arith
-
-pub slots_count : (setting : Setting) (number : ℕ) (clients : List Client) → count_by course_slot (courses_of_clients setting number clients) ≡ count_by holds_slot_now clients
-slots_count setting number [] = refl
-slots_count setting number (client ∷ clients) =
-    sum_by-append (λ (course : Course). cond (course_slot course) 1 0) (courses_from setting number 0 client.past client.now) (courses_of_clients setting (number + 1) clients)
-    ∙ (ap (λ (n : ℕ). n + count_by course_slot (courses_of_clients setting (number + 1) clients)) (from_count setting number 0 client.past client.now)
-    ∙ (ap (λ (n : ℕ). cond (slot_now client.now) 1 0 + n) (slots_count setting (number + 1) clients) ∙ sym (sum_by-cons (λ (one : Client). cond (holds_slot_now one) 1 0) client clients)))
-
--- where one client goes on
-set_count : (clients : List Client) (index : ℕ) (client next : Client) → slice_get clients index ≡ Some client
-    → count_by holds_slot_now (slice_set clients index next) + cond (holds_slot_now client) 1 0 ≡ count_by holds_slot_now clients + cond (holds_slot_now next) 1 0
-set_count [] index client next is = absurd (let none : ⊥ = cc in none)
-set_count (first ∷ clients) zero client next is =
-    let same : first ≡ client = cc in
-    let one : count_by holds_slot_now (next ∷ clients) ≡ cond (holds_slot_now next) 1 0 + count_by holds_slot_now clients = sum_by-cons (λ (c : Client). cond (holds_slot_now c) 1 0) next clients in
-    let other : count_by holds_slot_now (first ∷ clients) ≡ cond (holds_slot_now first) 1 0 + count_by holds_slot_now clients = sum_by-cons (λ (c : Client). cond (holds_slot_now c) 1 0) first clients in
-    let slot : cond (holds_slot_now first) 1 0 ≡ cond (holds_slot_now client) 1 0 = ap (λ (c : Client). cond (holds_slot_now c) 1 0) same in
-    turned (cond (holds_slot_now first) 1 0) (cond (holds_slot_now client) 1 0) (cond (holds_slot_now next) 1 0) (count_by holds_slot_now clients) (count_by holds_slot_now (next ∷ clients)) (count_by holds_slot_now (first ∷ clients)) one other slot
-  where
-    turned : (a b c n x y : ℕ) → x ≡ c + n → y ≡ a + n → a ≡ b → x + b ≡ y + c
-    turned a b c n x y one other slot = omega arith
-set_count (first ∷ clients) (suc index) client next is =
-    let rest = set_count clients index client next is in
-    let one : count_by holds_slot_now (first ∷ slice_set clients index next) ≡ cond (holds_slot_now first) 1 0 + count_by holds_slot_now (slice_set clients index next) =
-    sum_by-cons (λ (c : Client). cond (holds_slot_now c) 1 0) first (slice_set clients index next) in
-    let other : count_by holds_slot_now (first ∷ clients) ≡ cond (holds_slot_now first) 1 0 + count_by holds_slot_now clients = sum_by-cons (λ (c : Client). cond (holds_slot_now c) 1 0) first clients in
-    turned (cond (holds_slot_now first) 1 0) (cond (holds_slot_now client) 1 0) (cond (holds_slot_now next) 1 0) (count_by holds_slot_now (slice_set clients index next)) (count_by holds_slot_now clients)
-    (count_by holds_slot_now (first ∷ slice_set clients index next)) (count_by holds_slot_now (first ∷ clients)) one other rest
-  where
-    turned : (a b c m n x y : ℕ) → x ≡ a + m → y ≡ a + n → m + b ≡ n + c → x + b ≡ y + c
-    turned a b c m n x y one other rest = omega arith
-
-pub with_count : (clients : List Client) (number : ℕ) (client next : Client) → client_at clients number ≡ Some client
-    → count_by holds_slot_now (with_client clients number next) + cond (holds_slot_now client) 1 0 ≡ count_by holds_slot_now clients + cond (holds_slot_now next) 1 0
-with_count clients zero client next is = absurd (let none : ⊥ = cc in none)
-with_count clients (suc index) client next is = set_count clients index client next is
+pub slots_count : (setting : Setting) (number : ℕ) (clients : List Client) → count_by (λ course. has_slot course.phase) (courses_of_clients setting number clients) ≡ count_by holds_slot_now clients
+slots_count setting number clients =
+    clients_count (λ (course : Course). has_slot course.phase) (λ (doing : Doing). has_slot doing.talk.phase) (λ client place past. refl) (λ same client place doing. refl) setting number clients
 
 -- THE POOL ----------------------------------------------------------------------------------------
 
@@ -166,7 +118,7 @@ pub slot_step : (setting : Setting) (clients : List Client) (number : ℕ) (clie
     → lent_test pool clients ≡ true → lent_test (released base number connection true held) (with_client clients number (after_hold setting number client next held)) ≡ true
 slot_step setting clients number client next held pool _ _ connection here (NoneTaken base lent max) had goes old =
     let after : List Client = with_client clients number (after_hold setting number client next held) in
-    let moved = with_count clients number client (after_hold setting number client next held) here in
+    let moved = with_count holds_slot_now clients number client (after_hold setting number client next held) here in
     let one : ◌≡◌ {A = ℕ} (cond (holds_slot_now client) 1 0) 1 = one_if (holds_slot_now client) had in
     let now : ◌≡◌ {A = ℕ} (cond (holds_slot_now (after_hold setting number client next held)) 1 0) (cond (slot_after held) 1 0) = ap (λ (test : Bool). cond test 1 0) (slot_kept setting number client next held goes) in
     let more : base.lent ≡ pool.lent + (1 - cond (holds_slot_now client) 1 0) = omega arith in
@@ -180,7 +132,7 @@ slot_step setting clients number client next held pool _ _ connection here (None
     (subst (λ (n : ℕ). (released base number connection true held).lent ≤ n) (sym released_is) (subst (λ (n : ℕ). n ≤ base.max) (sym (released_lent base number connection held)) (less_by held base.lent base.max below)))
 slot_step setting clients number client next held pool _ _ connection here (OneTaken base lent max room) had goes old =
     let after : List Client = with_client clients number (after_hold setting number client next held) in
-    let moved = with_count clients number client (after_hold setting number client next held) here in
+    let moved = with_count holds_slot_now clients number client (after_hold setting number client next held) here in
     let none : ◌≡◌ {A = ℕ} (cond (holds_slot_now client) 1 0) 0 = none_if (holds_slot_now client) had in
     let now : ◌≡◌ {A = ℕ} (cond (holds_slot_now (after_hold setting number client next held)) 1 0) (cond (slot_after held) 1 0) = ap (λ (test : Bool). cond test 1 0) (slot_kept setting number client next held goes) in
     let more : base.lent ≡ pool.lent + (1 - cond (holds_slot_now client) 1 0) = omega arith in
@@ -209,7 +161,7 @@ pub wait_step : (setting : Setting) (clients : List Client) (number : ℕ) (clie
     → lent_test (released base number connection false held) (with_client clients number (after_hold setting number client next held)) ≡ true
 wait_step setting clients number client next held pool _ connection here (NoneTaken base lent max) had never goes old =
     let after : List Client = with_client clients number (after_hold setting number client next held) in
-    let moved = with_count clients number client (after_hold setting number client next held) here in
+    let moved = with_count holds_slot_now clients number client (after_hold setting number client next held) here in
     let none : ◌≡◌ {A = ℕ} (cond (holds_slot_now client) 1 0) 0 = none_if (holds_slot_now client) had in
     let later : ◌≡◌ {A = ℕ} (cond (holds_slot_now (after_hold setting number client next held)) 1 0) 0 = none_if (holds_slot_now (after_hold setting number client next held)) (no_slot setting number client next held goes) in
     let count = lent_count pool clients old in

@@ -1,0 +1,5 @@
+use Rattle.world_model.proofs.KeptHold.{had_law}
+use Rattle.world_model.proofs.laws.connections_are_had.Goals as goal
+
+pub returns : goal.returns
+returns c = had_law
