@@ -46,13 +46,13 @@ slot_none terms talk Idle now is = refl
 slot_none terms talk Unbegun now is = refl
 slot_none terms talk phase now is = absurd (let none : ⊥ = cc in none)
 
-try_slot : (terms : Terms) (talk : Talk) (phase : Phase) (now : ℕ) → wants_in terms talk phase now ≡ wants.Try → has_slot phase ≡ true
+pub try_slot : (terms : Terms) (talk : Talk) (phase : Phase) (now : ℕ) → wants_in terms talk phase now ≡ wants.Try → has_slot phase ≡ true
 try_slot terms talk Idle now is = absurd (let none : ⊥ = cc in none)
 try_slot terms talk Unbegun now is = absurd (let none : ⊥ = cc in none)
 try_slot terms talk (Queued from) now is = absurd (let none : ⊥ = cc in none)
 try_slot terms talk phase now is = refl
 
-gone_slot : (phase : Phase) (event : ℕ) → has_slot phase ≡ true → has_slot (lost_to phase event) ≡ true
+pub gone_slot : (phase : Phase) (event : ℕ) → has_slot phase ≡ true → has_slot (lost_to phase event) ≡ true
 gone_slot (Greeting lost) event slot = refl
 gone_slot (Asked asking) event slot = refl
 gone_slot (Running state) event slot = refl
@@ -62,12 +62,21 @@ gone_slot Unbegun event slot = slot
 gone_slot (Queued from) event slot = slot
 gone_slot (Seeking lost) event slot = slot
 
+-- where a try fails it goes on with its slot
+pub fails_slot : (setting : Setting) (talk : Talk) (now : ℕ) → (on_try_failed setting.terms talk now).1.hold ≡ hold.Keep → has_slot (on_try_failed setting.terms talk now).0.phase ≡ true
+fails_slot setting talk now kept = by (nat_le setting.terms.limits.retries (talk.tries + 1)) kept
+  where
+    by : (many : Bool) → (if many then fails (with_tried talk now) false None (Retries (talk.tries + 1)) else (stands (with_tried talk now) (Seeking (lost_of talk.phase)), quiet)).1.hold ≡ hold.Keep
+        → has_slot (if many then fails (with_tried talk now) false None (Retries (talk.tries + 1)) else (stands (with_tried talk now) (Seeking (lost_of talk.phase)), quiet)).0.phase ≡ true
+    by true kept = absurd (let none : ⊥ = cc in none)
+    by false kept = refl
+
 -- the request in course, or one that begins
 slot_by : (setting : Setting) (m : Machine) (doing : Doing) (now : Option Doing) (next : Option Request) → option_or now (option_map (begun setting.terms m.event m.tick) next) ≡ Some doing → has_slot doing.talk.phase ≡ false → slot_now now ≡ false
 slot_by setting m doing (Some one) next does none = let same : one ≡ doing = cc in ap (λ (d : Doing). has_slot d.talk.phase) same ∙ none
 slot_by setting m doing None next does none = refl
 
-held_by : (setting : Setting) (m : Machine) (doing : Doing) (now : Option Doing) (next : Option Request) → option_or now (option_map (begun setting.terms m.event m.tick) next) ≡ Some doing → has_slot doing.talk.phase ≡ true → slot_now now ≡ true
+pub held_by : (setting : Setting) (m : Machine) (doing : Doing) (now : Option Doing) (next : Option Request) → option_or now (option_map (begun setting.terms m.event m.tick) next) ≡ Some doing → has_slot doing.talk.phase ≡ true → slot_now now ≡ true
 held_by setting m doing (Some one) next does slot = let same : one ≡ doing = cc in ap (λ (d : Doing). has_slot d.talk.phase) same ∙ slot
 held_by setting m doing None (Some request) does slot =
     let same : begun setting.terms m.event m.tick request ≡ doing = cc in
@@ -132,14 +141,6 @@ module _ (setting : Setting) (m : Machine) (old : lent_test m.pool m.clients ≡
       by true = refl
       by false = refl
 
-  fails_slot : (talk : Talk) (now : ℕ) → (on_try_failed setting.terms talk now).1.hold ≡ hold.Keep → has_slot (on_try_failed setting.terms talk now).0.phase ≡ true
-  fails_slot talk now kept = by (nat_le setting.terms.limits.retries (talk.tries + 1)) kept
-    where
-      by : (many : Bool) → (if many then fails (with_tried talk now) false None (Retries (talk.tries + 1)) else (stands (with_tried talk now) (Seeking (lost_of talk.phase)), quiet)).1.hold ≡ hold.Keep
-          → has_slot (if many then fails (with_tried talk now) false None (Retries (talk.tries + 1)) else (stands (with_tried talk now) (Seeking (lost_of talk.phase)), quiet)).0.phase ≡ true
-      by true kept = absurd (let none : ⊥ = cc in none)
-      by false kept = refl
-
   -- a connection that has ended is lost in the same event
   lost_lent : (a : Machine) (who : ℕ) (client : Client) (next : Doing) (ended : Option ℕ) (held : Hold) → client_at m.clients who ≡ Some client → a.clients ≡ after_step setting m.clients who next held → lent_test a.pool a.clients ≡ true
       → (held ≡ hold.Keep → has_slot next.talk.phase ≡ true) → lent_test (lost_at_once setting a who ended (doing_at a.clients who)).pool (lost_at_once setting a who ended (doing_at a.clients who)).clients ≡ true
@@ -195,7 +196,7 @@ module _ (setting : Setting) (m : Machine) (old : lent_test m.pool m.clients ≡
       let next : Doing = heard setting.terms m.event m.tick doing TryFailed in
       let took = tried number doing wanted pool is tries in
       placed m.clients (released pool number (connection_of doing) true step.1.hold) number is.client next step.1.hold is.here
-      (slot_step setting m.clients number is.client next step.1.hold m.pool took.taken pool (connection_of doing) is.here took.takes took.had (fails_slot doing.talk m.tick) old)
+      (slot_step setting m.clients number is.client next step.1.hold m.pool took.taken pool (connection_of doing) is.here took.takes took.had (fails_slot setting doing.talk m.tick) old)
   goes_lent number _ (Takes doing connection link reply left is on down) =
       let step : Step = taken_by setting.terms doing.talk doing.talk.phase reply.frame link.is_open m.tick in
       let next : Doing = heard setting.terms m.event m.tick doing (Took reply.frame link.is_open) in

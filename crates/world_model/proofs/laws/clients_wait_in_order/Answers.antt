@@ -1,0 +1,5 @@
+use Rattle.world_model.proofs.KeptQueue.{queue_law}
+use Rattle.world_model.proofs.laws.clients_wait_in_order.Goals as goal
+
+pub returns : goal.returns
+returns c = queue_law
