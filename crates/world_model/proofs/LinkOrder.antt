@@ -74,7 +74,7 @@ crashed_stopped up.Close one e = absurd (let none : ⊥ = cc in none)
 crashed_stopped (up.Call replay kept call) one e = absurd (let none : ⊥ = cc in none)
 crashed_stopped (up.Outcome x) one e = absurd (let none : ⊥ = cc in none)
 
-same_some : (a b : Option Down) → same_replies a b ≡ true → is_some a ≡ is_some b
+pub same_some : (a b : Option Down) → same_replies a b ≡ true → is_some a ≡ is_some b
 same_some None None same = refl
 same_some (Some a) (Some b) same = refl
 same_some None (Some b) same = absurd (let none : ⊥ = cc in none)

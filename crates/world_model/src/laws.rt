@@ -4,6 +4,7 @@ ghost use Rattle.world_model.specs.KeptLaws.{IsKept, IsKeptOfCalls, BasicBegins,
 ghost use Rattle.world_model.specs.Wire.{sent_fronts, reply_fronts, are_handled, in_grammar, one_out, answered_in_order, up_lives, are_fresh};
 ghost use Rattle.world_model.specs.Ready.{are_ready};
 ghost use Rattle.world_model.specs.Hold.{are_had, are_queued, are_held, are_idle, slots_held, are_opened};
+ghost use Rattle.world_model.specs.Number.{are_served_near};
 ghost use Rattle.world_model.specs.Basic.{have_risen, kept_ticks, items_rise, items_differ, is_down, are_ended, sessions_differ, are_made, are_counted, are_named, living_now, commits_counted, lives};
 
 /// The items of a connection are in the order of their events, which are past. An event has one item.
@@ -120,4 +121,9 @@ pub fn connections_are_had()
 /// The clients that wait for a slot are in the pool's queue, in the order in which they waited first, each once, and no others are.
 pub fn clients_wait_in_order()
     ensures { IsKept are_queued }
+{}
+
+/// As many answered frames were served on a connection as replies were taken, or one more.
+pub fn served_frames_are_near()
+    ensures { IsKept are_served_near }
 {}
