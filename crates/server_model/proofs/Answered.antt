@@ -35,7 +35,7 @@ last-with : (before : Option Answer) (first : Answer) (more : List Answer) (last
 last-with before first [] last = refl
 last-with before first (next ∷ more) last = last-with (Some first) next more last
 
-not-committed : (answers : List Answer) (last : Answer) → is_committed last ≡ false → ends_committed (with_last answers last) ≡ false
+pub not-committed : (answers : List Answer) (last : Answer) → is_committed last ≡ false → ends_committed (with_last answers last) ≡ false
 not-committed [] last not = refl
 not-committed (first ∷ more) last not = ap (λ a. option_map_or is_committed a false) (last-with None first more last) ∙ not
 

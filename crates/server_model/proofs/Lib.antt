@@ -23,12 +23,14 @@ pub mod LegalFrames
 pub mod LegalRuns
 pub mod LegalServed
 pub mod LegalWhole
+pub mod Marked
 pub mod MeetsCommit
 pub mod NewAbove
 pub mod NewLater
 pub mod NewOnce
 pub mod NumberRuns
 pub mod Numbers
+pub mod Offered
 pub mod PlainAnswers
 pub mod Raising
 pub mod Ran

@@ -140,6 +140,12 @@ AnswersStand = (base : Base) (history : List Happened) (server : Server) → Run
     → Contains history (Served session now (up.Call false kept called) (Says (down.Reply answers draws x))) → ends_committed answers ≡ true
     → (entry : Entry) × (Contains server.core.entries entry × ((session ≡ session_of entry.ltxid) × (entry.ltxid.number + 1 ≡ x.number)))
 
+-- A marked call is answered Committed in no run.
+abbrev pub MarkedStoresNone : Type 0
+MarkedStoresNone = (base : Base) (history : List Happened) (server : Server) → Runs base history server
+    → (session : SessionId) (now : ℕ) (kept : List Draw) (called : Call) (answers : List Answer) (draws : List Draw) (x : Ltxid)
+    → Contains history (Served session now (up.Call true kept called) (Says (down.Reply answers draws x))) → ends_committed answers ≡ false
+
 -- An identifier that was told uncommitted is blocked, in this run and in every later one.
 abbrev pub TellsUncommitted : Ltxid → Happened → Type 0
 TellsUncommitted x (Served session now (up.Outcome y) (Says (down.OutcomeIs false completed))) = x ≡ y
@@ -205,6 +211,10 @@ pub record StoresRight (seen : Seen) : Type 0 where
 -- Whatever has a history of the plain server stores right,
 abbrev pub ServiceStores : Type 0
 ServiceStores = (seen : Seen) → IsSound seen.start → IsHistory seen → StoresRight seen
+
+-- each identifier that it blocked is its session's next one,
+abbrev pub ServiceStands : Type 0
+ServiceStands = (seen : Seen) → IsSound seen.start → IsHistory seen → BlocksStand (map committed_of seen.state.store.entries) seen.state.store.blocked
 
 -- and it serves right.
 pub record ServesRight (seen : Seen) : Type 0 where

@@ -1,5 +1,5 @@
 //! Laws of the plain server. Each function does nothing, and its contract is the law.
-ghost use Rattle.server_model.specs.Laws.{ServeGrows, ServeStays, RunsForget, RunsSerial, RunsStand, NeverAfterBlock, EntryNumbers, EntryFromItem, AnswersStand, BlocksAreStored, TellsNext, TellsOutcomes, TellsAsks, RunsAlerts, RunsTold, RunsLegal, RunsFreshNew, RunsFront, ServiceStores, ServiceRuns};
+ghost use Rattle.server_model.specs.Laws.{ServeGrows, ServeStays, RunsForget, RunsSerial, RunsStand, NeverAfterBlock, EntryNumbers, EntryFromItem, AnswersStand, MarkedStoresNone, BlocksAreStored, TellsNext, TellsOutcomes, TellsAsks, RunsAlerts, RunsTold, RunsLegal, RunsFreshNew, RunsFront, ServiceStores, ServiceStands, ServiceRuns};
 
 /// A frame stores no entry, or one of its session, under its identifier, which is not blocked. It
 /// leaves the base, the incarnation and which session it is.
@@ -33,6 +33,11 @@ pub fn runs_store()
     ensures entries { EntryFromItem }
     ensures answers { AnswersStand }
     ensures blocks { BlocksAreStored }
+{}
+
+/// A call that is repeated in a replay commits nothing: it is answered Committed in no run.
+pub fn marked_calls_store_none()
+    ensures { MarkedStoresNone }
 {}
 
 /// A Hello and a Reply carry their session's next identifier, and outcomes are told by the table, each at
@@ -76,6 +81,11 @@ pub fn runs_front()
 /// order, none of them blocked.
 pub fn service_stores()
     ensures { ServiceStores }
+{}
+
+/// Each identifier that such a store has blocked is still its session's next one, in what it held before too.
+pub fn service_stands()
+    ensures { ServiceStands }
 {}
 
 /// Whatever has such a history serves right, too, where nothing of an opening was served behind a stop:
