@@ -13,6 +13,7 @@ use Rattle.world_model.specs.Basic.{Basic}
 use Rattle.world_model.specs.Wire.{Wire}
 use Rattle.world_model.specs.Invariant.{Invariant}
 use Rattle.world_model.specs.OneEvent.{OneEvent}
+use Rattle.world_model.specs.Coupled.{Coupled}
 use Rattle.world_model.specs.Reached.{traced_start}
 
 -- a test of the state
@@ -27,6 +28,10 @@ pub record IsKeptOfCalls (test : Traced → Bool) : Type 0 where
   pub at_event : (document : Document) → IsTrue (all_have_calls document)
       → (granted : Draw → Bool) (before after : Seen) (old new : Traced) (event : Event) (note : Note) (items left : List Served)
       → old.setting ≡ setting_of document → OneEvent before old event note items left after new → Invariant granted old → IsTrue (test new)
+
+-- a test of each state that has a service beside it: of the start of a run, and of the state behind each of its events
+abbrev pub IsOfService : (Traced → Bool) → Type 0
+IsOfService test = (seen : Seen) (t : Traced) → Coupled seen t → IsTrue (test t)
 
 -- the first record as a whole
 abbrev pub BasicBegins : Type 0

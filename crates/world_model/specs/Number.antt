@@ -1,14 +1,17 @@
 -- InvNumber: the identifier held on a connection, and how often its session committed.
-use Rattle.std.specs.Prelude.{ℕ, ◌+◌, ◌==◌, ◌&&◌, ◌||◌, Bool, true, false, not, if◌then◌else◌, nat_le, IsTrue, List, [], ◌∷◌, length, drop, None, is_some}
+use Rattle.std.specs.Prelude.{ℕ, ◌+◌, ◌==◌, ◌&&◌, ◌||◌, Bool, true, false, not, if◌then◌else◌, nat_le, IsTrue, List, [], ◌∷◌, length, drop, fold, Option, None, is_some}
 use Rattle.std.specs.List.{list_all, list_any, last_or}
-use Rattle.std.specs.Option.{option_map_or}
+use Rattle.std.specs.Option.{option_or, option_map_or}
 use Rattle.svc_values.specs.declared.entry.Ltxid.{Ltxid}
 use Rattle.svc_values.specs.declared.entry.Entry.{Entry}
 use Rattle.svc_values.specs.declared.entry.SessionId.{SessionId}
 use Rattle.outage_schedule.specs.declared.item.Item.{Item}
 use Rattle.outage_schedule.specs.declared.item.Item.TheVariants as item
 use Rattle.svc_values.specs.Identifiers.{is_of_session, session_of}
-use Rattle.world_model.specs.Links.{Link}
+use Rattle.client_model.specs.declared.input.Input.TheVariants.{Took}
+use Rattle.world_model.specs.Frames.{Reply}
+use Rattle.world_model.specs.Links.{Link, told_by}
+use Rattle.world_model.specs.Hold.{same_held}
 use Rattle.world_model.specs.Serving.{is_commit}
 use Rattle.world_model.specs.Traced.{Traced}
 use Rattle.outage_schedule.specs.declared.note.AskResult.TheVariants as told
@@ -45,7 +48,19 @@ is_counted t link = (number_of t.entries link == link.commits) || ((number_of t.
 abbrev pub are_counted : Traced → Bool
 are_counted t = list_all (is_counted t) t.machine.links
 
--- N1c: h(k) is the number in the last reply that was taken: all Committed replies that were taken are counted in it
+-- N1c: what is held is the identifier of the last reply taken that tells one: all Committed replies that were taken are counted in it
+abbrev pub told_in : Option Ltxid → Reply → Option Ltxid
+told_in held reply = option_or (told_by (Took reply.frame true)) held
+
+abbrev pub last_told : List Reply → Option Ltxid
+last_told taken = fold told_in None taken
+
+abbrev pub is_told : Link → Bool
+is_told link = same_held (last_told link.taken) link.held
+
+abbrev pub are_told : Traced → Bool
+are_told t = list_all is_told t.machine.links
+
 -- N2: ahead by one: the frame that is out was served and committed, or was stopped, and no other commit call is left to be served
 abbrev pub made_entry : Item → Bool
 made_entry one = is_commit one || is_stopped_call one
@@ -113,6 +128,7 @@ none_blocked t = list_all (λ entry. not (holds t.blocked entry.ltxid)) t.entrie
 pub record Number (t : Traced) : Type 0 where
   pub near : IsTrue (are_near t)
   pub counted : IsTrue (are_counted t)
+  pub told : IsTrue (are_told t)
   pub served : IsTrue (are_served_near t)
   pub ahead : IsTrue (are_ahead t)
   pub blocks : IsTrue (blocks_next t)

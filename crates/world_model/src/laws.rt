@@ -1,10 +1,10 @@
 //! What of the invariant holds of the start and is kept in each event, if the whole invariant held before it. Each law is the
 //! clause of a function with nothing to run.
-ghost use Rattle.world_model.specs.KeptLaws.{IsKept, IsKeptOfCalls, BasicBegins, BasicIsKept, WireBegins, WireIsKept};
+ghost use Rattle.world_model.specs.KeptLaws.{IsKept, IsKeptOfCalls, IsOfService, BasicBegins, BasicIsKept, WireBegins, WireIsKept};
 ghost use Rattle.world_model.specs.Wire.{sent_fronts, reply_fronts, are_handled, in_grammar, one_out, answered_in_order, up_lives, are_fresh};
 ghost use Rattle.world_model.specs.Ready.{are_ready};
 ghost use Rattle.world_model.specs.Hold.{are_had, are_queued, are_held, are_idle, slots_held, are_opened};
-ghost use Rattle.world_model.specs.Number.{are_served_near};
+ghost use Rattle.world_model.specs.Number.{are_told, are_served_near, blocks_next};
 ghost use Rattle.world_model.specs.Basic.{have_risen, kept_ticks, items_rise, items_differ, is_down, are_ended, sessions_differ, are_made, are_counted, are_named, living_now, commits_counted, lives};
 
 /// The items of a connection are in the order of their events, which are past. An event has one item.
@@ -123,7 +123,17 @@ pub fn clients_wait_in_order()
     ensures { IsKept are_queued }
 {}
 
+/// The identifier that is held on a connection is that of the last reply taken that tells one.
+pub fn last_identifier_is_held()
+    ensures { IsKept are_told }
+{}
+
 /// As many answered frames were served on a connection as replies were taken, or one more.
 pub fn served_frames_are_near()
     ensures { IsKept are_served_near }
+{}
+
+/// A blocked identifier is still its session's next one, in each state with a service beside it.
+pub fn blocks_are_next()
+    ensures { IsOfService blocks_next }
 {}
