@@ -111,9 +111,13 @@ record Sound (bytes : ℕ) (journal : Journal) (is_opened : Bool) : Type 0 where
   reservations : AreReservations journal.base.sequences journal.reserved
   few : 16 * length journal.reserved ≤ bytes
 
+-- where no horizon was stored it is 0
+abbrev pub IsUnset : Bool → Journal → Type 0
+IsUnset has_horizon journal = has_horizon ≡ false → journal.horizon ≡ 0
+
 abbrev IsSound : ℕ → SoFar → Type 0
 IsSound bytes Empty = Unit {0}
-IsSound bytes (Begun journal is_opened has_horizon) = Sound bytes journal is_opened
+IsSound bytes (Begun journal is_opened has_horizon) = Sound bytes journal is_opened × IsUnset has_horizon journal
 
 first_sound : (bytes : ℕ) (base : Base) → is_base base ≡ true → Sound bytes (new_journal base) false
 first_sound bytes base is = record {
@@ -229,17 +233,26 @@ module _ (bytes n : ℕ) (journal : Journal) (is_opened has_horizon : Bool) (sou
   sound_with (kept.Alert line) may long = after_alert line
   sound_with (kept.Horizon horizon) may long = after_horizon horizon may
 
+unset_with : (journal : Journal) (has_horizon : Bool) (one : Record) → IsUnset has_horizon journal → IsUnset (has_horizon || is_horizon one) (with_record journal one)
+unset_with journal has_horizon (kept.Base base) unset e = unset (sym (or-false has_horizon) ∙ e)
+unset_with journal has_horizon (kept.Opened incarnation) unset e = unset (sym (or-false has_horizon) ∙ e)
+unset_with journal has_horizon (kept.Commit entry) unset e = unset (sym (or-false has_horizon) ∙ e)
+unset_with journal has_horizon (kept.Blocked x) unset e = unset (sym (or-false has_horizon) ∙ e)
+unset_with journal has_horizon (kept.Reserved reservation) unset e = unset (sym (or-false has_horizon) ∙ e)
+unset_with journal has_horizon (kept.Alert line) unset e = unset (sym (or-false has_horizon) ∙ e)
+unset_with journal has_horizon (kept.Horizon horizon) unset e = absurd (let none : true ≡ false = sym (or-true has_horizon) ∙ e in let never : ⊥ = cc in never)
+
 sound_next : (bytes n : ℕ) (so_far next : SoFar) (one : Record) → IsSound bytes so_far → after so_far one ≡ Some next → ((reservation : Reservation) → one ≡ kept.Reserved reservation → 7 ≤ n) → IsSound (bytes + (9 + n)) next
 sound_next bytes n Empty next (kept.Base base) sound e long = by (is_base base) refl e
   where
     by : (b : Bool) → is_base base ≡ b → (if b then Some (Begun (new_journal base) false false) else None) ≡ Some next → IsSound (bytes + (9 + n)) next
-    by true is h = let same : Begun (new_journal base) false false ≡ next = cc in subst (IsSound (bytes + (9 + n))) same (first_sound (bytes + (9 + n)) base is)
+    by true is h = let same : Begun (new_journal base) false false ≡ next = cc in subst (IsSound (bytes + (9 + n))) same (first_sound (bytes + (9 + n)) base is, λ e. refl)
     by false is h = absurd (let none : ⊥ = cc in none)
 sound_next bytes n Empty next one sound e long = absurd (let none : ⊥ = cc in none)
 sound_next bytes n (Begun journal is_opened has_horizon) next one sound e long = by (may_come journal is_opened has_horizon one) refl e
   where
     by : (b : Bool) → may_come journal is_opened has_horizon one ≡ b → (if b then Some (Begun (with_record journal one) (is_opened || is_opening one) (has_horizon || is_horizon one)) else None) ≡ Some next → IsSound (bytes + (9 + n)) next
-    by true may h = let same : Begun (with_record journal one) (is_opened || is_opening one) (has_horizon || is_horizon one) ≡ next = cc in subst (IsSound (bytes + (9 + n))) same (sound_with bytes n journal is_opened has_horizon sound one may long)
+    by true may h = let same : Begun (with_record journal one) (is_opened || is_opening one) (has_horizon || is_horizon one) ≡ next = cc in subst (IsSound (bytes + (9 + n))) same (sound_with bytes n journal is_opened has_horizon sound.0 one may long, unset_with journal has_horizon one sound.1)
     by false may h = absurd (let none : ⊥ = cc in none)
 
 -- ---- all records
@@ -276,4 +289,10 @@ each_keeps image journal e =
     let begun = begun_of (so_far_of image) journal e in
     let read = read_of image (Begun journal begun.0 begun.1) begun.2 in
     let sound = sound_on 0 8 Empty (Begun journal begun.0 begun.1) read.records tt read.judges in
-    kept_in image (0 + length (spelling_of read.records)) journal begun.0 (omega (arith, records_within image read.records read.are)) sound
+    kept_in image (0 + length (spelling_of read.records)) journal begun.0 (omega (arith, records_within image read.records read.are)) sound.0
+
+-- of a journal that was read
+pub unset_in : (image : List ℕ) (journal : Journal) (is_opened has_horizon : Bool) → so_far_of image ≡ Ok (Begun journal is_opened has_horizon) → IsUnset has_horizon journal
+unset_in image journal is_opened has_horizon e =
+    let read = read_of image (Begun journal is_opened has_horizon) e in
+    (sound_on 0 8 Empty (Begun journal is_opened has_horizon) read.records tt read.judges).1

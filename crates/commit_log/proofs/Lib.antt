@@ -9,4 +9,5 @@ pub mod Committing
 pub mod Reserving
 pub mod Misfits
 pub mod Opening
+pub mod Raising
 pub mod Offered

@@ -34,7 +34,8 @@ has_one false journal horizon e = absurd cc
 not_above : (a b : ℕ) → nat_lt a b ≡ false → max a b ≡ a
 not_above a b e = omega (arith, ltb-false a b e)
 
-stays_greater : (journal : Journal) (has_horizon : Bool) (horizon : ℕ) → rises journal has_horizon horizon ≡ false → max journal.horizon horizon ≡ journal.horizon
+-- a horizon that does not rise is below the one that there is
+pub stays_greater : (journal : Journal) (has_horizon : Bool) (horizon : ℕ) → rises journal has_horizon horizon ≡ false → max journal.horizon horizon ≡ journal.horizon
 stays_greater journal true horizon e = not_above journal.horizon horizon e
 stays_greater journal false horizon e = absurd cc
 

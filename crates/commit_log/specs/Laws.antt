@@ -1,11 +1,13 @@
 -- How stores grow, and which journal a log has.
-use Rattle.std.specs.Prelude.{◌≡◌, ℕ, List, [], ◌++◌, Ok}
+use Rattle.std.specs.Prelude.{◌≡◌, ℕ, max, List, [], ◌++◌, fold, Ok}
 use Rattle.disk_model.specs.Disk.{DiskState}
 use Rattle.redo_store.specs.Records.{records_of, record_count}
+use Rattle.commit_log.specs.declared.journal.Journal.{Journal}
 use Rattle.commit_log.specs.declared.records.Record.{Record}
 use Rattle.commit_log.specs.declared.log.Log.{Log}
-use Rattle.commit_log.specs.Journals.{journal_of}
-use Rattle.commit_log.specs.Growth.{HasAdded, IsGrown}
+use Rattle.commit_log.specs.Rules.{with_record}
+use Rattle.commit_log.specs.Journals.{so_far_of, journal_of}
+use Rattle.commit_log.specs.Growth.{HasAdded, IsGrown, first_of_opening}
 use Rattle.commit_log.specs.Logs.{count_of, CanLog}
 
 -- an image with no record more has grown by none of any records
@@ -31,3 +33,9 @@ AddsOn =
 -- the journal of a log is the one that the disk holds, and it counts the disk's records
 abbrev pub HasItsJournal : Type 0
 HasItsJournal = (log : Log) (disk : DiskState) (ready : CanLog log disk) → (journal_of disk.now.seen ≡ Ok ready.journal) × (count_of log ≡ record_count (records_of disk.now.seen))
+
+-- What an opening stores first makes the horizon the greater one, of the store's and the wanted.
+abbrev pub RaisesHorizon : Type 0
+RaisesHorizon =
+    (image : List ℕ) (journal : Journal) (horizon : ℕ) → journal_of image ≡ Ok journal
+    → fold with_record journal (first_of_opening horizon (so_far_of image)) ≡ record journal { horizon = max journal.horizon horizon }

@@ -1,5 +1,5 @@
 //! Laws of the definitions. Each function does nothing, and its contract is the law.
-ghost use Rattle.commit_log.specs.Laws.{GrowsByNone, GrowsByMore, GrowsOn, AddsOn, HasItsJournal};
+ghost use Rattle.commit_log.specs.Laws.{GrowsByNone, GrowsByMore, GrowsOn, AddsOn, HasItsJournal, RaisesHorizon};
 ghost use Rattle.commit_log.specs.Keeping.{EachKeeps, FrontsAreJournals};
 
 /// A store that has grown by some records goes on to grow.
@@ -20,4 +20,9 @@ pub fn has_its_journal()
 pub fn keeps_journal()
     ensures keeps { EachKeeps }
     ensures fronts { FrontsAreJournals }
+{}
+
+/// What an opening stores first makes the horizon the greater one, of the store's and the wanted.
+pub fn raises_horizon()
+    ensures { RaisesHorizon }
 {}

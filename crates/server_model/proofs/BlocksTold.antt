@@ -128,7 +128,7 @@ unfolding asked_in
 outcomes-same y z same = ap (asked_in y) same
 
 -- nothing, or the identifier that was asked
-data Adds (core : Core) (frame : Up) (after : Core) (told : Telling) : Type 0 where
+pub data Adds (core : Core) (frame : Up) (after : Core) (told : Telling) : Type 0 where
   AddsNone : after.blocked ≡ core.blocked → Adds core frame after told
   AddsOne : (x : Ltxid) → frame ≡ up.Outcome x → after.blocked ≡ core.blocked ++ x ∷ [] → (told ≡ Says (down.OutcomeIs false false)) ⊎ (told ≡ Stopped) → Adds core frame after told
 
@@ -168,7 +168,8 @@ calls-add core sess replay kept now _ _ _ _ (AlterMarked line marked) = refl
 calls-add core sess replay kept now _ _ _ _ IsDisable = refl
 calls-add core sess replay kept now _ _ _ _ IsRollback = refl
 
-serve-adds : (core : Core) (sess : Sess) (now : ℕ) (frame : Up) (after : Core) (t : Sess) (told : Telling) → Serve core sess now frame after t told → Adds core frame after told
+-- what a frame adds to the blocks
+pub serve-adds : (core : Core) (sess : Sess) (now : ℕ) (frame : Up) (after : Core) (t : Sess) (told : Telling) → Serve core sess now frame after t told → Adds core frame after told
 serve-adds core sess now _ _ _ _ (Connects life) = AddsNone refl
 serve-adds core sess now _ _ _ _ (Begins settings serving) = AddsNone refl
 serve-adds core sess now _ _ _ _ (Ends serving) = AddsNone refl

@@ -57,7 +57,8 @@ calls_from core sess replay kept now _ _ _ _ (AlterMarked line marked) = NoEntry
 calls_from core sess replay kept now _ _ _ _ IsDisable = NoEntry refl
 calls_from core sess replay kept now _ _ _ _ IsRollback = NoEntry refl
 
-serve_from : (core : Core) (sess : Sess) (now : ℕ) (frame : Up) (after : Core) (t : Sess) (told : Telling) → Serve core sess now frame after t told → From core sess now frame told after
+-- what a frame adds to the entries
+pub serve_from : (core : Core) (sess : Sess) (now : ℕ) (frame : Up) (after : Core) (t : Sess) (told : Telling) → Serve core sess now frame after t told → From core sess now frame told after
 serve_from core sess now _ _ _ _ (Connects life) = NoEntry refl
 serve_from core sess now _ _ _ _ (Begins settings serving) = NoEntry refl
 serve_from core sess now _ _ _ _ (Ends serving) = NoEntry refl

@@ -41,8 +41,10 @@ pub mod SerialRuns
 pub mod Services
 pub mod Spending
 pub mod Stays
+pub mod StoppedBefore
 pub mod StoppedHistories
 pub mod Steps
+pub mod Stored
 pub mod Tells
 pub mod Takings
 pub mod ToldBlocked

@@ -4,3 +4,18 @@
 pub use Rattle.server_model.proofs.Marked.{marked_stores_none}
 -- a service's store goes on by serial entries that are numbered in order, and each identifier that it blocked is its session's next one
 pub use Rattle.server_model.proofs.Services.{service_stores, service_stands}
+-- a frame's entry is of its session, and an entry comes from a call; what was answered Committed or told uncommitted stands
+pub use Rattle.server_model.proofs.Growth.{serve_grows}
+pub use Rattle.server_model.proofs.Stays.{serve_stays}
+pub use Rattle.server_model.proofs.FromItems.{entry_from_item}
+pub use Rattle.server_model.proofs.Answered.{answers_stand}
+pub use Rattle.server_model.proofs.ToldBlocked.{blocks_are_stored}
+-- what is told at the moment at which it is told
+pub use Rattle.server_model.proofs.Tells.{tells_next, tells_outcomes, tells_asks, runs_last}
+-- a frame adds an entry, a block, a line, or nothing, and so does what is asked from outside
+pub use Rattle.server_model.proofs.Fronts.{Adds, serve_adds, outcomes_add}
+pub use Rattle.server_model.proofs.Stored.{AddsBy, answered_adds, stopped_adds}
+-- a front of a run is a run, and while a server runs on it stopped in no frame of its opening
+pub use Rattle.server_model.proofs.Fronts.{runs_front}
+pub use Rattle.server_model.proofs.NumberRuns.{runs_stand}
+pub use Rattle.server_model.proofs.StoppedBefore.{runs_stopped}

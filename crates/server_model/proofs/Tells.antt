@@ -21,7 +21,7 @@ use Rattle.svc_values.specs.Identifiers.{session_of}
 use Rattle.server_model.specs.Outcomes.{Telling, Silent, Says, Stopped, Outcomes, IsTold, BlockStops, down_of, verdict_on}
 use Rattle.server_model.specs.Serve.{Commits, InReplay, Blocks, Conflicts, Stores, StopsBefore, StopsAfter, Works, Answers as AnswersCall, Reaches, HaltsInDraw, Calls, IsWork, IsSet, IsAlter, AlterStops, AlterMarked, IsDisable, IsRollback, Serve, Connects, Begins, Ends, Closes, Asks, Runs as Serves, Refuses, with_opening}
 use Rattle.server_model.specs.Runs.{Happened, Served, Asked, Server, Moves, Makes, Answers, Halts, Loses, AnswersAsk, HaltsInAsk, Reaps, Falls, Opens, StopsOpening, Runs, Start, Then}
-use Rattle.server_model.specs.Laws.{identifier_in, TellsNext, TellsOutcomes, TellsAsks}
+use Rattle.server_model.specs.Laws.{SameStore, LastOf, RunsLast, identifier_in, TellsNext, TellsOutcomes, TellsAsks}
 use Rattle.server_model.proofs.Stays.{serve_stays}
 use Rattle.server_model.proofs.Fronts.{AtMostOne, None1, Some1, moves_one, but_last, but_last-push}
 use Rattle.server_model.proofs.Counts.{next-is}
@@ -169,11 +169,6 @@ last_of-push (first ∷ next ∷ more) last = last_of-push (next ∷ more) last
 some_none : {A : Type 0} {happened : Happened} → happened ∷ [] ≡ [] → A
 some_none none = let no : ⊥ = cc in absurd no
 
--- the store of one server is that of another
-record SameStore (before after : Server) : Type 0 where
-  base : after.core.base ≡ before.core.base
-  entries : after.core.entries ≡ before.core.entries
-
 -- a move that adds nothing to the history leaves the entries
 still : (server after : Server) (more : List Happened) → Moves server more after → more ≡ [] → SameStore server after
 still server _ _ (Makes on) none = record { base = refl; entries = refl }
@@ -188,15 +183,6 @@ still server _ _ (Opens below off may) none = record { base = refl; entries = re
 still server _ _ (StopsOpening below core off may (inl same)) none = record { base = ap (λ (c : Core). c.base) same; entries = ap (λ (c : Core). c.entries) same }
 still server _ _ (StopsOpening below core off may (inr (inl same))) none = record { base = ap (λ (c : Core). c.base) same; entries = ap (λ (c : Core). c.entries) same }
 still server _ _ (StopsOpening below core off may (inr (inr same))) none = record { base = ap (λ (c : Core). c.base) same; entries = ap (λ (c : Core). c.entries) same }
-
--- where the last thing of a history came: a run before it, the move that added it, and the store
--- since
-record LastOf (base : Base) (history : List Happened) (last : Happened) (after : Server) : Type 0 where
-  before : Server
-  behind : Server
-  runs : Runs base history before
-  moves : Moves before (last ∷ []) behind
-  same : SameStore behind after
 
 last-more : (base : Base) (earlier moved : List Happened) (server after : Server) → Runs base earlier server → Moves server moved after → (earlier ≡ earlier → (history : List Happened) (last : Happened) → earlier ≡ history ++ last ∷ [] → LastOf base history last server)
     → AtMostOne moved → (history : List Happened) (last : Happened) → earlier ++ moved ≡ history ++ last ∷ [] → LastOf base history last after
@@ -226,6 +212,9 @@ unfolding last_of
 last-at base _ _ Start history last same = none-some last (ap last_of same ∙ last_of-push history last)
 last-at base _ _ (Then earlier moved server after runs moves) history last same =
     last-more base earlier moved server after runs moves (λ is h l e. last-at base earlier server runs h l e) (moves_one server after moved moves) history last same
+
+pub runs_last : RunsLast
+runs_last base history last after runs = last-at base (history ++ last ∷ []) after runs history last refl
 
 -- ---- runs
 

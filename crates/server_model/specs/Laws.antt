@@ -1,5 +1,5 @@
 -- What holds of every run of the plain server.
-use Rattle.std.specs.Prelude.{◌≡◌, ◌⊎◌, ◌+◌, ◌≤◌, ◌&&◌, ℕ, Bool, true, false, not, IsTrue, List, [], ◌∷◌, ◌++◌, map, All, Contains, nat_lt, Option, Some, None}
+use Rattle.std.specs.Prelude.{◌≡◌, ◌⊎◌, ◌+◌, ◌<◌, ◌≤◌, ◌&&◌, ℕ, Bool, true, false, not, IsTrue, List, [], ◌∷◌, ◌++◌, map, All, Contains, nat_lt, Option, Some, None}
 use Rattle.svc_values.specs.declared.call.Call.{Call}
 use Rattle.svc_values.specs.declared.answer.Answer.{Answer}
 use Rattle.svc_values.specs.declared.draw.Draw.{Draw}
@@ -19,7 +19,7 @@ use Rattle.svc_values.specs.Identifiers.{session_of}
 use Rattle.server_model.specs.Sessions.{Sess}
 use Rattle.server_model.specs.Outcomes.{Telling, Says, Stopped, down_of, verdict_on}
 use Rattle.server_model.specs.Serve.{Serve}
-use Rattle.server_model.specs.Runs.{Happened, Served, Asked, Server, is_running, Runs}
+use Rattle.server_model.specs.Runs.{Happened, Served, Asked, Server, On, is_running, Moves, Runs}
 use Rattle.server_model.specs.Items.{items_of}
 use Rattle.server_model.specs.Legal.{legal, lines_of, lines_stand}
 use Rattle.server_model.specs.Fresh.{fresh_new, has_room}
@@ -196,6 +196,38 @@ pub record IsFront (before after : Server) : Type 0 where
 abbrev pub RunsFront : Type 0
 RunsFront = (base : Base) (history more : List Happened) (after : Server) → Runs base (history ++ more) after
     → (before : Server) × (Runs base history before × IsFront before after)
+
+-- ---- the last thing
+
+-- the store of one server is that of the other
+pub record SameStore (before after : Server) : Type 0 where
+  pub base : after.core.base ≡ before.core.base
+  pub entries : after.core.entries ≡ before.core.entries
+
+-- Where the last thing of a history came: a run to before it, the move that added it, and what has
+-- come since, which added nothing.
+pub record LastOf (base : Base) (history : List Happened) (last : Happened) (after : Server) : Type 0 where
+  pub before : Server
+  pub behind : Server
+  pub runs : Runs base history before
+  pub moves : Moves before (last ∷ []) behind
+  pub same : SameStore behind after
+
+abbrev pub RunsLast : Type 0
+RunsLast = (base : Base) (history : List Happened) (last : Happened) (after : Server) → Runs base (history ++ last ∷ []) after → LastOf base history last after
+
+-- ---- stops
+
+-- each frame that was stopped is of an incarnation below this one
+abbrev pub AreStoppedBefore : ℕ → List Happened → Type 0
+AreStoppedBefore incarnation [] = Unit {0}
+AreStoppedBefore incarnation (Served session now frame Stopped ∷ more) = (session.incarnation < incarnation) × AreStoppedBefore incarnation more
+AreStoppedBefore incarnation (Served session now frame told ∷ more) = AreStoppedBefore incarnation more
+AreStoppedBefore incarnation (Asked x told ∷ more) = AreStoppedBefore incarnation more
+
+-- While a server runs on, it stopped in no frame of its opening.
+abbrev pub RunsStopped : Type 0
+RunsStopped = (base : Base) (history : List Happened) (server : Server) → IsSound base → Runs base history server → server.power ≡ On → AreStoppedBefore server.core.opening.incarnation history
 
 -- ---- services
 

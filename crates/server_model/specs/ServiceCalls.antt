@@ -1,5 +1,5 @@
 -- What each call of a service does to what is seen of it.
-use Rattle.std.specs.Prelude.{◌≡◌, ◌≢◌, ◌⊎◌, ◌+◌, ◌*◌, ◌%◌, ◌<◌, ◌≤◌, ℕ, Bool, true, false, List, [], ◌∷◌, ◌++◌, length, Option, Some, None, All, nat_lt, max, if◌then◌else◌}
+use Rattle.std.specs.Prelude.{◌≡◌, ◌≢◌, ◌⊎◌, ◌+◌, ◌*◌, ◌%◌, ◌<◌, ◌≤◌, ℕ, Bool, true, false, List, [], ◌∷◌, ◌++◌, length, Option, Some, None, All, Contains, nat_lt, max, if◌then◌else◌}
 use Rattle.svc_values.specs.declared.draw.Draw.{Draw}
 use Rattle.svc_values.specs.declared.call.Call.{Call}
 use Rattle.svc_values.specs.declared.answer.Answer.{Answer}
@@ -16,6 +16,7 @@ use Rattle.svc_values.specs.Calls.{sequences_in}
 use Rattle.svc_values.specs.Identifiers.{ltxid_of}
 use Rattle.server_model.specs.Outcomes.{Telling, Silent, Says, Stopped, down_of}
 use Rattle.server_model.specs.Runs.{Happened, Served, Asked}
+use Rattle.server_model.specs.Laws.{CommitsAs}
 use Rattle.server_model.specs.Seen.{Store, book_in, Connections, none_living, SameLiving, ServiceState, Seen, without_connection, with_connection, Rose, Keeps, KeepsStore}
 
 -- ---- connect, reap, stop_after
@@ -61,8 +62,22 @@ pub record StopsOnly (old new : Seen) (is_stopped : Bool) : Type 0 where
 
 -- ---- what a call adds to the store
 
--- at most so many entries, blocks and lines together, and records
-pub record Adds (old new : Store) (lines most : ℕ) : Type 0 where
+-- the entry comes from one of these
+abbrev pub CameFrom : List Happened → Entry → Type 0
+CameFrom happened entry = (one : Happened) × (Contains happened one × CommitsAs entry one)
+
+-- the identifier was asked for
+abbrev pub AsksFor : Ltxid → Happened → Type 0
+AsksFor x (Served session now (up.Outcome y) told) = y ≡ x
+AsksFor x (Asked y told) = y ≡ x
+AsksFor x _ = ⊥
+
+-- by one of these
+abbrev pub WasAsked : List Happened → Ltxid → Type 0
+WasAsked happened x = (one : Happened) × (Contains happened one × AsksFor x one)
+
+-- by what happened: entries that come from it, blocks that were asked for in it, and lines
+pub record Gains (happened : List Happened) (old new : Store) : Type 0 where
   pub incarnation : new.incarnation ≡ old.incarnation
   pub horizon : new.horizon ≡ old.horizon
   pub more_entries : List Entry
@@ -71,8 +86,30 @@ pub record Adds (old new : Store) (lines most : ℕ) : Type 0 where
   pub entries : new.entries ≡ old.entries ++ more_entries
   pub blocked : new.blocked ≡ old.blocked ++ more_blocked
   pub alerts : new.alerts ≡ old.alerts ++ more_alerts
-  pub few : length more_entries + length more_blocked + length more_alerts ≤ lines
-  pub records : (old.records ≤ new.records) × (new.records ≤ old.records + most)
+  pub own : All (CameFrom happened) more_entries
+  pub asked : All (WasAsked happened) more_blocked
+
+-- by at most so many records
+abbrev pub GrowsBy : ℕ → Store → Store → Type 0
+GrowsBy most old new = (old.records ≤ new.records) × (new.records ≤ old.records + most)
+
+-- at most one of them, by at most so many records
+pub record Adds (happened : List Happened) (most : ℕ) (old new : Store) : Type 0 where
+  pub gains : Gains happened old new
+  pub few : length gains.more_entries + length gains.more_blocked + length gains.more_alerts ≤ 1
+  pub records : GrowsBy most old new
+
+-- the block of this identifier at most
+pub record AddsBlock (x : Ltxid) (old new : Store) : Type 0 where
+  pub opening : (new.incarnation ≡ old.incarnation) × (new.horizon ≡ old.horizon)
+  pub entries : (new.entries ≡ old.entries) × (new.alerts ≡ old.alerts)
+  pub blocked : (new.blocked ≡ old.blocked) ⊎ (new.blocked ≡ old.blocked ++ x ∷ [])
+  pub records : GrowsBy 1 old new
+
+-- Behind a stop: whatever a crash may leave of the store, this holds of it.
+abbrev pub HoldsBehind : Telling → (Store → Type 0) → (Store → Type 0) → Type 0
+HoldsBehind Stopped leaves Holds = (store : Store) → leaves store → Holds store
+HoldsBehind _ leaves Holds = Unit {0}
 
 -- ---- serve
 
@@ -106,8 +143,8 @@ TellsByTable store (up.Outcome x) (Says told) = (told ≡ down.Refused 2) ⊎ (t
 TellsByTable store _ _ = Unit {0}
 
 -- A frame joins the history as one thing, of the connection's session. It adds at most one entry,
--- block or line, and a block for each sequence operand.
-pub record ServedOne (old : Seen) (connection now : ℕ) (frame : Up) (told : Telling) (new : Seen) : Type 0 where
+-- block or line, and a reservation for each sequence operand; so does what a crash leaves of it.
+pub record ServedOne (old : Seen) (connection now : ℕ) (frame : Up) (told : Telling) (leaves : Store → Type 0) (new : Seen) : Type 0 where
   pub keeps : Keeps old new
   pub session : SessionId
   pub of_connection : SessionOf old connection session new.state.sessions
@@ -116,7 +153,8 @@ pub record ServedOne (old : Seen) (connection now : ℕ) (frame : Up) (told : Te
   pub is_up : new.state.is_up ≡ is_up_after told
   pub kept : new.state.kept ≡ old.state.stop
   pub outcome : TellsByTable old.state.store frame told
-  pub adds : Adds old.state.store new.state.store 1 (1 + sequences_in frame)
+  pub adds : Adds (Served session now frame told ∷ []) (1 + sequences_in frame) old.state.store new.state.store
+  pub left : HoldsBehind told leaves (Adds (Served session now frame told ∷ []) (1 + sequences_in frame) old.state.store)
   pub cause : StopCause old new (1 + sequences_in frame) told
   -- a frame that stores nothing is never stopped
   pub silent : may_store frame ≡ false → (told ≢ Stopped) × (new.state.faults ≡ old.state.faults) × (new.state.store ≡ old.state.store)
@@ -159,31 +197,43 @@ pub record KeepsOpening (old new : Seen) : Type 0 where
   pub kept : new.state.kept ≡ old.state.stop
   pub calls : new.state.calls ≡ old.state.calls + 1
   pub is_spent : new.state.is_spent ≡ false
-  pub entries : (new.state.store.entries ≡ old.state.store.entries) × (new.state.store.blocked ≡ old.state.store.blocked) × (new.state.store.alerts ≡ old.state.store.alerts)
 
 -- at most the incarnations so far may be forgotten
 abbrev pub MayForget : ServiceState → ℕ → Type 0
 MayForget state below = below ≤ state.store.incarnation + 1
 
+-- nothing was told or blocked
+pub record SameLists (old new : Store) : Type 0 where
+  pub entries : new.entries ≡ old.entries
+  pub blocked : new.blocked ≡ old.blocked
+  pub alerts : new.alerts ≡ old.alerts
+
 -- an opening of the next incarnation, which has made no session; the horizon is the wanted one where that is greater
 pub record Opened (old : Seen) (below : ℕ) (new : Seen) : Type 0 where
   pub keeps : KeepsOpening old new
   pub is_up : (new.state.is_up ≡ true) × (new.state.is_opened ≡ true)
+  pub lists : SameLists old.state.store new.state.store
   pub incarnation : new.state.store.incarnation ≡ old.state.store.incarnation + 1
   pub horizon : new.state.store.horizon ≡ max old.state.store.horizon below
   pub sessions : new.state.sessions ≡ 0
   pub cause : StopsOnly old new false
 
 -- what an opening that was stopped has stored: nothing, its horizon, or its incarnation behind that
-pub data OpenedSoFar (old : Store) (below : ℕ) (new : Store) : Type 0 where
-  Neither : new.incarnation ≡ old.incarnation → new.horizon ≡ old.horizon → OpenedSoFar old below new
-  Forgets : new.incarnation ≡ old.incarnation → new.horizon ≡ max old.horizon below → OpenedSoFar old below new
-  Both : new.incarnation ≡ old.incarnation + 1 → new.horizon ≡ max old.horizon below → OpenedSoFar old below new
+pub data HasSoFar (old : Store) (below : ℕ) (new : Store) : Type 0 where
+  Neither : new.incarnation ≡ old.incarnation → new.horizon ≡ old.horizon → HasSoFar old below new
+  Forgets : new.incarnation ≡ old.incarnation → new.horizon ≡ max old.horizon below → HasSoFar old below new
+  Both : new.incarnation ≡ old.incarnation + 1 → new.horizon ≡ max old.horizon below → HasSoFar old below new
 
-pub record StoppedOpening (old : Seen) (below : ℕ) (new : Seen) : Type 0 where
+pub record OpenedSoFar (below : ℕ) (old new : Store) : Type 0 where
+  pub lists : SameLists old new
+  pub so_far : HasSoFar old below new
+
+-- so does whatever a crash leaves of it
+pub record StoppedOpening (old : Seen) (below : ℕ) (leaves : Store → Type 0) (new : Seen) : Type 0 where
   pub keeps : KeepsOpening old new
   pub is_up : (new.state.is_up ≡ false) × (new.state.is_opened ≡ old.state.is_opened)
-  pub so_far : OpenedSoFar old.state.store below new.state.store
+  pub so_far : OpenedSoFar below old.state.store new.state.store
+  pub left : HoldsBehind Stopped leaves (OpenedSoFar below old.state.store)
   pub cause : StopsOnly old new true
 
 -- ---- outside, ask
@@ -208,7 +258,7 @@ pub record RanOutside (old : Seen) (calls : List Call) (now : ℕ) (x : Ltxid) (
   pub ran : RunsAre (next_session old) now calls runs more
   pub history : new.history ≡ old.history ++ begins_outside (next_session old) now ++ more
   pub others : SameLiving new.state.living old.state.living × (new.state.is_up ≡ true) × (new.state.kept ≡ old.state.kept) × (new.state.sessions ≡ old.state.sessions + 1)
-  pub opening : (new.state.store.incarnation ≡ old.state.store.incarnation) × (new.state.store.horizon ≡ old.state.store.horizon)
+  pub gains : Gains more old.state.store new.state.store
   pub cause : StopsOnly old new false
 
 abbrev pub IsOf : SessionId → Happened → Type 0
@@ -216,12 +266,14 @@ IsOf session (Served other now frame told) = other ≡ session
 IsOf session (Asked x told) = ⊥
 
 -- a stop: the service is down, and of the calls a front was served
-pub record StoppedOutside (old new : Seen) : Type 0 where
+pub record StoppedOutside (old : Seen) (leaves : Store → Type 0) (new : Seen) : Type 0 where
   pub keeps : Keeps old new
   pub more : List Happened
   pub served : All (IsOf (next_session old)) more
   pub history : new.history ≡ old.history ++ more
   pub others : SameLiving new.state.living none_living × (new.state.is_up ≡ false) × (new.state.kept ≡ old.state.kept)
+  pub gains : Gains more old.state.store new.state.store
+  pub left : HoldsBehind Stopped leaves (Gains more old.state.store)
   pub cause : StopsOnly old new true
 
 abbrev pub IsAnswer : Verdict → Type 0
@@ -235,14 +287,15 @@ pub record AskedOne (old : Seen) (x : Ltxid) (told : Verdict) (new : Seen) : Typ
   pub outcome : down_of told ≡ down_of (verdict_of (book_in old.state.store) x)
   pub history : new.history ≡ old.history ++ Asked x (Says (down_of told)) ∷ []
   pub others : SameLiving new.state.living old.state.living × (new.state.is_up ≡ true) × (new.state.kept ≡ old.state.kept) × (new.state.sessions ≡ old.state.sessions)
-  pub adds : Adds old.state.store new.state.store 1 1
+  pub adds : AddsBlock x old.state.store new.state.store
   pub cause : StopsOnly old new false
 
-pub record StoppedAsk (old : Seen) (x : Ltxid) (new : Seen) : Type 0 where
+pub record StoppedAsk (old : Seen) (x : Ltxid) (leaves : Store → Type 0) (new : Seen) : Type 0 where
   pub keeps : Keeps old new
   pub history : new.history ≡ old.history ++ Asked x Stopped ∷ []
   pub others : SameLiving new.state.living none_living × (new.state.is_up ≡ false) × (new.state.kept ≡ old.state.kept)
-  pub adds : Adds old.state.store new.state.store 1 1
+  pub adds : AddsBlock x old.state.store new.state.store
+  pub left : HoldsBehind Stopped leaves (AddsBlock x old.state.store)
   pub cause : StopsOnly old new true
 
 -- ---- journal, image

@@ -1,5 +1,5 @@
 //! Laws of the plain server. Each function does nothing, and its contract is the law.
-ghost use Rattle.server_model.specs.Laws.{ServeGrows, ServeStays, RunsForget, RunsSerial, RunsStand, NeverAfterBlock, EntryNumbers, EntryFromItem, AnswersStand, MarkedStoresNone, BlocksAreStored, TellsNext, TellsOutcomes, TellsAsks, RunsAlerts, RunsTold, RunsLegal, RunsFreshNew, RunsFront, ServiceStores, ServiceStands, ServiceRuns};
+ghost use Rattle.server_model.specs.Laws.{ServeGrows, ServeStays, RunsForget, RunsSerial, RunsStand, NeverAfterBlock, EntryNumbers, EntryFromItem, AnswersStand, MarkedStoresNone, BlocksAreStored, TellsNext, TellsOutcomes, TellsAsks, RunsAlerts, RunsTold, RunsLegal, RunsFreshNew, RunsFront, RunsLast, RunsStopped, ServiceStores, ServiceStands, ServiceRuns};
 
 /// A frame stores no entry, or one of its session, under its identifier, which is not blocked. It
 /// leaves the base, the incarnation and which session it is.
@@ -75,6 +75,16 @@ pub fn runs_fresh_new()
 /// A run has a run for each front of its history, and its store goes on from that one's.
 pub fn runs_front()
     ensures { RunsFront }
+{}
+
+/// The last thing of a history came by one move from a run to before it.
+pub fn runs_last()
+    ensures { RunsLast }
+{}
+
+/// While a server runs on, it stopped in no frame of its opening.
+pub fn runs_stopped()
+    ensures { RunsStopped }
 {}
 
 /// Whatever has a history of the plain server has a store that goes on by serial entries, numbered in

@@ -35,7 +35,7 @@ use Rattle.server_model.specs.declared.fault.ServeFault.TheVariants as fault
 use Rattle.server_session.specs.Adding.{IsLeftOf}
 use Rattle.server_session.specs.Fits.{Fits, Belongs}
 use Rattle.server_session.specs.Plain.{IsStored, IsPlain}
-use Rattle.server_session.specs.Seen.{Seen, sess_of, begun_so, ended_so}
+use Rattle.server_session.specs.SeenSession.{SeenSession, sess_of, begun_so, ended_so}
 use Rattle.server_session.specs.Serving.{HasServed, Serves, StepsTo, commits_as, stores_as}
 use Rattle.server_session.specs.Storing.{HasStored, Stores}
 use Rattle.server_session.proofs.Cores.{belongs_with, next_own, next_other}
@@ -51,11 +51,11 @@ with_last-push (first ∷ []) old new = refl
 with_last-push (first ∷ next ∷ more) old new = ap (λ (l : List Answer). first ∷ l) (with_last-push (next ∷ more) old new)
 
 -- rolled back, a session belongs to its core still
-pub rolled : (core : Core) (seen : Seen) (life : Life) (settings : NamedValues) → Belongs core seen → Belongs core (begun_so seen life settings)
+pub rolled : (core : Core) (seen : SeenSession) (life : Life) (settings : NamedValues) → Belongs core seen → Belongs core (begun_so seen life settings)
 rolled core seen life settings belongs = record { incarnation = belongs.incarnation; number = belongs.number; writes = refl; calls = tt }
 
 -- a step that stores nothing
-pub unstored : (step : Plain → Sess → Plain → Sess → Telling → Type 0) (most : ℕ) (told : Telling) (old new : Seen) (core : Core) (disk : DiskState) → Fits core disk → Belongs core new
+pub unstored : (step : Plain → Sess → Plain → Sess → Telling → Type 0) (most : ℕ) (told : Telling) (old new : SeenSession) (core : Core) (disk : DiskState) → Fits core disk → Belongs core new
     → ((plain : Plain) (reads : List Read) → IsPlain plain core disk → AreReadings old.txn.readings reads → StepsTo step told plain (sess_of old reads) plain new) → HasServed step most told old core disk new core disk
 unstored step most told old new core disk fits belongs steps = record {
   records = [];
@@ -73,7 +73,7 @@ same_number : (n m : ℕ) (b : Bool) → n ≡ m → ((n == m) && not b) ≡ not
 same_number n m b e = let same : (n == m) ≡ true = grind (arith, nat_tests) in rw same refl
 
 -- whether it is not blocked, by the book and by the plain server
-pub can_is : (core : Core) (disk : DiskState) (seen : Seen) (plain : Plain) (fits : Fits core disk) → Belongs core seen → IsStored plain fits.journal
+pub can_is : (core : Core) (disk : DiskState) (seen : SeenSession) (plain : Plain) (fits : Fits core disk) → Belongs core seen → IsStored plain fits.journal
     → can_commit (sessions_in core.book) seen.ltxid ≡ not (is_blocked (all_blocked plain) seen.ltxid)
 can_is core disk seen plain fits belongs is =
     let x = seen.ltxid in
@@ -88,7 +88,7 @@ can_is core disk seen plain fits belongs is =
 not_forgotten : (a b : Bool) → a ≡ false → b ≡ true → (not a && b) ≡ true
 not_forgotten a b none can = rw (none, can) refl
 
-pub may_be : (core : Core) (disk : DiskState) (seen : Seen) → Fits core disk → Belongs core seen → IsTrue (can_commit (sessions_in core.book) seen.ltxid) → IsTrue (may_commit (sessions_in core.book) seen.ltxid)
+pub may_be : (core : Core) (disk : DiskState) (seen : SeenSession) → Fits core disk → Belongs core seen → IsTrue (can_commit (sessions_in core.book) seen.ltxid) → IsTrue (may_commit (sessions_in core.book) seen.ltxid)
 may_be core disk seen fits belongs can =
     let here : seen.ltxid.incarnation ≡ fits.journal.incarnation = belongs.incarnation ∙ fits.source.incarnation in
     let open_still : is_forgotten (sessions_in core.book) seen.ltxid.incarnation ≡ false =
@@ -104,15 +104,15 @@ differs reads now at conflict = (conflict.0, (conflict.1.0, conflict.1.1.1))
 
 -- ---- commits that store nothing
 
-module _ (called : Call) (answers : List Answer) (draws : List Draw) (core : Core) (disk : DiskState) (old : Seen) (fits : Fits core disk) (belongs : Belongs core old) where
-  pub in_replay : (told : Down) (new : Seen) → told ≡ down.Reply (with_last answers answer.CommitInReplay) draws old.ltxid → new ≡ begun_so old old.life old.settings
+module _ (called : Call) (answers : List Answer) (draws : List Draw) (core : Core) (disk : DiskState) (old : SeenSession) (fits : Fits core disk) (belongs : Belongs core old) where
+  pub in_replay : (told : Down) (new : SeenSession) → told ≡ down.Reply (with_last answers answer.CommitInReplay) draws old.ltxid → new ≡ begun_so old old.life old.settings
       → HasServed (commits_as true called answers draws) 1 (Says told) old core disk new core disk
   in_replay told new is seen =
       rw (is, seen)
       (unstored (commits_as true called answers draws) 1 _ old _ core disk fits (rolled core old old.life old.settings belongs)
       (λ plain reads stands noted. record { reads = []; noted = no_reads; steps = InReplay refl }))
 
-  pub blocked : (new : Seen) → new ≡ ended_so old → can_commit (sessions_in core.book) old.ltxid ≡ false
+  pub blocked : (new : SeenSession) → new ≡ ended_so old → can_commit (sessions_in core.book) old.ltxid ≡ false
       → HasServed (commits_as false called answers draws) 1 (Says down.Blocked) old core disk new core disk
   blocked new seen cannot =
       rw seen (unstored (commits_as false called answers draws) 1 _ old _ core disk fits (rolled core old _ old.settings belongs)
@@ -124,7 +124,7 @@ module _ (called : Call) (answers : List Answer) (draws : List Draw) (core : Cor
       by true e = refl
       by false e = sym e
 
-  pub conflicts : (told : Down) (new : Seen) (at : Option Place) → told ≡ down.Reply (with_last answers answer.Conflict) draws old.ltxid → new ≡ begun_so old old.life old.settings
+  pub conflicts : (told : Down) (new : SeenSession) (at : Option Place) → told ≡ down.Reply (with_last answers answer.Conflict) draws old.ltxid → new ≡ begun_so old old.life old.settings
       → can_commit (sessions_in core.book) old.ltxid ≡ true → ((reads : List Read) → AreReadings old.txn.readings reads → IsConflict reads core.tables.rows at) → (place : Place) → at ≡ Some place
       → HasServed (commits_as false called answers draws) 1 (Says told) old core disk new core disk
   conflicts told new at is seen can conflict place found =
@@ -150,21 +150,21 @@ module _ (called : Call) (answers : List Answer) (draws : List Draw) (core : Cor
 -- ---- commits that are stored
 
 -- the session after its commit
-abbrev pub committed_so : Seen → Seen
+abbrev pub committed_so : SeenSession → SeenSession
 committed_so seen = begun_so (record seen { ltxid = record seen.ltxid { number = seen.ltxid.number + 1 } }) seen.life seen.settings
 
-module _ (called : Call) (answers : List Answer) (draws : List Draw) (core : Core) (disk : DiskState) (later : Core) (end : DiskState) (old : Seen) (fits : Fits core disk) (belongs : Belongs core old) where
+module _ (called : Call) (answers : List Answer) (draws : List Draw) (core : Core) (disk : DiskState) (later : Core) (end : DiskState) (old : SeenSession) (fits : Fits core disk) (belongs : Belongs core old) where
   abbrev pub entry_here : Entry
   entry_here = entry_of (sess_of old []) called answers draws
 
-  apart_of : (other : Seen) → (other.ltxid.session ≡ old.ltxid.session → ⊥) → is_of old.ltxid other.ltxid.incarnation other.ltxid.session ≡ false
+  apart_of : (other : SeenSession) → (other.ltxid.session ≡ old.ltxid.session → ⊥) → is_of old.ltxid other.ltxid.incarnation other.ltxid.session ≡ false
   apart_of other apart = by (is_of old.ltxid other.ltxid.incarnation other.ltxid.session) refl
     where
       by : (b : Bool) → is_of old.ltxid other.ltxid.incarnation other.ltxid.session ≡ b → b ≡ false
       by true own = absurd (apart (let same : old.ltxid.session ≡ other.ltxid.session = grind (arith, nat_tests) in sym same))
       by false own = refl
 
-  others_stay : HasStored (kept.Commit entry_here) core disk later end → (other : Seen) → (other.ltxid.session ≡ old.ltxid.session → ⊥) → Belongs core other → Belongs later other
+  others_stay : HasStored (kept.Commit entry_here) core disk later end → (other : SeenSession) → (other.ltxid.session ≡ old.ltxid.session → ⊥) → Belongs core other → Belongs later other
   others_stay stored other apart stays =
       belongs_with core later other stored.schemas (ap (λ (o : Opening). o.incarnation) stored.source)
       (ap (λ (s : Sessions). (s.state other.ltxid.incarnation other.ltxid.session).next) stored.book
@@ -179,7 +179,7 @@ module _ (called : Call) (answers : List Answer) (draws : List Draw) (core : Cor
     calls = tt;
   }
 
-  pub commit_told : (told : Down) (new : Seen) → told ≡ down.Reply answers draws (record old.ltxid { number = old.ltxid.number + 1 }) → new ≡ committed_so old
+  pub commit_told : (told : Down) (new : SeenSession) → told ≡ down.Reply answers draws (record old.ltxid { number = old.ltxid.number + 1 }) → new ≡ committed_so old
       → HasStored (kept.Commit entry_here) core disk later end → HasServed (stores_as called answers draws) 1 (Says told) old core disk new later end
   commit_told told new is seen stored =
       rw (is, seen) (record {
@@ -210,7 +210,7 @@ module _ (called : Call) (answers : List Answer) (draws : List Draw) (core : Cor
     ),
   )
 
-  pub commit_fault : (error : ServeFault) (new : Seen) → Stores (kept.Commit entry_here) (Err error) core disk later end → Serves (stores_as called answers draws) 1 (Err error) old core disk new later end
+  pub commit_fault : (error : ServeFault) (new : SeenSession) → Stores (kept.Commit entry_here) (Err error) core disk later end → Serves (stores_as called answers draws) 1 (Err error) old core disk new later end
   commit_fault fault.NoMemory new stores = stores
   commit_fault fault.Stopped new stores = record {
     records = [];

@@ -24,7 +24,7 @@ use Rattle.commit_log.specs.Rules.{may_block, may_commit, with_record}
 use Rattle.commit_log.proofs.Offered.{may_beside, notes_commit, block_beside, notes_block}
 use Rattle.server_session.specs.declared.shared.Core.{Core}
 use Rattle.server_session.specs.Fits.{Fits, Belongs, tables_of}
-use Rattle.server_session.specs.Seen.{Seen}
+use Rattle.server_session.specs.SeenSession.{SeenSession}
 use Rattle.server_session.specs.Stored.{stored_as}
 use Rattle.server_session.specs.Storing.{Stores}
 use Rattle.server_session.proofs.Gaining.{gained_one, halted_one}
@@ -165,7 +165,7 @@ next_own sessions x completed =
     rw own refl
 
 -- a session belongs to a core whose book has its number still
-pub belongs_with : (core later : Core) (seen : Seen) → later.tables.schemas ≡ core.tables.schemas → later.source.incarnation ≡ core.source.incarnation
+pub belongs_with : (core later : Core) (seen : SeenSession) → later.tables.schemas ≡ core.tables.schemas → later.source.incarnation ≡ core.source.incarnation
     → ((sessions_in later.book).state seen.ltxid.incarnation seen.ltxid.session).next ≡ ((sessions_in core.book).state seen.ltxid.incarnation seen.ltxid.session).next
     → Belongs core seen → Belongs later seen
 belongs_with core later seen schemas incarnation next belongs = record {

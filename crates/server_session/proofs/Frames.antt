@@ -28,7 +28,7 @@ use Rattle.server_model.specs.declared.fault.ServeFault.TheVariants as fault
 use Rattle.server_session.specs.Adding.{IsLeftOf}
 use Rattle.server_session.specs.Fits.{Fits, Belongs}
 use Rattle.server_session.specs.Plain.{IsStored}
-use Rattle.server_session.specs.Seen.{Seen, sess_of, ended_so}
+use Rattle.server_session.specs.SeenSession.{SeenSession, sess_of, ended_so}
 use Rattle.server_session.specs.Serving.{HasServed, HasLacked, Serves, called_as, served_as}
 use Rattle.server_session.specs.Storing.{HasStored, Stores, HasTold, Tells}
 use Rattle.server_session.proofs.Cores.{belongs_with}
@@ -39,7 +39,7 @@ use Rattle.server_session.proofs.Telling.{plain_with}
 
 -- ---- an outcome
 
-pub outcome_told : (x : Ltxid) (now : ℕ) (told : Verdict) (answered : Down) (seen : Seen) (core : Core) (disk : DiskState) (later : Core) (end : DiskState) → IsTrue (is_serving seen.life) → Belongs core seen
+pub outcome_told : (x : Ltxid) (now : ℕ) (told : Verdict) (answered : Down) (seen : SeenSession) (core : Core) (disk : DiskState) (later : Core) (end : DiskState) → IsTrue (is_serving seen.life) → Belongs core seen
     → answered ≡ down_of told → HasTold x told core disk later end → HasServed (served_as (up.Outcome x) now) 1 (Says answered) seen core disk seen later end
 outcome_told x now told answered seen core disk later end serving belongs is tells = record {
   records = tells.records;
@@ -53,7 +53,7 @@ outcome_told x now told answered seen core disk later end serving belongs is tel
       (if_blocks told plain x, (step.1, record { reads = reads; noted = noted; steps = rw is (Asks x (if_blocks told plain x) (Says (down_of told)) serving (IsTold told step.0)) }));
 }
 
-pub outcome_fault : (x : Ltxid) (now : ℕ) (error : ServeFault) (seen : Seen) (core : Core) (disk : DiskState) (later : Core) (end : DiskState) → IsTrue (is_serving seen.life)
+pub outcome_fault : (x : Ltxid) (now : ℕ) (error : ServeFault) (seen : SeenSession) (core : Core) (disk : DiskState) (later : Core) (end : DiskState) → IsTrue (is_serving seen.life)
     → Tells x (Err error) core disk later end → Serves (served_as (up.Outcome x) now) 1 (Err error) seen core disk seen later end
 outcome_fault x now fault.NoMemory seen core disk later end serving tells = tells
 outcome_fault x now fault.Stopped seen core disk later end serving tells = record {
@@ -69,11 +69,11 @@ outcome_fault x now fault.Stopped seen core disk later end serving tells = recor
 -- ---- a line
 
 module _ (line : List ℕ) (replay : Bool) (marks : List Draw) (now : ℕ) (unmarked : IsTrue (not replay)) where
-  pub line_told : (told : Down) (old new : Seen) (core : Core) (disk : DiskState) (later : Core) (end : DiskState) → Fits core disk → Belongs core old
+  pub line_told : (told : Down) (old new : SeenSession) (core : Core) (disk : DiskState) (later : Core) (end : DiskState) → Fits core disk → Belongs core old
       → told ≡ down.Reply (answer.Done 1 ∷ []) [] old.ltxid → new ≡ noting old (piece_of (call.Alter line) (answer.Done 1 ∷ []) [])
       → HasStored (kept.Alert line) core disk later end → HasServed (called_as replay marks (call.Alter line) now) 1 (Says told) old core disk new later end
   line_told told old new core disk later end fits belongs is seen stored =
-      let stays : (other : Seen) → Belongs core other → Belongs later other =
+      let stays : (other : SeenSession) → Belongs core other → Belongs later other =
       λ other b. belongs_with core later other stored.schemas (ap (λ (o : Opening). o.incarnation) stored.source) (ap (λ (s : Sessions). (s.state other.ltxid.incarnation other.ltxid.session).next) stored.book) b in
       let own : Belongs later old = stays old belongs in
       rw (is, seen) (record {
@@ -92,14 +92,14 @@ module _ (line : List ℕ) (replay : Bool) (marks : List Draw) (now : ℕ) (unma
         );
       })
 
-  line_stops : (old : Seen) (core : Core) (disk : DiskState) (plain : Plain) (reads : List Read) (image : List ℕ) (fits : Fits core disk) → IsStored plain fits.journal → IsLeftOf disk.now.seen [] (kept.Alert line) image
+  line_stops : (old : SeenSession) (core : Core) (disk : DiskState) (plain : Plain) (reads : List Read) (image : List ℕ) (fits : Fits core disk) → IsStored plain fits.journal → IsLeftOf disk.now.seen [] (kept.Alert line) image
       → (after : Plain) × (IfOk (journal_of image) (IsStored after) × called_as replay marks (call.Alter line) now plain (sess_of old reads) after (ended (sess_of old reads)) Stopped)
   line_stops old core disk plain reads image fits stands (inl none) =
       (plain, (reads_stored plain image fits.journal (reads_same disk.now.seen image fits.journal fits.reads none) stands, AlterStops line plain unmarked (inl refl)))
   line_stops old core disk plain reads image fits stands (inr one) =
       (with_alert plain line, (reads_stored (with_alert plain line) image (with_record fits.journal (kept.Alert line)) (reads_more disk.now.seen image fits.journal (kept.Alert line) fits.reads one) (stored_alert plain fits.journal line stands), AlterStops line (with_alert plain line) unmarked (inr refl)))
 
-  pub line_fault : (error : ServeFault) (old new : Seen) (core : Core) (disk : DiskState) (later : Core) (end : DiskState) → Fits core disk
+  pub line_fault : (error : ServeFault) (old new : SeenSession) (core : Core) (disk : DiskState) (later : Core) (end : DiskState) → Fits core disk
       → Stores (kept.Alert line) (Err error) core disk later end → Serves (called_as replay marks (call.Alter line) now) 1 (Err error) old core disk new later end
   line_fault fault.NoMemory old new core disk later end fits stores = stores
   line_fault fault.Stopped old new core disk later end fits stores = record {
@@ -116,19 +116,19 @@ lacks_behind most core disk later end line le stored = record { records = kept.A
 
 -- ---- a line, by what the code makes of it
 
-pub alter_refused : (called : Call) (line : List ℕ) (replay : Bool) (marks : List Draw) (now : ℕ) (old new : Seen) (core : Core) (disk : DiskState) → called ≡ call.Alter line → replay ≡ true → new ≡ ended_so old → Fits core disk → Belongs core old
+pub alter_refused : (called : Call) (line : List ℕ) (replay : Bool) (marks : List Draw) (now : ℕ) (old new : SeenSession) (core : Core) (disk : DiskState) → called ≡ call.Alter line → replay ≡ true → new ≡ ended_so old → Fits core disk → Belongs core old
     → HasServed (called_as replay marks called now) (1 + sequences_in (up.Call replay marks called)) (Says (down.Refused 2)) old core disk new core disk
 alter_refused called line replay marks now old new core disk is marked seen fits belongs =
     rw (is, marked, seen) (serves_quietly (called_as true marks (call.Alter line) now) 1 (Says (down.Refused 2)) old (ended_so old) core disk (refuses_alter old true marks now line refl) fits belongs)
 
-pub alter_fault : (called : Call) (line : List ℕ) (replay : Bool) (marks : List Draw) (now : ℕ) (error : ServeFault) (old new : Seen) (core : Core) (disk : DiskState) (later : Core) (end : DiskState) → called ≡ call.Alter line → replay ≡ false → Fits core disk
+pub alter_fault : (called : Call) (line : List ℕ) (replay : Bool) (marks : List Draw) (now : ℕ) (error : ServeFault) (old new : SeenSession) (core : Core) (disk : DiskState) (later : Core) (end : DiskState) → called ≡ call.Alter line → replay ≡ false → Fits core disk
     → Stores (kept.Alert line) (Err error) core disk later end → Serves (called_as replay marks called now) (1 + sequences_in (up.Call replay marks called)) (Err error) old core disk new later end
 alter_fault called line replay marks now error old new core disk later end is unmarked fits stores =
     subst (λ (k : Call). Serves (called_as replay marks k now) (1 + sequences_in (up.Call replay marks k)) (Err error) old core disk new later end) (sym is)
     (subst (λ (r : Bool). Serves (called_as r marks (call.Alter line) now) (1 + sequences_in (up.Call r marks (call.Alter line))) (Err error) old core disk new later end) (sym unmarked)
     (line_fault line false marks now refl error old new core disk later end fits stores))
 
-pub alter_told : (called : Call) (line : List ℕ) (replay : Bool) (marks : List Draw) (now : ℕ) (told : Down) (old new : Seen) (core : Core) (disk : DiskState) (later : Core) (end : DiskState) → called ≡ call.Alter line → replay ≡ false → Fits core disk → Belongs core old
+pub alter_told : (called : Call) (line : List ℕ) (replay : Bool) (marks : List Draw) (now : ℕ) (told : Down) (old new : SeenSession) (core : Core) (disk : DiskState) (later : Core) (end : DiskState) → called ≡ call.Alter line → replay ≡ false → Fits core disk → Belongs core old
     → told ≡ down.Reply (answer.Done 1 ∷ []) [] old.ltxid → new ≡ noting old (piece_of called (answer.Done 1 ∷ []) []) → HasStored (kept.Alert line) core disk later end
     → HasServed (called_as replay marks called now) (1 + sequences_in (up.Call replay marks called)) (Says told) old core disk new later end
 alter_told called line replay marks now told old new core disk later end is unmarked fits belongs said seen stored =

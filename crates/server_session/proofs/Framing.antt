@@ -17,7 +17,7 @@ use Rattle.server_model.specs.Sessions.{Life, New, Idle, Begun, Ended}
 use Rattle.server_model.specs.declared.fault.ServeFault.{ServeFault}
 use Rattle.server_session.specs.declared.shared.Core.{Core}
 use Rattle.server_session.specs.Fits.{Fits, Belongs}
-use Rattle.server_session.specs.Seen.{Seen, begun_so, ended_so, is_alive}
+use Rattle.server_session.specs.SeenSession.{SeenSession, begun_so, ended_so, is_alive}
 use Rattle.server_session.specs.Serving.{Quietly, HasServed, Serves, called_as, served_as}
 use Rattle.server_session.proofs.Lifting.{serves_as, serves_quietly}
 use Rattle.server_session.proofs.Quiet.{connects, begins, ends, closes, refuses}
@@ -44,7 +44,7 @@ begun_at Ended replay kept called alive fine = absurd (false≢true alive)
 
 -- ---- what each frame comes to
 
-module _ (frame : Up) (now : ℕ) (old new : Seen) (core : Core) (disk : DiskState) (fits : Fits core disk) (belongs : Belongs core old) (alive : is_alive old.life ≡ true) where
+module _ (frame : Up) (now : ℕ) (old new : SeenSession) (core : Core) (disk : DiskState) (fits : Fits core disk) (belongs : Belongs core old) (alive : is_alive old.life ≡ true) where
   quietly : (kind : Up) (told : Telling) → frame ≡ kind → Quietly (served_as kind now) told old new → HasServed (served_as frame now) (1 + sequences_in frame) told old core disk new core disk
   quietly kind told is quiet =
       subst (λ (f : Up). HasServed (served_as f now) (1 + sequences_in f) told old core disk new core disk) (sym is)
@@ -72,7 +72,7 @@ module _ (frame : Up) (now : ℕ) (old new : Seen) (core : Core) (disk : DiskSta
   was_closed fine is seen = quietly up.Close Silent is (rw seen (closes old now (serving up.Close fine is refl)))
 
 -- a call, served in a request
-pub ran : (frame : Up) (replay : Bool) (kept : List Draw) (called : Call) (now : ℕ) (result : Result (Option Down) ServeFault) (old : Seen) (core : Core) (disk : DiskState) (new : Seen) (later : Core) (end : DiskState)
+pub ran : (frame : Up) (replay : Bool) (kept : List Draw) (called : Call) (now : ℕ) (result : Result (Option Down) ServeFault) (old : SeenSession) (core : Core) (disk : DiskState) (new : SeenSession) (later : Core) (end : DiskState)
     → is_alive old.life ≡ true → is_out_of_order old.life frame ≡ false → frame ≡ up.Call replay kept called
     → Serves (called_as replay kept called now) (1 + sequences_in (up.Call replay kept called)) result old core disk new later end → Serves (served_as frame now) (1 + sequences_in frame) result old core disk new later end
 ran frame replay kept called now result old core disk new later end alive fine is served =

@@ -15,12 +15,12 @@ use Rattle.server_model.specs.declared.fault.ServeFault.{ServeFault}
 use Rattle.server_model.specs.declared.fault.ServeFault.TheVariants as fault
 use Rattle.server_session.specs.Fits.{Fits, Belongs}
 use Rattle.server_session.specs.Plain.{IsPlain}
-use Rattle.server_session.specs.Seen.{Seen, sess_of}
+use Rattle.server_session.specs.SeenSession.{SeenSession, sess_of}
 use Rattle.server_session.specs.Serving.{Quietly, HasServed, HasLacked, Serves, told_of}
 use Rattle.server_session.proofs.Gaining.{gained_none}
 
 -- a session belongs to its core still, where its identifier stays
-pub belongs_still : (core : Core) (old new : Seen) (step : Plain → Sess → Plain → Sess → Telling → Type 0) (told : Telling) → Quietly step told old new → Belongs core old → Belongs core new
+pub belongs_still : (core : Core) (old new : SeenSession) (step : Plain → Sess → Plain → Sess → Telling → Type 0) (told : Telling) → Quietly step told old new → Belongs core old → Belongs core new
 belongs_still core old new step told quiet belongs = record {
   incarnation = ap (λ (x : Ltxid). x.incarnation) quiet.ltxid ∙ belongs.incarnation;
   number = ap (λ (x : Ltxid). x.number) quiet.ltxid ∙ belongs.number ∙ ap (λ (x : Ltxid). ((sessions_in core.book).state x.incarnation x.session).next) (sym quiet.ltxid);
@@ -29,7 +29,7 @@ belongs_still core old new step told quiet belongs = record {
 }
 
 -- a step that touches no store
-pub serves_quietly : (step : Plain → Sess → Plain → Sess → Telling → Type 0) (most : ℕ) (told : Telling) (old new : Seen) (core : Core) (disk : DiskState)
+pub serves_quietly : (step : Plain → Sess → Plain → Sess → Telling → Type 0) (most : ℕ) (told : Telling) (old new : SeenSession) (core : Core) (disk : DiskState)
     → Quietly step told old new → Fits core disk → Belongs core old → HasServed step most told old core disk new core disk
 serves_quietly step most told old new core disk quiet fits belongs = record {
   records = [];
@@ -42,7 +42,7 @@ serves_quietly step most told old new core disk quiet fits belongs = record {
 }
 
 -- what holds of each part's step holds of the whole's
-pub serves_as : (step wider : Plain → Sess → Plain → Sess → Telling → Type 0) (most : ℕ) (result : Result (Option Down) ServeFault) (old : Seen) (core : Core) (disk : DiskState) (new : Seen) (later : Core) (end : DiskState)
+pub serves_as : (step wider : Plain → Sess → Plain → Sess → Telling → Type 0) (most : ℕ) (result : Result (Option Down) ServeFault) (old : SeenSession) (core : Core) (disk : DiskState) (new : SeenSession) (later : Core) (end : DiskState)
     → ((plain : Plain) (reads : List Read) → IsPlain plain core disk → AreReadings old.txn.readings reads → (after : Plain) (t : Sess) (told : Telling) → step plain (sess_of old reads) after t told → wider plain (sess_of old reads) after t told)
     → Serves step most result old core disk new later end → Serves wider most result old core disk new later end
 serves_as step wider most (Ok told) old core disk new later end widens served = record {
@@ -69,7 +69,7 @@ serves_as step wider most (Err fault.Stopped) old core disk new later end widens
 }
 
 -- what is said of a fault is said whatever became of the session
-pub serves_fault : (step : Plain → Sess → Plain → Sess → Telling → Type 0) (most : ℕ) (error : ServeFault) (old : Seen) (core : Core) (disk : DiskState) (new other : Seen) (later : Core) (end : DiskState)
+pub serves_fault : (step : Plain → Sess → Plain → Sess → Telling → Type 0) (most : ℕ) (error : ServeFault) (old : SeenSession) (core : Core) (disk : DiskState) (new other : SeenSession) (later : Core) (end : DiskState)
     → Serves step most (Err error) old core disk new later end → Serves step most (Err error) old core disk other later end
 serves_fault step most fault.NoMemory old core disk new other later end served = served
 serves_fault step most fault.Stopped old core disk new other later end served = served

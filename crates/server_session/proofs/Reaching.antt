@@ -27,7 +27,7 @@ use Rattle.server_model.specs.Sessions.{entry_of}
 use Rattle.server_model.specs.declared.fault.ServeFault.{ServeFault}
 use Rattle.server_session.specs.declared.shared.Core.{Core}
 use Rattle.server_session.specs.Fits.{Fits, Belongs}
-use Rattle.server_session.specs.Seen.{Seen, sess_of, begun_so, ended_so}
+use Rattle.server_session.specs.SeenSession.{SeenSession, sess_of, begun_so, ended_so}
 use Rattle.server_session.specs.Serving.{HasServed, Serves, commits_as, stores_as}
 use Rattle.server_session.specs.Storing.{HasStored, Stores}
 use Rattle.server_session.proofs.Committing.{with_last-push, in_replay, blocked, conflicts, may_store, may_be, commit_told, commit_fault}
@@ -62,16 +62,16 @@ found_none (Some place) none = absurd (false≢true (sym none))
 
 -- ---- the whole commit
 
-module _ (replay : Bool) (called : Call) (answers : List Answer) (draws : List Draw) (core : Core) (disk : DiskState) (old : Seen) (fits : Fits core disk) (belongs : Belongs core old) where
-  pub marked_told : (told : Down) (new : Seen) → replay ≡ true → told ≡ down.Reply (with_last answers answer.CommitInReplay) draws old.ltxid → new ≡ begun_so old old.life old.settings
+module _ (replay : Bool) (called : Call) (answers : List Answer) (draws : List Draw) (core : Core) (disk : DiskState) (old : SeenSession) (fits : Fits core disk) (belongs : Belongs core old) where
+  pub marked_told : (told : Down) (new : SeenSession) → replay ≡ true → told ≡ down.Reply (with_last answers answer.CommitInReplay) draws old.ltxid → new ≡ begun_so old old.life old.settings
       → HasServed (commits_as replay called answers draws) 1 (Says told) old core disk new core disk
   marked_told told new marked is seen = rw marked (in_replay called answers draws core disk old fits belongs told new is seen)
 
-  pub blocked_told : (new : Seen) → replay ≡ false → new ≡ ended_so old → can_commit (sessions_in core.book) old.ltxid ≡ false
+  pub blocked_told : (new : SeenSession) → replay ≡ false → new ≡ ended_so old → can_commit (sessions_in core.book) old.ltxid ≡ false
       → HasServed (commits_as replay called answers draws) 1 (Says down.Blocked) old core disk new core disk
   blocked_told new unmarked seen cannot = rw unmarked (blocked called answers draws core disk old fits belongs new seen cannot)
 
-  pub conflict_told : (told : Down) (new : Seen) (at : Option (Bor Place)) → replay ≡ false → can_commit (sessions_in core.book) old.ltxid ≡ true
+  pub conflict_told : (told : Down) (new : SeenSession) (at : Option (Bor Place)) → replay ≡ false → can_commit (sessions_in core.book) old.ltxid ≡ true
       → ((reads : List Read) → AreReadings old.txn.readings reads → IsConflict reads core.tables.rows (option_copied at)) → is_some at ≡ true
       → told ≡ down.Reply (with_last answers answer.Conflict) draws old.ltxid → new ≡ begun_so old old.life old.settings
       → HasServed (commits_as replay called answers draws) 1 (Says told) old core disk new core disk
@@ -79,7 +79,7 @@ module _ (replay : Bool) (called : Call) (answers : List Answer) (draws : List D
       let found = found_there at some in
       rw unmarked (conflicts called answers draws core disk old fits belongs told new (option_copied at) is seen can conflict found.0 found.1)
 
-  pub stored_so : (at : Option (Bor Place)) (result : Result (Option Down) ServeFault) (new : Seen) (later : Core) (end : DiskState) → replay ≡ false → can_commit (sessions_in core.book) old.ltxid ≡ true
+  pub stored_so : (at : Option (Bor Place)) (result : Result (Option Down) ServeFault) (new : SeenSession) (later : Core) (end : DiskState) → replay ≡ false → can_commit (sessions_in core.book) old.ltxid ≡ true
       → ((reads : List Read) → AreReadings old.txn.readings reads → IsConflict reads core.tables.rows (option_copied at)) → is_some at ≡ false
       → Serves (stores_as called answers draws) 1 result old core disk new later end → Serves (commits_as replay called answers draws) 1 result old core disk new later end
   stored_so at result new later end unmarked can conflict none served =
@@ -90,7 +90,7 @@ module _ (replay : Bool) (called : Call) (answers : List Answer) (draws : List D
 
 -- ---- the entry that is stored
 
-module _ (called : Call) (answers : List Answer) (draws : List Draw) (core : Core) (disk : DiskState) (old : Seen) (fits : Fits core disk) (belongs : Belongs core old) (entry : Entry) (is : entry ≡ entry_of (sess_of old []) called answers draws) where
+module _ (called : Call) (answers : List Answer) (draws : List Draw) (core : Core) (disk : DiskState) (old : SeenSession) (fits : Fits core disk) (belongs : Belongs core old) (entry : Entry) (is : entry ≡ entry_of (sess_of old []) called answers draws) where
   pub entry_made : IsLtxid old.ltxid → IsMade called → IsMadeEntry entry
   entry_made within made = subst IsMadeEntry (sym is) (within, made_more old.txn.pieces _ belongs.calls made)
 
@@ -104,14 +104,14 @@ module _ (called : Call) (answers : List Answer) (draws : List Draw) (core : Cor
   entry_fits = ap (λ (e : Entry). writes_fit core.tables.schemas e.writes) is ∙ belongs.writes
 
   -- the session is one number further
-  pub entry_told : (between : Seen) (later : Core) (end : DiskState) → between ≡ begun_so old old.life old.settings → HasStored (kept.Commit entry) core disk later end
+  pub entry_told : (between : SeenSession) (later : Core) (end : DiskState) → between ≡ begun_so old old.life old.settings → HasStored (kept.Commit entry) core disk later end
       → HasServed (stores_as called answers draws) 1 (Says (down.Reply answers draws (record between.ltxid { number = between.ltxid.number + 1 }))) old core disk (record between { ltxid = record between.ltxid { number = between.ltxid.number + 1 } }) later end
   entry_told between later end seen stored =
       commit_told called answers draws core disk later end old fits belongs _ _
-      (ap (λ (s : Seen). down.Reply answers draws (record s.ltxid { number = s.ltxid.number + 1 })) seen)
-      (ap (λ (s : Seen). let next : Seen = record s { ltxid = record s.ltxid { number = s.ltxid.number + 1 } } in next) seen)
+      (ap (λ (s : SeenSession). down.Reply answers draws (record s.ltxid { number = s.ltxid.number + 1 })) seen)
+      (ap (λ (s : SeenSession). let next : SeenSession = record s { ltxid = record s.ltxid { number = s.ltxid.number + 1 } } in next) seen)
       (subst (λ (e : Entry). HasStored (kept.Commit e) core disk later end) is stored)
 
-  pub entry_fault : (error : ServeFault) (new : Seen) (later : Core) (end : DiskState) → Stores (kept.Commit entry) (Err error) core disk later end → Serves (stores_as called answers draws) 1 (Err error) old core disk new later end
+  pub entry_fault : (error : ServeFault) (new : SeenSession) (later : Core) (end : DiskState) → Stores (kept.Commit entry) (Err error) core disk later end → Serves (stores_as called answers draws) 1 (Err error) old core disk new later end
   entry_fault error new later end stores =
       commit_fault called answers draws core disk later end old fits belongs error new (subst (λ (e : Entry). Stores (kept.Commit e) (Err error) core disk later end) is stores)

@@ -15,13 +15,13 @@ use Rattle.server_model.specs.Outcomes.{Says}
 use Rattle.server_model.specs.Sessions.{piece_of}
 use Rattle.server_session.specs.declared.shared.Core.{Core}
 use Rattle.server_session.specs.Fits.{Fits, Belongs}
-use Rattle.server_session.specs.Seen.{Seen, begun_so}
+use Rattle.server_session.specs.SeenSession.{SeenSession, begun_so}
 use Rattle.server_session.specs.Serving.{HasServed, called_as}
 use Rattle.server_session.proofs.Lifting.{serves_quietly}
 use Rattle.server_session.proofs.Quiet.{disables, noting, rolls_back, sets}
 
-module _ (called : Call) (replay : Bool) (marks : List Draw) (now : ℕ) (told : Down) (old new : Seen) (core : Core) (disk : DiskState) (fits : Fits core disk) (belongs : Belongs core old) where
-  abbrev pub set_to : List ℕ → Value → Call → Seen
+module _ (called : Call) (replay : Bool) (marks : List Draw) (now : ℕ) (told : Down) (old new : SeenSession) (core : Core) (disk : DiskState) (fits : Fits core disk) (belongs : Belongs core old) where
+  abbrev pub set_to : List ℕ → Value → Call → SeenSession
   set_to name value one = record (noting old (piece_of one (answer.Done 1 ∷ []) [])) { settings = put_setting old.settings name value }
 
   pub set_told : (name : List ℕ) (value : Value) → called ≡ call.Set name value → told ≡ down.Reply (answer.Done 1 ∷ []) [] old.ltxid
@@ -32,7 +32,7 @@ module _ (called : Call) (replay : Bool) (marks : List Draw) (now : ℕ) (told :
       rw (is, said, after) (serves_quietly (called_as replay marks (call.Set name value) now) (1 + sequences_in (up.Call replay marks (call.Set name value)))
       (Says (down.Reply (answer.Done 1 ∷ []) [] old.ltxid)) old (set_to name value (call.Set name value)) core disk (sets old replay marks now name value) fits belongs)
 
-  abbrev pub noted_as : Call → Seen
+  abbrev pub noted_as : Call → SeenSession
   noted_as one = noting old (piece_of one (answer.Done 0 ∷ []) [])
 
   pub disable_told : called ≡ call.Disable → told ≡ down.Reply (answer.Done 0 ∷ []) [] old.ltxid → new ≡ noting old (piece_of called (answer.Done 0 ∷ []) [])

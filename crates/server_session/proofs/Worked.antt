@@ -23,7 +23,7 @@ use Rattle.server_session.specs.declared.shared.Core.{Core}
 use Rattle.server_session.specs.Dealing.{AtDesk}
 use Rattle.server_session.specs.Fits.{Fits, Belongs}
 use Rattle.server_session.specs.Running.{Ground, HasRunOver, RunsOver}
-use Rattle.server_session.specs.Seen.{Seen}
+use Rattle.server_session.specs.SeenSession.{SeenSession}
 use Rattle.server_session.specs.Serving.{Serves, called_as, commits_as}
 use Rattle.server_session.proofs.Quiet.{noting}
 use Rattle.server_session.proofs.Working.{answered, belongs_then, committed_on, ended_on, fits_then, lacked_on}
@@ -36,26 +36,26 @@ err_is {A} result error other told is = subst (λ (e : ServeFault). result ≡ E
 abbrev pub start_at : Core → List Draw → DiskState → AtDesk
 start_at core left disk = record { opening = core.source; left = left; log = core.log; disk = disk }
 
-abbrev pub ground_of : Core → Seen → List Statement → Ground
+abbrev pub ground_of : Core → SeenSession → List Statement → Ground
 ground_of core old statements = record { tables = core.tables; settings = old.settings; txn = old.txn; statements = statements }
 
 abbrev pub core_after : Core → AtDesk → Core
 core_after core desk = record core { source = desk.opening; log = desk.log }
 
-abbrev pub seen_after : Seen → Transaction → Seen
+abbrev pub seen_after : SeenSession → Transaction → SeenSession
 seen_after old txn = record old { txn = txn }
 
-module _ (statements : List Statement) (commit replay : Bool) (marks : List Draw) (now : ℕ) (old : Seen) (core : Core) (disk : DiskState) (fits : Fits core disk) (belongs : Belongs core old)
+module _ (statements : List Statement) (commit replay : Bool) (marks : List Draw) (now : ℕ) (old : SeenSession) (core : Core) (disk : DiskState) (fits : Fits core disk) (belongs : Belongs core old)
     (one : Call) (is : one ≡ call.Work statements commit) (left : List Draw) (left_is : left ≡ brought core.grants core.source replay marks) where
-  abbrev pub Serving : Result (Option Down) ServeFault → Seen → Core → DiskState → Type 0
+  abbrev pub Serving : Result (Option Down) ServeFault → SeenSession → Core → DiskState → Type 0
   Serving result new later end = Serves (called_as replay marks one now) (1 + sequences_in (up.Call replay marks one)) result old core disk new later end
 
-  by_name : (result : Result (Option Down) ServeFault) (new : Seen) (later : Core) (end : DiskState)
+  by_name : (result : Result (Option Down) ServeFault) (new : SeenSession) (later : Core) (end : DiskState)
       → Serves (called_as replay marks (call.Work statements commit) now) (1 + sequences_in (up.Call replay marks (call.Work statements commit))) result old core disk new later end → Serving result new later end
   by_name result new later end served = subst (λ (k : Call). Serves (called_as replay marks k now) (1 + sequences_in (up.Call replay marks k)) result old core disk new later end) (sym is) served
 
   -- the run was ended
-  pub work_ended : (error : ServeFault) (txn : Transaction) (after : AtDesk) (result : Result (Option Down) ServeFault) (new : Seen) (later : Core) → result ≡ Err error
+  pub work_ended : (error : ServeFault) (txn : Transaction) (after : AtDesk) (result : Result (Option Down) ServeFault) (new : SeenSession) (later : Core) → result ≡ Err error
       → RunsOver now (ground_of core old statements) (1 + sequences_in (up.Call replay marks (call.Work statements commit))) (start_at core left disk) (Err error) txn after → Serving result new later after.disk
   work_ended error txn after result new later told over =
       subst (λ (r : Result (Option Down) ServeFault). Serving r new later after.disk) (sym told)
@@ -67,7 +67,7 @@ module _ (statements : List Statement) (commit replay : Bool) (marks : List Draw
     over_here = subst (λ (l : List Draw). HasRunOver now (ground_of core old statements) (start_at core l disk) ran txn desk) left_is over
 
     -- no memory behind it
-    pub work_lacked : (result : Result (Option Down) ServeFault) (new : Seen) (later : Core) → result ≡ Err fault.NoMemory → Serving result new later desk.disk
+    pub work_lacked : (result : Result (Option Down) ServeFault) (new : SeenSession) (later : Core) → result ≡ Err fault.NoMemory → Serving result new later desk.disk
     work_lacked result new later told =
         subst (λ (r : Result (Option Down) ServeFault). Serving r new later desk.disk) (sym told)
         (by_name (Err fault.NoMemory) new later desk.disk (lacked_on statements commit replay marks now old core disk fits belongs ran txn desk over_here (closed_by commit ran.answers) refl))
@@ -80,14 +80,14 @@ module _ (statements : List Statement) (commit replay : Bool) (marks : List Draw
       work_belongs = belongs_then statements commit replay marks now old core disk fits belongs ran txn desk over_here answers closed
 
       -- a commit is reached
-      pub work_committed : (result : Result (Option Down) ServeFault) (new : Seen) (later : Core) (end : DiskState) → ends_committed answers ≡ true
+      pub work_committed : (result : Result (Option Down) ServeFault) (new : SeenSession) (later : Core) (end : DiskState) → ends_committed answers ≡ true
           → Serves (commits_as replay one answers ran.draws) 1 result (seen_after old txn) (core_after core desk) desk.disk new later end → Serving result new later end
       work_committed result new later end ends served =
           by_name result new later end (committed_on statements commit replay marks now old core disk fits belongs ran txn desk over_here answers closed result new later end ends
           (subst (λ (k : Call). Serves (commits_as replay k answers ran.draws) 1 result (seen_after old txn) (core_after core desk) desk.disk new later end) is served))
 
       -- or the transaction goes on
-      pub work_answered : (told : Down) (new : Seen) → ends_committed answers ≡ false → IsMade one → told ≡ down.Reply answers ran.draws old.ltxid → new ≡ noting (seen_after old txn) (piece_of one answers ran.draws)
+      pub work_answered : (told : Down) (new : SeenSession) → ends_committed answers ≡ false → IsMade one → told ≡ down.Reply answers ran.draws old.ltxid → new ≡ noting (seen_after old txn) (piece_of one answers ran.draws)
           → Serving (Ok (Some told)) new (core_after core desk) desk.disk
       work_answered told new open_still made said seen =
           by_name (Ok (Some told)) new (core_after core desk) desk.disk

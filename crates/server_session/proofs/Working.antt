@@ -56,7 +56,7 @@ use Rattle.server_session.specs.Dealing.{AtDesk, IsPrepared, HasDealt, reserving
 use Rattle.server_session.specs.Fits.{Fits, Belongs, IsSourceOf, sequence_of, tables_of}
 use Rattle.server_session.specs.Plain.{IsStored, IsPlain}
 use Rattle.server_session.specs.Running.{Ground, HasRunOver, HasHaltedOver, RunsOver}
-use Rattle.server_session.specs.Seen.{Seen, sess_of}
+use Rattle.server_session.specs.SeenSession.{SeenSession, sess_of}
 use Rattle.server_session.specs.Serving.{HasServed, HasStopped, HasLacked, Serves, called_as, commits_as, told_of}
 use Rattle.server_session.proofs.Committing.{same_rows}
 use Rattle.server_session.proofs.Cores.{belongs_with, same_journal}
@@ -98,7 +98,7 @@ stored_at plain journal more opening later is e source = record {
   source = source;
 }
 
-module _ (statements : List Statement) (commit replay : Bool) (marks : List Draw) (now : ℕ) (old : Seen) (core : Core) (disk : DiskState) (fits : Fits core disk) (belongs : Belongs core old) where
+module _ (statements : List Statement) (commit replay : Bool) (marks : List Draw) (now : ℕ) (old : SeenSession) (core : Core) (disk : DiskState) (fits : Fits core disk) (belongs : Belongs core old) where
   abbrev pub called : Call
   called = call.Work statements commit
 
@@ -114,7 +114,7 @@ module _ (statements : List Statement) (commit replay : Bool) (marks : List Draw
   abbrev pub core_at : AtDesk → Core
   core_at desk = record core { source = desk.opening; log = desk.log }
 
-  abbrev pub seen_at : Transaction → Seen
+  abbrev pub seen_at : Transaction → SeenSession
   seen_at txn = record old { txn = txn }
 
   pub prepared_here : IsPrepared core.source core.log disk
@@ -140,7 +140,7 @@ module _ (statements : List Statement) (commit replay : Bool) (marks : List Draw
     incarnation_at : desk.opening.incarnation ≡ core.source.incarnation
     incarnation_at = prepared.source.incarnation ∙ ap (λ (j : Journal). j.incarnation) journal_is ∙ sym fits.source.incarnation
 
-    pub others_at : (other : Seen) → Belongs core other → Belongs (core_at desk) other
+    pub others_at : (other : SeenSession) → Belongs core other → Belongs (core_at desk) other
     others_at other stays = belongs_with core (core_at desk) other refl incarnation_at refl stays
 
     pub plain_at : (plain : Plain) → IsPlain plain core disk → IsPlain (with_opening plain desk.opening) (core_at desk) desk.disk
@@ -236,7 +236,7 @@ module _ (statements : List Statement) (commit replay : Bool) (marks : List Draw
     }
 
     -- it is answered, and its transaction goes on
-    pub answered : (told : Down) (new : Seen) → ends_committed answers ≡ false → IsMade called → told ≡ down.Reply answers ran.draws old.ltxid → new ≡ noting (seen_at txn) (piece_of called answers ran.draws)
+    pub answered : (told : Down) (new : SeenSession) → ends_committed answers ≡ false → IsMade called → told ≡ down.Reply answers ran.draws old.ltxid → new ≡ noting (seen_at txn) (piece_of called answers ran.draws)
         → HasServed (called_as replay marks called now) most (Says told) old core disk new (core_at desk) desk.disk
     answered told new open_still made said seen =
         rw (said, seen) (record {
@@ -276,7 +276,7 @@ module _ (statements : List Statement) (commit replay : Bool) (marks : List Draw
         IsWork statements commit after t told
         (Reaches desk.opening ran.draws desk.left meant_here after t told (draws_here plain is ran.draws desk.opening desk.left over.dealt.draws) (means_here plain is reads ran.draws over.run.meant over.run.means over.run.used) (ap ends_committed (sym answers_here) ∙ ends) there)
 
-    pub committed_on : (result : Result (Option Down) ServeFault) (new : Seen) (later : Core) (end : DiskState) → ends_committed answers ≡ true
+    pub committed_on : (result : Result (Option Down) ServeFault) (new : SeenSession) (later : Core) (end : DiskState) → ends_committed answers ≡ true
         → Serves (commits_as replay called answers ran.draws) 1 result (seen_at txn) (core_at desk) desk.disk new later end → Serves (called_as replay marks called now) most result old core disk new later end
     committed_on (Ok told) new later end ends served = record {
       records = reserving over.dealt.reservations ++ served.records;
@@ -362,6 +362,6 @@ module _ (statements : List Statement) (commit replay : Bool) (marks : List Draw
       }
 
   -- the run was ended
-  pub ended_on : (error : ServeFault) (txn : Transaction) (after : AtDesk) (new : Seen) (later : Core) → RunsOver now ground most before (Err error) txn after → Serves (called_as replay marks called now) most (Err error) old core disk new later after.disk
+  pub ended_on : (error : ServeFault) (txn : Transaction) (after : AtDesk) (new : SeenSession) (later : Core) → RunsOver now ground most before (Err error) txn after → Serves (called_as replay marks called now) most (Err error) old core disk new later after.disk
   ended_on fault.NoMemory txn after new later lacked = lacked
   ended_on fault.Stopped txn after new later halted = halted_on after.disk halted

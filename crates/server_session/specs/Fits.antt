@@ -18,7 +18,7 @@ use Rattle.table_store.specs.Stored.{Stored}
 use Rattle.server_model.specs.Base.{Sequence}
 use Rattle.server_model.specs.Core.{tables_with}
 use Rattle.server_session.specs.declared.shared.Core.{Core}
-use Rattle.server_session.specs.Seen.{Seen}
+use Rattle.server_session.specs.SeenSession.{SeenSession}
 
 -- the tables of a journal: those that it began with, and what its entries wrote
 abbrev pub tables_of : Journal → Stored
@@ -49,7 +49,7 @@ pub record Fits (core : Core) (disk : DiskState) : Type 0 where
 
 -- The session is one of the core's incarnation, and its number is the next one by the book. Its
 -- transaction can be stored: the writes fit the tables, and its calls are such as are made.
-pub record Belongs (core : Core) (seen : Seen) : Type 0 where
+pub record Belongs (core : Core) (seen : SeenSession) : Type 0 where
   pub incarnation : seen.ltxid.incarnation ≡ core.source.incarnation
   pub number : seen.ltxid.number ≡ ((sessions_in core.book).state seen.ltxid.incarnation seen.ltxid.session).next
   pub writes : IsTrue (writes_fit core.tables.schemas seen.txn.writes)

@@ -5,7 +5,7 @@ pub mod Fits
 pub mod Lives
 pub mod Plain
 pub mod Running
-pub mod Seen
+pub mod SeenSession
 pub mod Serving
 pub mod Stored
 pub mod Storing

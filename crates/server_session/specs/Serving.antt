@@ -8,9 +8,6 @@ use Rattle.svc_values.specs.declared.call.Call.{Call}
 use Rattle.svc_values.specs.declared.draw.Draw.{Draw}
 use Rattle.svc_values.specs.declared.frame.Down.{Down}
 use Rattle.svc_values.specs.declared.frame.Up.{Up}
-use Rattle.svc_values.specs.declared.frame.Up.TheVariants as up
-use Rattle.svc_values.specs.Calls.{IsMade}
-use Rattle.svc_values.specs.Identifiers.{IsLtxid}
 use Rattle.svc_values.specs.declared.schema.Schema.{Schema}
 use Rattle.svc_values.specs.Fitting.{writes_fit}
 use Rattle.canon_bytes.specs.Entries.{IsMadePiece}
@@ -29,7 +26,7 @@ use Rattle.server_model.specs.declared.fault.ServeFault.TheVariants as fault
 use Rattle.server_session.specs.Adding.{HasGained, HasHalted}
 use Rattle.server_session.specs.Fits.{Fits, Belongs}
 use Rattle.server_session.specs.Plain.{IsStored, IsPlain}
-use Rattle.server_session.specs.Seen.{Seen, sess_of}
+use Rattle.server_session.specs.SeenSession.{SeenSession, sess_of}
 
 -- In what follows `step` is a relation of the plain server: its core and session before, these
 -- afterwards, and what is told.
@@ -49,24 +46,18 @@ commits_as replay called answers draws plain sess after t told = Commits plain s
 abbrev pub stores_as : Call → List Answer → List Draw → Plain → Sess → Plain → Sess → Telling → Type 0
 stores_as called answers draws plain sess after t told = MayStore plain sess false → Commits plain sess false called answers draws after t told
 
--- a frame's call is one that can be made, and the identifier that it asks for an identifier
-abbrev pub IsMadeFrame : Up → Type 0
-IsMadeFrame (up.Call replay kept called) = IsMade called
-IsMadeFrame (up.Outcome x) = IsLtxid x
-IsMadeFrame _ = Unit {0}
-
 abbrev pub told_of : Option Down → Telling
 told_of None = Silent
 told_of (Some down) = Says down
 
 -- The plain server may do this step, and its session read then what the session's notes stand for.
-pub record StepsTo (step : Plain → Sess → Plain → Sess → Telling → Type 0) (told : Telling) (plain : Plain) (sess : Sess) (after : Plain) (new : Seen) : Type 0 where
+pub record StepsTo (step : Plain → Sess → Plain → Sess → Telling → Type 0) (told : Telling) (plain : Plain) (sess : Sess) (after : Plain) (new : SeenSession) : Type 0 where
   pub reads : List Read
   pub noted : AreReadings new.txn.readings reads
   pub steps : step plain sess after (sess_of new reads) told
 
 -- A step that touches no store.
-pub record Quietly (step : Plain → Sess → Plain → Sess → Telling → Type 0) (told : Telling) (old new : Seen) : Type 0 where
+pub record Quietly (step : Plain → Sess → Plain → Sess → Telling → Type 0) (told : Telling) (old new : SeenSession) : Type 0 where
   pub steps : (plain : Plain) (reads : List Read) → AreReadings old.txn.readings reads → StepsTo step told plain (sess_of old reads) plain new
   pub ltxid : new.ltxid ≡ old.ltxid
   pub fitting : (schemas : List Schema) → IsTrue (writes_fit schemas old.txn.writes) → IsTrue (writes_fit schemas new.txn.writes)
@@ -74,19 +65,19 @@ pub record Quietly (step : Plain → Sess → Plain → Sess → Telling → Typ
 
 -- A step that was answered: it added at most so many records. Everything fits again, the other sessions
 -- too, and the plain server may do the same.
-pub record HasServed (step : Plain → Sess → Plain → Sess → Telling → Type 0) (most : ℕ) (told : Telling) (old : Seen) (core : Core) (disk : DiskState) (new : Seen) (later : Core) (end : DiskState) : Type 0 where
+pub record HasServed (step : Plain → Sess → Plain → Sess → Telling → Type 0) (most : ℕ) (told : Telling) (old : SeenSession) (core : Core) (disk : DiskState) (new : SeenSession) (later : Core) (end : DiskState) : Type 0 where
   pub records : List Record
   pub few : length records ≤ most
   pub gained : HasGained records disk end
   pub fits : Fits later end
   pub belongs : Belongs later new
-  pub others : (other : Seen) → other.ltxid.session ≢ old.ltxid.session → Belongs core other → Belongs later other
+  pub others : (other : SeenSession) → other.ltxid.session ≢ old.ltxid.session → Belongs core other → Belongs later other
   pub steps : (plain : Plain) (reads : List Read) → IsPlain plain core disk → AreReadings old.txn.readings reads
       → (after : Plain) × (IsPlain after later end × StepsTo step told plain (sess_of old reads) after new)
 
 -- A step that was stopped in a record: whatever a crash then leaves, the plain server may have been
 -- stopped with it.
-pub record HasStopped (step : Plain → Sess → Plain → Sess → Telling → Type 0) (most : ℕ) (old : Seen) (core : Core) (disk : DiskState) (end : DiskState) : Type 0 where
+pub record HasStopped (step : Plain → Sess → Plain → Sess → Telling → Type 0) (most : ℕ) (old : SeenSession) (core : Core) (disk : DiskState) (end : DiskState) : Type 0 where
   pub records : List Record
   pub last : Record
   pub few : length records + 1 ≤ most
@@ -102,7 +93,7 @@ pub record HasLacked (most : ℕ) (disk end : DiskState) : Type 0 where
   pub moments : Meanwhile disk end (IsGrown disk.now.seen records)
 
 -- by the answer
-abbrev pub Serves : (step : Plain → Sess → Plain → Sess → Telling → Type 0) → ℕ → Result (Option Down) ServeFault → Seen → Core → DiskState → Seen → Core → DiskState → Type 0
+abbrev pub Serves : (step : Plain → Sess → Plain → Sess → Telling → Type 0) → ℕ → Result (Option Down) ServeFault → SeenSession → Core → DiskState → SeenSession → Core → DiskState → Type 0
 Serves step most (Ok told) old core disk new later end = HasServed step most (told_of told) old core disk new later end
 Serves step most (Err fault.NoMemory) old core disk new later end = HasLacked most disk end
 Serves step most (Err fault.Stopped) old core disk new later end = HasStopped step most old core disk end

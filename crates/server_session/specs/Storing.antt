@@ -17,7 +17,7 @@ use Rattle.server_model.specs.declared.fault.ServeFault.TheVariants as fault
 use Rattle.server_session.specs.Adding.{HasGained, HasHalted}
 use Rattle.server_session.specs.Fits.{Fits, Belongs}
 use Rattle.server_session.specs.Plain.{IsStored, IsPlain}
-use Rattle.server_session.specs.Seen.{Seen}
+use Rattle.server_session.specs.SeenSession.{SeenSession}
 use Rattle.server_session.specs.Serving.{HasLacked}
 
 -- ---- one record
@@ -52,7 +52,7 @@ pub record HasTold (x : Ltxid) (told : Verdict) (core : Core) (disk : DiskState)
   pub few : length records ≤ 1
   pub gained : HasGained records disk end
   pub fits : Fits later end
-  pub belongs : (seen : Seen) → Belongs core seen → Belongs later seen
+  pub belongs : (seen : SeenSession) → Belongs core seen → Belongs later seen
   pub steps : (plain : Plain) → IsPlain plain core disk → (verdict_on plain x ≡ told) × IsPlain (if_blocks told plain x) later end
 
 -- The block was stopped, and stands in what a crash then leaves or not.

@@ -5,7 +5,7 @@ ghost use Rattle.svc_values.specs.declared.answer.Answer.TheVariants as answer;
 ghost use Rattle.svc_values.specs.declared.call.Call.TheVariants as call_variant;
 ghost use Rattle.svc_values.specs.declared.frame.Down.TheVariants as down;
 ghost use Rattle.server_model.specs.Sessions.{piece_of};
-ghost use Rattle.server_session.specs.Seen.{begun_so, started_with};
+ghost use Rattle.server_session.specs.SeenSession.{begun_so, started_with};
 
 use crate::session::Session;
 use std::alloc::Global;

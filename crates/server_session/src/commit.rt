@@ -10,7 +10,7 @@ ghost use Rattle.stmt_meaning.specs.Laws.{closed_by};
 ghost use Rattle.server_model.specs.Serve.{with_last as with_last_def};
 ghost use Rattle.server_model.specs.Sessions.{entry_of};
 ghost use Rattle.server_session.specs.Fits.{Fits, Belongs};
-ghost use Rattle.server_session.specs.Seen.{begun_so, sess_of, started_with};
+ghost use Rattle.server_session.specs.SeenSession.{begun_so, sess_of, started_with};
 ghost use Rattle.server_session.specs.Serving.{Serves, commits_as, stores_as};
 ghost use Rattle.server_session.specs.Storing.{Stores};
 

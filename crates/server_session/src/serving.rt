@@ -2,11 +2,12 @@
 ghost use Rattle.std.specs.Prelude.{◌≡◌, ◌+◌, true, false, OnErr, IsErrOf};
 ghost use Rattle.svc_values.specs.declared.frame.Up.TheVariants as up;
 ghost use Rattle.svc_values.specs.Calls.{IsMade, sequences_in};
+ghost use Rattle.canon_bytes.specs.UpBytes.{IsMadeUp};
 ghost use Rattle.server_model.specs.Sessions.{Begun};
 ghost use Rattle.server_model.specs.ServiceCalls.{may_store};
 ghost use Rattle.server_session.specs.Fits.{Fits, Belongs};
-ghost use Rattle.server_session.specs.Seen.{is_alive};
-ghost use Rattle.server_session.specs.Serving.{IsMadeFrame, Serves, called_as, served_as};
+ghost use Rattle.server_session.specs.SeenSession.{is_alive};
+ghost use Rattle.server_session.specs.Serving.{Serves, called_as, served_as};
 
 use crate::session::Session;
 use crate::shared::Core;
@@ -30,7 +31,7 @@ impl Session {
         requires lives { is_alive self.old.life ≡ true }
         requires fits { Fits core.old (D.state disk.old) }
         requires belongs { Belongs core.old self.old }
-        requires made { IsMadeFrame frame.now }
+        requires made { IsMadeUp frame.now }
         ensures served { Serves (served_as frame.now now) (1 + sequences_in frame.now) result self.old core.old (D.state disk.old) self.new core.new (D.state disk.new) }
         ensures ended { OnErr result (is_alive self.new.life ≡ false) }
 
@@ -57,7 +58,7 @@ impl Session {
         requires lives { is_alive self.old.life ≡ true }
         requires fits { Fits core.old (D.state disk.old) }
         requires belongs { Belongs core.old self.old }
-        requires made { IsMadeFrame frame.now }
+        requires made { IsMadeUp frame.now }
         ensures served { Serves (served_as frame.now now) (1 + sequences_in frame.now) result self.old core.old (D.state disk.old) self.new core.new (D.state disk.new) }
         ensures silent { may_store frame.now ≡ false → (D.state disk.new ≡ D.state disk.old) × (IsErrOf result ServeFault.Stopped → ⊥) }
     {

@@ -7,7 +7,7 @@ ghost use Rattle.table_txn.specs.Readings.{AreReadings};
 ghost use Rattle.table_txn.specs.Transactions.{empty};
 ghost use Rattle.server_model.specs.Sessions.{New, Idle, Begun, Ended, made};
 ghost use Rattle.server_model.specs.Serve.{is_out_of_order as is_out_of_order_def, is_serving};
-ghost use Rattle.server_session.specs.Seen.{begins, begun_so, ended_so, is_alive, sess_of};
+ghost use Rattle.server_session.specs.SeenSession.{begins, begun_so, ended_so, is_alive, sess_of};
 
 use crate::life::Life;
 use session_state::SessionState;
@@ -29,12 +29,12 @@ pub struct Session {
 }
 
 impl Model for Session {
-    ghost use Rattle.server_session.specs.Seen.{Seen};
+    ghost use Rattle.server_session.specs.SeenSession.{SeenSession};
 
-    ghost Value = { Seen };
+    ghost Value = { SeenSession };
 
     ghost use Rattle.server_session.specs.Lives.{life_of};
-    ghost use Rattle.server_session.specs.Seen.{started_with};
+    ghost use Rattle.server_session.specs.SeenSession.{started_with};
 
     ghost view = { λ s. record { ltxid = s.ltxid; life = life_of s.life; settings = s.state.settings; at_start = started_with s.earlier s.state.settings; txn = s.txn } };
 }

@@ -1,5 +1,9 @@
 //! The calls of a service.
 ghost use Rattle.std.specs.Prelude.{◌≡◌, ◌<◌, ◌^◌, true, false, None, IfOk, Ok};
+ghost use Rattle.std.specs.List.{AllByRecursion};
+ghost use Rattle.svc_values.specs.Calls.{IsMade};
+ghost use Rattle.svc_values.specs.Identifiers.{IsLtxid};
+ghost use Rattle.canon_bytes.specs.UpBytes.{IsMadeUp};
 ghost use Rattle.server_model.specs.Seen.{Seen, Lives};
 ghost use Rattle.server_model.specs.ServiceCalls.{Connected, Reaped, with_stop, ServedOne, MayCrash, Crashed, MayForget, Opened, StoppedOpening, RanOutside, StoppedOutside, AskedOne, StoppedAsk, Looked, StoppedLook};
 ghost use Rattle.service_calls.specs.Answers.{IfTold, Ends, NotMemory, runs_of};
@@ -21,7 +25,7 @@ use svc_values::{Call, Down, Ltxid, NoMemory, Up};
 /// dropped. Fewer than 2^48 calls may be made on one.
 pub trait Service {
     ghost use Rattle.std.specs.Prelude.{ℕ, List};
-    ghost use Rattle.server_model.specs.Seen.{ServiceState, Seen};
+    ghost use Rattle.server_model.specs.Seen.{Store, ServiceState, Seen};
     ghost use Rattle.service_calls.specs.Kept.{IsHonest};
 
     /// Its state: the store, the connections that live, and the stop.
@@ -30,6 +34,9 @@ pub trait Service {
     /// What a read of its store gives.
     ghost bytes: { Self → List ℕ };
 
+    /// What a crash may leave of its store.
+    ghost leaves: { Self → Store → Type 0 };
+
     /// What may be seen of it: its state, with where it began and the frames that were served since.
     ghost sees: { Self → Seen → Type 0 };
 
@@ -37,9 +44,9 @@ pub trait Service {
     fn is_up(&self) -> bool
         ensures { result ≡ (state self.now).is_up };
 
-    /// The incarnation of the last opening, 0 where there was none.
+    /// The incarnation of this opening. Of a service that is down it says nothing.
     fn incarnation(&self) -> u64
-        ensures { result ≡ (state self.now).store.incarnation };
+        ensures { (state self.now).is_up ≡ true → result ≡ (state self.now).store.incarnation };
 
     /// Makes a connection, which has no session until its first frame is served. Gives false, and
     /// makes none, where the service is down.
@@ -61,7 +68,8 @@ pub trait Service {
         requires live { (state self.old).is_spent ≡ false }
         requires few { (state self.old).calls < 2 ^ 48 }
         requires lives { Lives (state self.old) connection }
-        ensures served { IfTold result (λ told. Goes (sees self.old) (sees self.new) (λ old new. ServedOne old connection now frame.now told new)) }
+        requires made { IsMadeUp frame.now }
+        ensures served { IfTold result (λ told. Goes (sees self.old) (sees self.new) (λ old new. ServedOne old connection now frame.now told (leaves self.new) new)) }
         ensures base { NotMemory result (HaveOneBase (bytes self.old) (bytes self.new)) };
 
     /// Ends a connection, with its session. It takes no memory.
@@ -85,6 +93,7 @@ pub trait Service {
         requires live { (state self.old).is_spent ≡ false }
         requires few { (state self.old).calls < 2 ^ 48 }
         requires may { MayCrash (state self.old) pick }
+        ensures left { leaves self.old (state self.new).store }
         ensures crashed { Goes (sees self.old) (sees self.new) (λ old new. Crashed old pick new) }
         ensures base { HaveOneBase (bytes self.old) (bytes self.new) };
 
@@ -95,7 +104,7 @@ pub trait Service {
         requires few { (state self.old).calls < 2 ^ 48 }
         requires down { ((state self.old).is_up ≡ false) × ((state self.old).is_settled ≡ true) }
         requires may { MayForget (state self.old) horizon }
-        ensures opened { Ends result (λ done. Goes (sees self.old) (sees self.new) (λ old new. Opened old horizon new)) (Goes (sees self.old) (sees self.new) (λ old new. StoppedOpening old horizon new)) }
+        ensures opened { Ends result (λ done. Goes (sees self.old) (sees self.new) (λ old new. Opened old horizon new)) (Goes (sees self.old) (sees self.new) (λ old new. StoppedOpening old horizon (leaves self.new) new)) }
         ensures base { NotMemory result (HaveOneBase (bytes self.old) (bytes self.new)) };
 
     /// Runs calls in a session of their own, up to the first that is answered Blocked.
@@ -108,7 +117,8 @@ pub trait Service {
         requires live { (state self.old).is_spent ≡ false }
         requires few { (state self.old).calls < 2 ^ 48 }
         requires up { (state self.old).is_up ≡ true }
-        ensures ran { Ends result (λ ran. Goes (sees self.old) (sees self.new) (λ old new. RanOutside old calls.now now ran.ltxid (runs_of ran) new)) (Goes (sees self.old) (sees self.new) StoppedOutside) }
+        requires made { AllByRecursion IsMade calls.now }
+        ensures ran { Ends result (λ ran. Goes (sees self.old) (sees self.new) (λ old new. RanOutside old calls.now now ran.ltxid (runs_of ran) new)) (Goes (sees self.old) (sees self.new) (λ old new. StoppedOutside old (leaves self.new) new)) }
         ensures base { NotMemory result (HaveOneBase (bytes self.old) (bytes self.new)) };
 
     /// Tells the outcome of an identifier. One that may still commit is blocked first, and told as
@@ -117,7 +127,8 @@ pub trait Service {
         requires live { (state self.old).is_spent ≡ false }
         requires few { (state self.old).calls < 2 ^ 48 }
         requires up { (state self.old).is_up ≡ true }
-        ensures asked { Ends result (λ told. Goes (sees self.old) (sees self.new) (λ old new. AskedOne old x.now told new)) (Goes (sees self.old) (sees self.new) (λ old new. StoppedAsk old x.now new)) }
+        requires identifier { IsLtxid x.now }
+        ensures asked { Ends result (λ told. Goes (sees self.old) (sees self.new) (λ old new. AskedOne old x.now told new)) (Goes (sees self.old) (sees self.new) (λ old new. StoppedAsk old x.now (leaves self.new) new)) }
         ensures base { NotMemory result (HaveOneBase (bytes self.old) (bytes self.new)) };
 
     /// What the store holds. It writes nothing, and reads the whole store.

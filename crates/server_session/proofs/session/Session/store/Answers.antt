@@ -1,7 +1,7 @@
 use Rattle.std.proofs.Common.{refl, subst, ◌∙◌}
 use Rattle.std.proofs.lemmas.Result.{err_from_is_err_and}
 use Rattle.svc_values.specs.Identifiers.{IsLtxid}
-use Rattle.server_session.specs.Seen.{Seen}
+use Rattle.server_session.specs.SeenSession.{SeenSession}
 use Rattle.server_session.proofs.Lifting.{lacked_nothing}
 use Rattle.server_session.proofs.Reaching.{entry_made, entry_current, entry_may, entry_fits, entry_told, entry_fault}
 use Rattle.server_session.proofs.session.Session.store.Goals as goal
@@ -22,7 +22,7 @@ store_entry-requires g c =
     let is = c.in_ok-entry.ensures.entry in
     record {
       fits = c.requires.fits;
-      made = entry_made c.args.call.now c.args.answers c.args.draws core disk old c.requires.fits c.requires.belongs c.in_ok-entry.entry is (subst (λ (s : Seen). IsLtxid s.ltxid) c.self.view_is (c.if-not-is_ltxid.ensures.within.0 refl)) c.requires.made;
+      made = entry_made c.args.call.now c.args.answers c.args.draws core disk old c.requires.fits c.requires.belongs c.in_ok-entry.entry is (subst (λ (s : SeenSession). IsLtxid s.ltxid) c.self.view_is (c.if-not-is_ltxid.ensures.within.0 refl)) c.requires.made;
       here = entry_current c.args.call.now c.args.answers c.args.draws core disk old c.requires.fits c.requires.belongs c.in_ok-entry.entry is;
       may = entry_may c.args.call.now c.args.answers c.args.draws core disk old c.requires.fits c.requires.belongs c.in_ok-entry.entry is c.requires.free;
       writes = entry_fits c.args.call.now c.args.answers c.args.draws core disk old c.requires.fits c.requires.belongs c.in_ok-entry.entry is;

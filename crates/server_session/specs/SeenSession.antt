@@ -8,7 +8,7 @@ use Rattle.server_model.specs.Sessions.{Life, New, Ended, Sess}
 
 -- `ltxid` is the session's next identifier, and `at_start` are the settings before the first call of
 -- its transaction.
-pub record Seen : Type 0 where
+pub record SeenSession : Type 0 where
   pub ltxid : Ltxid
   pub life : Life
   pub settings : NamedValues
@@ -21,11 +21,11 @@ started_with None now = now
 started_with (Some earlier) now = earlier
 
 -- as it is made
-abbrev pub begins : Ltxid → Seen
+abbrev pub begins : Ltxid → SeenSession
 begins ltxid = record { ltxid = ltxid; life = New; settings = []; at_start = []; txn = empty }
 
 -- the plain server's session, which read this
-abbrev pub sess_of : Seen → List Read → Sess
+abbrev pub sess_of : SeenSession → List Read → Sess
 sess_of seen reads = record {
   ltxid = seen.ltxid;
   life = seen.life;
@@ -41,8 +41,8 @@ is_alive Ended = false
 is_alive _ = true
 
 -- rolled back, with these settings
-abbrev pub begun_so : Seen → Life → NamedValues → Seen
+abbrev pub begun_so : SeenSession → Life → NamedValues → SeenSession
 begun_so seen life settings = record { ltxid = seen.ltxid; life = life; settings = settings; at_start = settings; txn = empty }
 
-abbrev pub ended_so : Seen → Seen
+abbrev pub ended_so : SeenSession → SeenSession
 ended_so seen = begun_so seen Ended seen.settings
