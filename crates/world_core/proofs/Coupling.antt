@@ -1,7 +1,8 @@
 -- What machine and service have in common, behind an event that the service has no part in.
 use Rattle.std.proofs.Common.{◌≡◌, ℕ, zero, suc, ◌+◌, Bool, true, false, List, [], ◌∷◌, Option, Some, None, map, refl, sym, ap, ◌∙◌, subst, eq-eqb}
-use Rattle.std.specs.Prelude.{slice_get, slice_set, option_map, option_and_then, if◌then◌else◌}
+use Rattle.std.specs.Prelude.{slice_get, slice_set, option_map, option_and_then, All, if◌then◌else◌}
 use Rattle.std.proofs.lemmas.List.{append-nil}
+use Rattle.std.proofs.lemmas.List.Elements.{All-nil}
 use Rattle.svc_values.specs.declared.entry.SessionId.{SessionId}
 use Rattle.svc_values.specs.declared.entry.Entry.{Entry}
 use Rattle.outage_schedule.specs.declared.event.Event.{Event}
@@ -9,7 +10,9 @@ use Rattle.outage_schedule.specs.declared.event.Event.TheVariants as event
 use Rattle.outage_schedule.specs.declared.note.Note.{Note}
 use Rattle.outage_schedule.specs.declared.note.Note.TheVariants as note
 use Rattle.outage_schedule.specs.declared.note.Reached.{Reached}
+use Rattle.server_model.specs.Runs.{Happened}
 use Rattle.server_model.specs.Seen.{Seen}
+use Rattle.server_model.specs.ServiceCalls.{CameFrom, WasAsked}
 use Rattle.world_model.specs.Links.{Link, link_at, with_link}
 use Rattle.world_model.specs.Machines.{Machine}
 use Rattle.world_model.specs.Traced.{Traced}
@@ -100,6 +103,13 @@ stays_coupled seen t m coupled server same = record {
 
 -- AN EVENT THAT THE SERVICE HAS NO PART IN --------------------------------------------------------
 
+-- nothing was stored
+pub none_came : (happened : List Happened) → All (CameFrom happened) []
+none_came happened = All-nil (CameFrom happened)
+
+pub none_asked : (happened : List Happened) → All (WasAsked happened) []
+none_asked happened = All-nil (WasAsked happened)
+
 pub one_alone : (seen : Seen) (t : Traced) (event : Event) (note : Note) (m : Machine) → Coupled seen t → follow t.setting t.machine event note [] ≡ Some (m, []) → ServiceDid t.machine event note [] [] → session_outside t note ≡ [] → drawn_outside note ≡ []
     → m.server ≡ t.machine.server → views m.links ≡ views t.machine.links → OneEvent seen t event note [] [] seen (moved t m)
 one_alone seen t event note m coupled follows did none_outside none_drawn server same = record {
@@ -112,8 +122,10 @@ one_alone seen t event note m coupled follows did none_outside none_drawn server
   coupled_after = stays_coupled seen t m coupled server same;
   more_entries = [];
   entries = sym (append-nil t.entries);
+  own = none_came [];
   more_blocked = [];
   blocked = sym (append-nil t.blocked);
+  asked = none_asked [];
   setting = refl;
   image = refl;
   outside = rw none_outside (sym (append-nil t.outside));

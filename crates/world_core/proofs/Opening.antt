@@ -15,7 +15,7 @@ use Rattle.world_model.specs.Coupled.{SameServer, Coupled}
 use Rattle.world_core.specs.declared.traffic.Traffic.{Traffic}
 use Rattle.world_core.specs.Underway.{IsUnderway}
 use Rattle.world_core.specs.Making.{Makes}
-use Rattle.world_core.proofs.Coupling.{moved, begun, one_alone, stays_coupled}
+use Rattle.world_core.proofs.Coupling.{moved, begun, one_alone, stays_coupled, none_came, none_asked}
 
 -- what is underway knows nothing of the server
 pub any_server : (held : Traffic) (m : Machine) (server : Server) → IsUnderway held m → IsUnderway held (record m { server = server })
@@ -63,9 +63,9 @@ opened_coupled old new t horizon incarnation coupled history did told = record {
   stops = rw did.keeps.history coupled.stops;
   server = server_opened t.machine.server old new horizon incarnation coupled.server did told;
   living = λ number. did.keeps.living number ∙ coupled.living number;
-  stored = λ number link there. rw did.keeps.entries.0 (coupled.stored number link there);
-  entries = coupled.entries ∙ sym did.keeps.entries.0;
-  blocked = coupled.blocked ∙ sym did.keeps.entries.1;
+  stored = λ number link there. rw did.lists.entries (coupled.stored number link there);
+  entries = coupled.entries ∙ sym did.lists.entries;
+  blocked = coupled.blocked ∙ sym did.lists.blocked;
   image = rw did.keeps.start coupled.image;
 }
 
@@ -73,7 +73,7 @@ opened_coupled old new t horizon incarnation coupled history did told = record {
 pub ups_some : (sees sees_later : Seen → Type 0) (before after : Traffic) (horizon incarnation : ℕ)
     → ((seen : Seen) → sees seen → seen.state.is_up ≡ false)
     → ((seen : Seen) → sees_later seen → IsHistory seen)
-    → ((seen : Seen) → sees_later seen → incarnation ≡ seen.state.store.incarnation)
+    → ((seen : Seen) → sees_later seen → seen.state.is_up ≡ true → incarnation ≡ seen.state.store.incarnation)
     → Goes sees sees_later (λ old new. Opened old horizon new)
     → ((m : Machine) → IsUnderway before m → IsUnderway after (begun m))
     → Makes sees before sees_later after event.Up (note.Up (Some incarnation)) []
@@ -84,11 +84,12 @@ ups_some sees sees_later before after horizon incarnation down honest told goes 
     let is_down = down seen is.seen_so in
     let server_down : t.machine.server.is_up ≡ false = is.coupled.server.is_up ∙ is_down in
     let near = is.coupled.server.closed is_down in
-    let next : incarnation ≡ seen.state.store.incarnation + 1 = told new gone.1.0 ∙ did.incarnation in
+    let is_now = told new gone.1.0 did.is_up.0 in
+    let next : incarnation ≡ seen.state.store.incarnation + 1 = is_now ∙ did.incarnation in
     let may = may_open_next t.machine.server seen.state.store.incarnation incarnation near.0 near.1 next in
     let m = opened_machine t.machine incarnation in
     let follows : follow t.setting t.machine event.Up (note.Up (Some incarnation)) [] ≡ Some (m, []) = rw (server_down, may) refl in
-    let coupled : Coupled new (moved t m) = opened_coupled seen new t horizon incarnation is.coupled (honest new gone.1.0) did (told new gone.1.0) in (
+    let coupled : Coupled new (moved t m) = opened_coupled seen new t horizon incarnation is.coupled (honest new gone.1.0) did is_now in (
       new,
       (
         moved t m,
@@ -103,8 +104,10 @@ ups_some sees sees_later before after horizon incarnation down honest told goes 
             coupled_after = coupled;
             more_entries = [];
             entries = sym (append-nil t.entries);
+            own = none_came [];
             more_blocked = [];
             blocked = sym (append-nil t.blocked);
+            asked = none_asked [];
             setting = refl;
             image = refl;
             outside = sym (append-nil t.outside);

@@ -21,7 +21,7 @@ use Rattle.world_core.specs.declared.traffic.Traffic.{Traffic}
 use Rattle.world_core.specs.Underway.{IsUnderway, Leads}
 use Rattle.world_core.specs.Making.{Makes}
 use Rattle.world_core.proofs.Places.{slice_same, slice_other}
-use Rattle.world_core.proofs.Coupling.{moved, begun, one_alone, stays_coupled}
+use Rattle.world_core.proofs.Coupling.{moved, begun, one_alone, stays_coupled, none_came, none_asked}
 
 -- ONE OF MANY -------------------------------------------------------------------------------------
 
@@ -160,8 +160,10 @@ reaps_one sees sees_later before after number honest goes leads seen t is =
             coupled_after = coupled;
             more_entries = [];
             entries = sym (append-nil t.entries);
+            own = none_came [];
             more_blocked = [];
             blocked = sym (append-nil t.blocked);
+            asked = none_asked [];
             setting = refl;
             image = refl;
             outside = sym (append-nil t.outside);

@@ -1,5 +1,5 @@
 -- One event of a run: the machine follows it, and the service does what its items and its note say.
-use Rattle.std.specs.Prelude.{◌≡◌, List, [], ◌∷◌, ◌++◌, flat_map, Some}
+use Rattle.std.specs.Prelude.{◌≡◌, List, [], ◌∷◌, ◌++◌, flat_map, Some, All}
 use Rattle.svc_values.specs.declared.draw.Draw.{Draw}
 use Rattle.svc_values.specs.declared.entry.Entry.{Entry}
 use Rattle.svc_values.specs.declared.entry.Ltxid.{Ltxid}
@@ -10,6 +10,7 @@ use Rattle.outage_schedule.specs.declared.note.Note.TheVariants as note
 use Rattle.outage_schedule.specs.declared.item.Served.{Served}
 use Rattle.server_model.specs.Runs.{Happened}
 use Rattle.server_model.specs.Seen.{Seen}
+use Rattle.server_model.specs.ServiceCalls.{CameFrom, WasAsked}
 use Rattle.world_model.specs.Machines.{next_session}
 use Rattle.world_model.specs.Traced.{Traced}
 use Rattle.world_model.specs.Walking.{follow}
@@ -26,7 +27,7 @@ abbrev pub drawn_outside : Note → List Draw
 drawn_outside (note.Outside (Some ran)) = flat_map (λ run. run.draws) ran.runs
 drawn_outside _ = []
 
--- What the journal gained in the event stands behind what it held.
+-- What the journal gained in the event stands behind what it held: entries come from what happened, and blocks were asked for in it.
 pub record OneEvent (before : Seen) (old : Traced) (event : Event) (note : Note) (items left : List Served) (after : Seen) (new : Traced) : Type 0 where
   pub follows : follow old.setting old.machine event note items ≡ Some (new.machine, left)
   pub happened : List Happened
@@ -37,8 +38,10 @@ pub record OneEvent (before : Seen) (old : Traced) (event : Event) (note : Note)
   pub coupled_after : Coupled after new
   pub more_entries : List Entry
   pub entries : new.entries ≡ old.entries ++ more_entries
+  pub own : All (CameFrom happened) more_entries
   pub more_blocked : List Ltxid
   pub blocked : new.blocked ≡ old.blocked ++ more_blocked
+  pub asked : All (WasAsked happened) more_blocked
   pub setting : new.setting ≡ old.setting
   pub image : new.image ≡ old.image
   pub outside : new.outside ≡ old.outside ++ session_outside old note

@@ -12,6 +12,8 @@ pub returns : goal.returns
 returns g c = ups_some (g.S.Service.sees c.args.self.now.service) (g.S.Service.sees c.up.new.self) c.args.self.now.traffic c.begin.new.self c.args.horizon c.incarnation-incarnation.result
     (λ seen sees. ap (λ (s : ServiceState). s.is_up) (g.met.S.Service.honest c.args.self.now.service seen sees).state_is ∙ sym c.if-is_up.ensures)
     (λ seen sees. (g.met.S.Service.honest c.up.new.self seen sees).history)
-    (λ seen sees. c.incarnation-incarnation.ensures ∙ ap (λ (s : ServiceState). s.store.incarnation) (sym (g.met.S.Service.honest c.up.new.self seen sees).state_is))
+    (λ seen sees up.
+    let is = (g.met.S.Service.honest c.up.new.self seen sees).state_is in
+    c.incarnation-incarnation.ensures (ap (λ (s : ServiceState). s.is_up) (sym is) ∙ up) ∙ ap (λ (s : ServiceState). s.store.incarnation) (sym is))
     c.in-Ok.ensures.opened
     c.begin.ensures.begun
