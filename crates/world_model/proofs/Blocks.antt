@@ -1,5 +1,5 @@
 -- A blocked identifier is its session's next one: what a service's store has it so.
-use Rattle.std.proofs.Common.{◌≡◌, refl, sym, ap, subst, ◌∙◌, true, ℕ, ◌+◌, cond, length, List, [], ◌∷◌, map, filter, count_by}
+use Rattle.std.proofs.Common.{◌≡◌, refl, sym, ap, subst, ◌∙◌, true, ℕ, ◌+◌, cond, length, List, [], ◌∷◌, map, count_by}
 use Rattle.std.specs.Prelude.{◌==◌}
 use Rattle.std.specs.List.{list_all}
 use Rattle.std.proofs.lemmas.Bool.{and_from, or_left, or_right}

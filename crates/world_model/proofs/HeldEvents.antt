@@ -8,6 +8,7 @@ use Rattle.std.proofs.lemmas.List.Sums.{sum_by-cons}
 use Rattle.svc_values.specs.declared.entry.Ltxid.{Ltxid}
 use Rattle.svc_values.specs.declared.frame.Up.TheVariants as up
 use Rattle.svc_values.specs.Same.{same_bool}
+use Rattle.svc_values.specs.SameLaws.{same_ltxid_decides}
 use Rattle.pool_core.specs.declared.answers.Take.TheVariants as take
 use Rattle.pool_core.specs.Slots.{Slots, has_to_wait, lends, take_answer}
 use Rattle.client_model.specs.declared.act.Hold.{Hold}
@@ -15,17 +16,18 @@ use Rattle.client_model.specs.declared.act.Hold.TheVariants as hold
 use Rattle.client_model.specs.declared.input.Input.TheVariants.{Waiting, Lent, Opened, TryFailed, Took, Gone}
 use Rattle.client_model.specs.declared.input.Wants.{Wants}
 use Rattle.client_model.specs.declared.input.Wants.TheVariants as wants
-use Rattle.client_model.specs.Terms.{Phase}
+use Rattle.client_model.specs.States.{Repeating}
+use Rattle.client_model.specs.Terms.{Phase, Replaying}
 use Rattle.client_model.specs.Talk.{Step, lost_of, on_hello, on_waiting, waits_from, on_try_failed, takes as taken_by}
 use Rattle.outage_schedule.specs.declared.document.Request.{Request}
 use Rattle.world_model.specs.Settings.{Setting}
 use Rattle.world_model.specs.Frames.{Owner, Sent, Reply}
-use Rattle.world_model.specs.Links.{Link, new_link, link_at, with_link, changed, sends, takes}
+use Rattle.world_model.specs.Links.{Link, new_link, link_at, with_link, changed, sends, takes, told_by}
 use Rattle.world_model.specs.Clients.{Doing, Client, client_at, with_client, doing_at, begun, heard, after_hold, after_step}
 use Rattle.world_model.specs.Acting.{sent_by, owner_at, connection_of}
 use Rattle.world_model.specs.Machines.{Machine}
 use Rattle.world_model.specs.Going.{lost_at_once}
-use Rattle.world_model.specs.Hold.{holds_connection, is_idle, is_awaited}
+use Rattle.world_model.specs.Hold.{holds_connection, is_idle, is_awaited, goes_by, same_held}
 use Rattle.world_model.specs.Parts.{is_answered, count_reps}
 use Rattle.world_model.specs.Sames.{owned_by}
 use Rattle.world_model.proofs.Tests.{eq_to}
@@ -40,6 +42,8 @@ use Rattle.world_model.proofs.Strangers.{frame_now}
 use Rattle.world_model.proofs.SentLinks.{awaits, spoken_by, last_at, lent_idle}
 use Rattle.world_model.proofs.Lookups.{IsSaid, with_others, with_own, changed_own, new_others}
 use Rattle.world_model.proofs.Saying.{is_hushed}
+use Rattle.world_model.proofs.Ends.{sends_alike}
+use Rattle.world_model.proofs.GoesBy.{by_hello, by_taken, goes_rightly, by_none, by_one, by_its}
 use Rattle.world_model.proofs.HeldSaid.{taken_loud}
 use Rattle.world_model.proofs.HeldKept.{holds_rightly, without_one, with_one, HasIt, HasNone, HasOne, has_it, slot_holds_none, same_none, gone_none, waits_none, fails_none, lent_out, taken_out, opened_out}
 
@@ -76,20 +80,32 @@ lent_count pool number connection answer = by (has_to_wait pool number) answer
 
 -- A STEP OF A CLIENT ------------------------------------------------------------------------------
 
+-- the request has its connection rightly, and goes by what is held there
+abbrev pub Stands : List Link → Owner → Doing → Type 0
+Stands links owner doing = (holds_rightly links owner doing ≡ true) × (goes_rightly links doing ≡ true)
+
 -- the client stands so afterwards, holds its connection rightly, and the connections of others are as before
 pub record Stepped (m : Machine) (who : ℕ) (client : Client) (n : Machine) : Type 0 where
   pub next : Client
   pub clients : n.clients ≡ with_client m.clients who next
-  pub own : (doing : Doing) → next.now ≡ Some doing → holds_rightly n.links (record { client = who; place = length next.past }) doing ≡ true
+  pub own : (doing : Doing) → next.now ≡ Some doing → Stands n.links (record { client = who; place = length next.past }) doing
   pub others : (number : ℕ) (link : Link) → link_at m.links number ≡ Some link → count_by (λ one. one == number) m.pool.idle ≡ 0
       → ((doing : Doing) → client.now ≡ Some doing → doing.connection ≡ Some number → ⊥) → link_at n.links number ≡ Some link
 
-own_of : (setting : Setting) (links : List Link) (who : ℕ) (client : Client) (next : Doing) (held : Hold) → (held ≡ hold.Keep → holds_rightly links (record { client = who; place = length client.past }) next ≡ true)
-    → (doing : Doing) → (after_hold setting who client next held).now ≡ Some doing → holds_rightly links (record { client = who; place = length (after_hold setting who client next held).past }) doing ≡ true
+own_of : (setting : Setting) (links : List Link) (who : ℕ) (client : Client) (next : Doing) (held : Hold) → (held ≡ hold.Keep → Stands links (record { client = who; place = length client.past }) next)
+    → (doing : Doing) → (after_hold setting who client next held).now ≡ Some doing → Stands links (record { client = who; place = length (after_hold setting who client next held).past }) doing
 own_of setting links who client next hold.Keep keeps doing is =
-    let same : next ≡ doing = cc in subst (λ (d : Doing). holds_rightly links (record { client = who; place = length client.past }) d ≡ true) same (keeps refl)
+    let same : next ≡ doing = cc in subst (Stands links (record { client = who; place = length client.past })) same (keeps refl)
 own_of setting links who client next hold.GiveBack keeps doing is = absurd (let none : ⊥ = cc in none)
 own_of setting links who client next hold.Drop keeps doing is = absurd (let none : ⊥ = cc in none)
+
+-- the identifier of a connection that is lent
+by_lent : (phase : Phase) {x : Ltxid} {held : Option Ltxid} → goes_by phase ≡ Some x → held ≡ Some x → same_held (goes_by phase) held ≡ true
+by_lent phase {x} {held} is has = ap (λ (one : Option Ltxid). same_held one held) is ∙ (ap (same_held (Some x)) has ∙ (same_ltxid_decides x x).1 refl)
+
+-- what is held stays where frames are sent
+sends_held : (event : ℕ) (frames : List Sent) (link : Link) → (sends event frames link).held ≡ link.held
+sends_held event frames link = sends_alike (λ one. one.held ≡ link.held) event frames link refl refl
 
 module _ (setting : Setting) (m : Machine)
     (held : (number : ℕ) (client : Client) (doing : Doing) → client_at m.clients number ≡ Some client → client.now ≡ Some doing → holds_rightly m.links (record { client = number; place = length client.past }) doing ≡ true)
@@ -133,7 +149,7 @@ module _ (setting : Setting) (m : Machine)
       record {
         next = after_hold setting who is.client next keep;
         clients = clients ∙ stepped_client setting m.clients who is.client next keep is.here;
-        own = own_of setting a.links who is.client next keep (λ kept. without_one a.links (record { client = who; place = length is.client.past }) next none (waits_none setting m doing.talk (waits_from doing.talk.phase m.tick) m.tick kept));
+        own = own_of setting a.links who is.client next keep (λ kept. (without_one a.links (record { client = who; place = length is.client.past }) next none (waits_none setting m doing.talk (waits_from doing.talk.phase m.tick) m.tick kept), by_none a.links next none));
         others = λ number link there count other. ap (λ (all : List Link). link_at all number) links ∙ free_others doing frames none number link there;
       }
 
@@ -147,15 +163,15 @@ module _ (setting : Setting) (m : Machine)
       record {
         next = after_hold setting who is.client next keep;
         clients = clients ∙ stepped_client setting m.clients who is.client next keep is.here;
-        own = own_of setting a.links who is.client next keep (λ kept. without_one a.links (record { client = who; place = length is.client.past }) next none (fails_none setting m doing.talk m.tick));
+        own = own_of setting a.links who is.client next keep (λ kept. (without_one a.links (record { client = who; place = length is.client.past }) next none (fails_none setting m doing.talk m.tick), by_none a.links next none));
         others = λ number link there count differ. ap (λ (all : List Link). link_at all number) links ∙ free_others doing frames none number link there;
       }
 
   pub lends_step : (who connection : ℕ) (doing : Doing) (link : Link) (ltxid : Ltxid) (pool : Slots) (a : Machine) (is : IsDoing setting m who doing wants.Slot) → take_answer m.pool who ≡ take.Lent connection
-      → link_at m.links connection ≡ Some link
+      → link_at m.links connection ≡ Some link → link.held ≡ Some ltxid
       → a.clients ≡ after_step setting m.clients who (heard setting.terms m.event m.tick (record doing { connection = Some connection }) (Lent connection ltxid)) (on_hello setting.terms doing.talk None ltxid true m.tick).1.hold
       → a.links ≡ changed (sends m.event (spoken_by (owner_at m who) pool connection (on_hello setting.terms doing.talk None ltxid true m.tick))) m.links connection → Stepped m who is.client a
-  lends_step who connection doing link ltxid pool a is answer there clients links =
+  lends_step who connection doing link ltxid pool a is answer there holds clients links =
       let next : Doing = heard setting.terms m.event m.tick (record doing { connection = Some connection }) (Lent connection ltxid) in
       let step : Step = on_hello setting.terms doing.talk None ltxid true m.tick in
       let change : Link → Link = sends m.event (spoken_by (owner_at m who) pool connection step) in
@@ -165,8 +181,10 @@ module _ (setting : Setting) (m : Machine)
         clients = clients ∙ stepped_client setting m.clients who is.client next step.1.hold is.here;
         own = own_of setting a.links who is.client next step.1.hold
             (λ kept. let both = lent_out setting m (owner_at m who) doing.talk ltxid pool connection link rests kept in
-            by_owner who is.client a.links next is.here
-            (with_one a.links (owner_at m who) next connection (change link) refl both.0 (ap (λ (all : List Link). link_at all connection) links ∙ changed_own change m.links connection link there) both.1));
+            let found : link_at a.links connection ≡ Some (change link) = ap (λ (all : List Link). link_at all connection) links ∙ changed_own change m.links connection link there in (
+              by_owner who is.client a.links next is.here (with_one a.links (owner_at m who) next connection (change link) refl both.0 found both.1),
+              by_one a.links next connection (change link) refl found (by_lent step.0.phase (by_hello setting.terms doing.talk None ltxid m.tick kept) (sends_held m.event (spoken_by (owner_at m who) pool connection step) link ∙ holds)),
+            ));
         others = λ number other at count differ.
             ap (λ (all : List Link). link_at all number) links
             ∙ (changed_others change m.links connection number
@@ -186,9 +204,10 @@ module _ (setting : Setting) (m : Machine)
         next = after_hold setting who is.client next hold.Keep;
         clients = clients ∙ stepped_client setting m.clients who is.client next hold.Keep is.here;
         own = own_of setting a.links who is.client next hold.Keep
-            (λ kept. by_owner who is.client a.links next is.here
-            (with_one a.links (owner_at m who) next (next_number m) (change new_link) refl refl
-            (ap (λ (all : List Link). link_at all (next_number m)) links ∙ changed_own change (m.links ++ new_link ∷ []) (next_number m) new_link new) (opened_out setting m (owner_at m who) (lost_of doing.talk.phase))));
+            (λ kept. let found : link_at a.links (next_number m) ≡ Some (change new_link) = ap (λ (all : List Link). link_at all (next_number m)) links ∙ changed_own change (m.links ++ new_link ∷ []) (next_number m) new_link new in (
+              by_owner who is.client a.links next is.here (with_one a.links (owner_at m who) next (next_number m) (change new_link) refl refl found (opened_out setting m (owner_at m who) (lost_of doing.talk.phase))),
+              by_one a.links next (next_number m) (change new_link) refl found (ap (same_held None) (sends_held m.event (sent_by (owner_at m who) 0 up.Connect ∷ []) new_link)),
+            ));
         others = λ number other at count differ. ap (λ (all : List Link). link_at all number) links ∙ new_others change m.links number other at;
       }
 
@@ -199,14 +218,15 @@ module _ (setting : Setting) (m : Machine)
       record {
         next = after_hold setting who is.client next hold.Keep;
         clients = clients ∙ stepped_client setting m.clients who is.client next hold.Keep is.here;
-        own = own_of setting a.links who is.client next hold.Keep (λ kept. without_one a.links (record { client = who; place = length is.client.past }) next refl (gone_none doing.talk.phase ends));
+        own = own_of setting a.links who is.client next hold.Keep (λ kept. (without_one a.links (record { client = who; place = length is.client.past }) next refl (gone_none doing.talk.phase ends), by_none a.links next refl));
         others = λ number other at count differ. ap (λ (all : List Link). link_at all number) links ∙ at;
       }
 
   -- A FRAME THAT IS TAKEN -------------------------------------------------------------------------
 
   module _ (who connection : ℕ) (doing : Doing) (link : Link) (reply : Reply) (left : List Reply) (is : IsDoing setting m who doing wants.Frame) (has : doing.connection ≡ Some connection)
-      (there : link_at m.links connection ≡ Some link) (down : link.down ≡ reply ∷ left) where
+      (there : link_at m.links connection ≡ Some link) (down : link.down ≡ reply ∷ left) (goes : goes_rightly m.links doing ≡ true)
+      (again : (state : Repeating) → doing.talk.phase ≡ Replaying state → (x : Ltxid) → told_by (Took reply.frame true) ≡ Some x → same_held (Some state.ltxid) (Some x) ≡ true) where
     abbrev step_now : Step
     step_now = taken_by setting.terms doing.talk doing.talk.phase reply.frame link.is_open m.tick
 
@@ -245,12 +265,17 @@ module _ (setting : Setting) (m : Machine)
             let one_is : one ≡ link = cc in
             subst (λ (owner : Owner). awaits owner doing.talk.phase link ≡ true) (sym (owner_same who is.client is.here)) (subst (λ (l : Link). awaits (record { client = who; place = length is.client.past }) doing.talk.phase l ≡ true) one_is out)
 
-    alive_own : link.is_open ≡ true → step_now.1.hold ≡ hold.Keep → holds_rightly links_now (record { client = who; place = length is.client.past }) next_now ≡ true
+    alive_own : link.is_open ≡ true → step_now.1.hold ≡ hold.Keep → Stands links_now (record { client = who; place = length is.client.past }) next_now
     alive_own opens kept =
         let living = open_living last link (at_link (ends_at last) m.links connection link ended there) opens in
         let loud : is_hushed reply.frame ≡ false = taken_loud link reply left (at_link is_orderly m.links connection link orderly there) living down in
         let both = taken_out setting m (owner_at m who) doing.talk m.pool (connection_of doing) link reply left out_now opens loud kept in
-        by_owner who is.client links_now next_now is.here (with_one links_now (owner_at m who) next_now connection (change_now taken) has both.0 found_now both.1)
+        let here : same_held (goes_by doing.talk.phase) link.held ≡ true = by_its m.links doing connection link has there goes in
+        let held : (change_now taken).held ≡ taken.held = sends_held m.event (spoken_by (owner_at m who) m.pool (connection_of doing) step_now) taken in (
+          by_owner who is.client links_now next_now is.here (with_one links_now (owner_at m who) next_now connection (change_now taken) has both.0 found_now both.1),
+          by_one links_now next_now connection (change_now taken) has found_now
+              (ap (same_held (goes_by next_now.talk.phase)) held ∙ by_taken setting.terms doing.talk doing.talk.phase reply.frame link.is_open m.tick link.held refl opens loud here again kept),
+        )
 
     others_now : (number : ℕ) (other : Link) → link_at m.links number ≡ Some other → ((one : Doing) → is.client.now ≡ Some one → one.connection ≡ Some number → ⊥) → link_at links_now number ≡ Some other
     others_now number other at differ =
@@ -262,7 +287,7 @@ module _ (setting : Setting) (m : Machine)
     takes_step a ends true opens clients links event tick = record {
       next = after_hold setting who is.client next_now step_now.1.hold;
       clients = clients ∙ stepped_client setting m.clients who is.client next_now step_now.1.hold is.here;
-      own = subst (λ (all : List Link). (one : Doing) → (after_hold setting who is.client next_now step_now.1.hold).now ≡ Some one → holds_rightly all (record { client = who; place = length (after_hold setting who is.client next_now step_now.1.hold).past }) one ≡ true)
+      own = subst (λ (all : List Link). (one : Doing) → (after_hold setting who is.client next_now step_now.1.hold).now ≡ Some one → Stands all (record { client = who; place = length (after_hold setting who is.client next_now step_now.1.hold).past }) one)
           (sym links) (own_of setting links_now who is.client next_now step_now.1.hold (alive_own opens));
       others = λ number other at count differ. ap (λ (all : List Link). link_at all number) links ∙ others_now number other at differ;
     }
@@ -301,7 +326,7 @@ module _ (setting : Setting) (m : Machine)
               next = after_hold setting who is.client gone hold.Keep;
               clients = stepped_client setting a.clients who kept_client gone hold.Keep (found hold.Keep clients)
                   ∙ (ap (λ (all : List Client). with_client all who (after_hold setting who is.client gone hold.Keep)) (set hold.Keep clients) ∙ client_twice m.clients who kept_client (after_hold setting who is.client gone hold.Keep));
-              own = own_of setting a.links who is.client gone hold.Keep (λ kept. without_one a.links (record { client = who; place = length is.client.past }) gone refl (gone_none next_now.talk.phase (unwrap_or ends 0)));
+              own = own_of setting a.links who is.client gone hold.Keep (λ kept. (without_one a.links (record { client = who; place = length is.client.past }) gone refl (gone_none next_now.talk.phase (unwrap_or ends 0)), by_none a.links gone refl));
               others = λ number link at count differ. ap (λ (all : List Link). link_at all number) links ∙ others_now number link at differ;
             })
 

@@ -1,10 +1,10 @@
 -- Of Hold, test by test, at the start and behind each event.
-use Rattle.std.proofs.Common.{◌≡◌, refl, true, length, ℕ, ◌+◌, List, [], ◌∷◌, map, sym, subst, ◌∙◌, cond, count_by, arith, ◌&&◌}
+use Rattle.std.proofs.Common.{◌≡◌, refl, true, Bool, length, ℕ, ◌+◌, Some, List, [], ◌∷◌, map, sym, subst, ◌∙◌, cond, count_by, arith, ◌&&◌}
 use Rattle.std.specs.List.{list_all}
 use Rattle.outage_schedule.specs.declared.document.Client.{Client as Scripted}
 use Rattle.outage_schedule.specs.declared.document.Document.{Document}
 use Rattle.world_model.specs.Settings.{Setting, setting_of}
-use Rattle.world_model.specs.Clients.{Client, resting}
+use Rattle.world_model.specs.Clients.{Client, Doing, client_at, resting}
 use Rattle.world_model.proofs.Tests.{le_to}
 use Rattle.std.proofs.lemmas.Bool.{and_from}
 use Rattle.std.proofs.lemmas.List.Sums.{sum_by-cons}
@@ -12,7 +12,15 @@ use Rattle.std.specs.Prelude.{◌==◌, nat_le}
 use Rattle.world_model.specs.Traced.{courses_of_clients}
 use Rattle.world_model.specs.Reached.{traced_start}
 use Rattle.world_model.specs.KeptLaws.{IsKept}
-use Rattle.world_model.specs.Hold.{are_had, is_held, are_held, are_idle, slots_held, are_opened}
+use Rattle.world_model.specs.Hold.{are_had, is_held, are_held, are_idle, slots_held, are_opened, is_by_held, are_by_held}
+use Rattle.svc_values.specs.declared.draw.Draw.{Draw}
+use Rattle.server_model.specs.Seen.{Seen}
+use Rattle.outage_schedule.specs.declared.event.Event.{Event}
+use Rattle.outage_schedule.specs.declared.note.Note.{Note}
+use Rattle.outage_schedule.specs.declared.item.Served.{Served}
+use Rattle.world_model.specs.Traced.{Traced}
+use Rattle.world_model.specs.Invariant.{Invariant}
+use Rattle.world_model.specs.OneEvent.{OneEvent}
 use Rattle.world_model.proofs.Happened.{Followed, follow_happens, at_event}
 use Rattle.client_model.specs.declared.input.Wants.TheVariants as wants
 use Rattle.world_model.proofs.SentLinks.{IsHeld, slot_waits}
@@ -24,6 +32,8 @@ use Rattle.world_model.proofs.IdleAll.{happens_rest}
 use Rattle.world_model.specs.Frames.{Owner}
 use Rattle.world_model.proofs.Courses.{all_courses_by, held_busy}
 use Rattle.world_model.proofs.Held.{held_now}
+use Rattle.world_model.proofs.HeldAgain.{again_now}
+use Rattle.world_model.proofs.HeldEvents.{Stands}
 use Rattle.world_model.proofs.HeldAll.{held_after}
 use Rattle.world_model.proofs.KeptWire.{all_orderly}
 use Rattle.world_model.proofs.SlotsLent.{holds_slot_now, slots_count}
@@ -45,14 +55,31 @@ none_held : (document : Document) (setting : Setting) (number : ℕ) (clients : 
 none_held document setting number [] = refl
 none_held document setting number (client ∷ clients) = none_held document setting (number + 1) clients
 
+-- of each request, that it has its connection and goes by what is held there
+held_both : (granted : Draw → Bool) (before after : Seen) (old new : Traced) (event : Event) (note : Note) (items left : List Served) → OneEvent before old event note items left after new → Invariant granted old
+    → (number : ℕ) (client : Client) (doing : Doing) → client_at new.machine.clients number ≡ Some client → client.now ≡ Some doing → Stands new.machine.links (record { client = number; place = length client.past }) doing
+held_both granted before after old new event note items left one inv =
+    let by : Followed old.setting old.machine event note items left new.machine = follow_happens old.setting old.machine event note items left new.machine one.follows in
+    held_after old inv.hold.had inv.hold.held (held_now granted old inv).idle (all_orderly old.machine.links inv.wire.sent inv.wire.replies inv.wire.handled inv.basic.life) inv.basic.ended inv.hold.by_held (again_now granted old inv)
+    items left by.kind new.machine by.happens
+
 pub held_law : IsKept are_held
 held_law = record {
   at_start = λ document. none_held document (setting_of document) 1 document.clients;
   at_event = λ granted before after old new event note items left one inv.
-      let by : Followed old.setting old.machine event note items left new.machine = follow_happens old.setting old.machine event note items left new.machine one.follows in
-      all_courses_by (is_held new) new (λ client place past. refl)
-      (λ number client doing here now.
-      held_after old inv.hold.had inv.hold.held (held_now granted old inv).idle (all_orderly old.machine.links inv.wire.sent inv.wire.replies inv.wire.handled inv.basic.life) inv.basic.ended items left by.kind new.machine by.happens number client doing here now);
+      all_courses_by (is_held new) new (λ client place past. refl) (λ number client doing here now. (held_both granted before after old new event note items left one inv number client doing here now).0);
+}
+
+-- without a client none goes by an identifier
+none_by : (document : Document) (setting : Setting) (number : ℕ) (clients : List Scripted) → list_all (is_by_held (traced_start document)) (courses_of_clients setting number (map (λ client. resting client.requests []) clients)) ≡ true
+none_by document setting number [] = refl
+none_by document setting number (client ∷ clients) = none_by document setting (number + 1) clients
+
+pub by_held_law : IsKept are_by_held
+by_held_law = record {
+  at_start = λ document. none_by document (setting_of document) 1 document.clients;
+  at_event = λ granted before after old new event note items left one inv.
+      all_courses_by (is_by_held new) new (λ client place past. refl) (λ number client doing here now. (held_both granted before after old new event note items left one inv number client doing here now).1);
 }
 
 pub idle_law : IsKept are_idle

@@ -21,11 +21,11 @@ use Rattle.world_model.proofs.AllLinks.{Keeps}
 abbrev pub is_all_handled : Link → Bool
 is_all_handled link = handled_from 0 link.served
 
-abbrev commits_behind : ℕ → List Handled → ℕ
+abbrev pub commits_behind : ℕ → List Handled → ℕ
 commits_behind commits [] = commits
 commits_behind commits (one ∷ others) = commits_behind (counted_with commits one.served.item) others
 
-abbrev is_commit_of : Handled → Bool
+abbrev pub is_commit_of : Handled → Bool
 is_commit_of one = is_commit one.served.item
 
 counted_is : (commits : ℕ) (one : Item) → counted_with commits one ≡ commits + cond (is_commit one) 1 0
@@ -35,7 +35,7 @@ counted_is commits one = by (is_commit one)
     by true = refl
     by false = omega arith
 
-behind_is : (commits : ℕ) (served : List Handled) → commits_behind commits served ≡ commits + count_by is_commit_of served
+pub behind_is : (commits : ℕ) (served : List Handled) → commits_behind commits served ≡ commits + count_by is_commit_of served
 behind_is commits [] = omega arith
 behind_is commits (one ∷ others) =
     behind_is (counted_with commits one.served.item) others

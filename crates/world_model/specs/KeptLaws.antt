@@ -11,6 +11,7 @@ use Rattle.world_model.specs.Traced.{Traced}
 use Rattle.world_model.specs.Ready.{all_have_calls}
 use Rattle.world_model.specs.Basic.{Basic}
 use Rattle.world_model.specs.Wire.{Wire}
+use Rattle.world_model.specs.Hold.{Hold}
 use Rattle.world_model.specs.Invariant.{Invariant}
 use Rattle.world_model.specs.OneEvent.{OneEvent}
 use Rattle.world_model.specs.Coupled.{Coupled}
@@ -50,3 +51,12 @@ abbrev pub WireIsKept : Type 0
 WireIsKept =
     (granted : Draw → Bool) (before after : Seen) (old new : Traced) (event : Event) (note : Note) (items left : List Served)
     → OneEvent before old event note items left after new → Invariant granted old → Wire new
+
+-- the record of who holds which connection and slot as a whole
+abbrev pub HoldBegins : Type 0
+HoldBegins = (document : Document) → Hold (traced_start document)
+
+abbrev pub HoldIsKept : Type 0
+HoldIsKept =
+    (granted : Draw → Bool) (before after : Seen) (old new : Traced) (event : Event) (note : Note) (items left : List Served)
+    → OneEvent before old event note items left after new → Invariant granted old → Hold new

@@ -1,9 +1,9 @@
 //! What of the invariant holds of the start and is kept in each event, if the whole invariant held before it. Each law is the
 //! clause of a function with nothing to run.
-ghost use Rattle.world_model.specs.KeptLaws.{IsKept, IsKeptOfCalls, IsOfService, BasicBegins, BasicIsKept, WireBegins, WireIsKept};
+ghost use Rattle.world_model.specs.KeptLaws.{IsKept, IsKeptOfCalls, IsOfService, BasicBegins, BasicIsKept, WireBegins, WireIsKept, HoldBegins, HoldIsKept};
 ghost use Rattle.world_model.specs.Wire.{sent_fronts, reply_fronts, are_handled, in_grammar, one_out, answered_in_order, up_lives, are_fresh};
 ghost use Rattle.world_model.specs.Ready.{are_ready};
-ghost use Rattle.world_model.specs.Hold.{are_had, are_queued, are_held, are_idle, slots_held, are_opened};
+ghost use Rattle.world_model.specs.Hold.{are_had, are_queued, are_held, are_idle, slots_held, are_opened, are_by_held};
 ghost use Rattle.world_model.specs.Number.{are_told, are_served_near, blocks_next};
 ghost use Rattle.world_model.specs.Basic.{have_risen, kept_ticks, items_rise, items_differ, is_down, are_ended, sessions_differ, are_made, are_counted, are_named, living_now, commits_counted, lives};
 
@@ -121,6 +121,18 @@ pub fn connections_are_had()
 /// The clients that wait for a slot are in the pool's queue, in the order in which they waited first, each once, and no others are.
 pub fn clients_wait_in_order()
     ensures { IsKept are_queued }
+{}
+
+/// The identifier that a request goes by is the one that is held on its connection.
+pub fn requests_go_by_held()
+    ensures { IsKept are_by_held }
+{}
+
+/// The record of who holds which connection and slot as a whole: it holds of the start, and behind each event if the whole
+/// invariant held before it.
+pub fn hold_is_kept()
+    ensures start { HoldBegins }
+    ensures event { HoldIsKept }
 {}
 
 /// The identifier that is held on a connection is that of the last reply taken that tells one.
