@@ -36,7 +36,7 @@ int_self n = (Decides-int_eq n n).1 refl
 bytes_self : (bytes : List ℕ) → bytes_eq bytes bytes ≡ true
 bytes_self bytes = (bytes_eq-Decides bytes bytes).1 refl
 
-each_self : {A : Type 0} (same : A → A → Bool) → ((x : A) → same x x ≡ true) → (xs : List A) → pointwise same xs xs ≡ true
+pub each_self : {A : Type 0} (same : A → A → Bool) → ((x : A) → same x x ≡ true) → (xs : List A) → pointwise same xs xs ≡ true
 each_self same self [] = refl
 each_self same self (x ∷ xs) = and_from (same x x) (pointwise same xs xs) (self x) (each_self same self xs)
 
@@ -60,11 +60,11 @@ draw_self (draw.Seq name n) = and_from (bytes_eq name name) (int_eq n n) (bytes_
 draw_self (draw.Clock n) = number_self n
 draw_self (draw.Id bytes) = bytes_self bytes
 
-bool_self : (b : Bool) → same_bool b b ≡ true
+pub bool_self : (b : Bool) → same_bool b b ≡ true
 bool_self true = refl
 bool_self false = refl
 
-ltxid_self : (x : Ltxid) → same_ltxid x x ≡ true
+pub ltxid_self : (x : Ltxid) → same_ltxid x x ≡ true
 ltxid_self x = grind (arith, nat_tests)
 
 down_self : (one : Down) → same_down one one ≡ true
@@ -81,7 +81,7 @@ pub reply_self : (reply : Option Down) → same_replies reply reply ≡ true
 reply_self None = refl
 reply_self (Some frame) = down_self frame
 
-up_self : (one : Up) → same_up one one ≡ true
+pub up_self : (one : Up) → same_up one one ≡ true
 up_self up.Connect = refl
 up_self (up.Begin settings) = same_settings_equiv.refl settings
 up_self (up.Call replay kept call) =

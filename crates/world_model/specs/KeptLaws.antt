@@ -14,6 +14,7 @@ use Rattle.world_model.specs.Wire.{Wire}
 use Rattle.world_model.specs.Hold.{Hold}
 use Rattle.world_model.specs.Invariant.{Invariant}
 use Rattle.world_model.specs.OneEvent.{OneEvent}
+use Rattle.world_model.specs.Conversing.{AllTalk}
 use Rattle.world_model.specs.Coupled.{Coupled}
 use Rattle.world_model.specs.Reached.{traced_start}
 
@@ -60,3 +61,12 @@ abbrev pub HoldIsKept : Type 0
 HoldIsKept =
     (granted : Draw → Bool) (before after : Seen) (old new : Traced) (event : Event) (note : Note) (items left : List Served)
     → OneEvent before old event note items left after new → Invariant granted old → Hold new
+
+-- the conversations of all requests, to the letter
+abbrev pub TalksBegin : Type 0
+TalksBegin = (document : Document) → AllTalk (setting_of document).terms (traced_start document).machine.clients
+
+abbrev pub TalksAreKept : Type 0
+TalksAreKept =
+    (granted : Draw → Bool) (before after : Seen) (old new : Traced) (event : Event) (note : Note) (items left : List Served)
+    → OneEvent before old event note items left after new → Invariant granted old → AllTalk new.setting.terms new.machine.clients

@@ -1,6 +1,7 @@
 pub mod Acting
 pub mod Basic
 pub mod Clients
+pub mod Conversing
 pub mod Coupled
 pub mod Crashing
 pub mod Cutting

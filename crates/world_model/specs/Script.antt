@@ -19,14 +19,15 @@ use Rattle.outage_schedule.specs.declared.item.Item.TheVariants as item
 use Rattle.outage_schedule.specs.declared.request.ShownCall.{ShownCall}
 use Rattle.outage_schedule.specs.declared.request.RequestReport.{RequestReport}
 use Rattle.run_clauses.specs.Copies.{next_of}
-use Rattle.client_model.specs.Terms.{Terms, Talk, Phase, Idle, Unbegun, Queued, Seeking, Greeting, Asked, Running, Replaying, requested}
+use Rattle.client_model.specs.Terms.{Terms, Talk, Phase, Idle, Unbegun, Queued, Seeking, Greeting, Asked, Running, Replaying}
 use Rattle.client_model.specs.Talk.{wants_of}
-use Rattle.client_model.specs.Conversation.{Done, Timed, done_at, talk_at, may_come, is_gone_next}
+use Rattle.client_model.specs.Conversation.{Done, Timed, done_at, talk_at, talk_after, may_come, is_gone_next}
 use Rattle.client_model.specs.Account.{Account, account_of, count_uncommitted, set_shown}
 use Rattle.client_model.specs.Laws.{track_of}
 use Rattle.world_model.specs.Frames.{Owner, Sent, Handled}
 use Rattle.world_model.specs.Links.{Link, link_at}
 use Rattle.world_model.specs.Clients.{Step, Past, Client, reports_of, script_at}
+use Rattle.world_model.specs.Conversing.{AllTalk, timed, inputs_of, first_talk}
 use Rattle.world_model.specs.Followed.{tells_steps}
 use Rattle.world_model.specs.Reports.{report_of}
 use Rattle.world_model.specs.Traced.{Traced, Course, courses_of}
@@ -40,12 +41,6 @@ use Rattle.world_model.specs.Parts.{Sending, sendings_of, implies, is_unmarked}
 
 -- Each step is that of the client at its input, which may come then; and the request stands where they lead. By client_model's laws that
 -- is S1 to S5: KeepsWhatIsTold, FewReplays, FailsForCause, FailsAtCause, BeginsKnown, ReleasesRightly and ReplaysOnlyVerified speak of it.
-abbrev pub timed : Step → Timed
-timed step = (step.done.input, step.done.now)
-
-abbrev pub inputs_of : List Step → List Timed
-inputs_of steps = map timed steps
-
 abbrev pub may_all_come : Terms → Talk → Bool → List Timed → Bool
 may_all_come terms talk gone_next [] = true
 may_all_come terms talk gone_next (one ∷ inputs) =
@@ -63,10 +58,6 @@ abbrev pub acts_follow : Terms → Talk → List Step → Bool
 acts_follow terms talk [] = true
 acts_follow terms talk (step ∷ steps) = is_act_of (done_at terms talk (timed step)) step.done && acts_follow terms (talk_at terms talk (timed step)) steps
 
-abbrev pub talk_after : Terms → Talk → List Timed → Talk
-talk_after terms talk [] = talk
-talk_after terms talk (one ∷ inputs) = talk_after terms (talk_at terms talk one) inputs
-
 abbrev pub place_of : Phase → ℕ
 place_of Idle = 0
 place_of Unbegun = 1
@@ -77,14 +68,11 @@ place_of (Asked asking) = 5
 place_of (Running state) = 6
 place_of (Replaying state) = 7
 
-abbrev pub start : Course → Talk
-start course = requested course.request.settings course.request.calls
-
 abbrev pub is_conversation : Traced → Course → Bool
 is_conversation t course =
-    may_all_come t.setting.terms (start course) false (inputs_of course.steps)
-    && (acts_follow t.setting.terms (start course) course.steps
-    && (place_of (talk_after t.setting.terms (start course) (inputs_of course.steps)).phase == place_of course.phase))
+    may_all_come t.setting.terms (first_talk course.request) false (inputs_of course.steps)
+    && (acts_follow t.setting.terms (first_talk course.request) course.steps
+    && (place_of (talk_after t.setting.terms (first_talk course.request) (inputs_of course.steps)).phase == place_of course.phase))
 
 abbrev pub are_conversations : Traced → Bool
 are_conversations t = list_all (is_conversation t) (courses_of t)
@@ -298,7 +286,9 @@ carries_draws course link = list_all (λ sent. implies (owned_by course.owner se
 abbrev pub carry_draws : Traced → Bool
 carry_draws t = list_all (λ course. list_all (carries_draws course) t.machine.links) (courses_of t)
 
+-- `talks` says the conversations to the letter, where the tests tell them apart by frames, showings and phases.
 pub record Script (t : Traced) : Type 0 where
+  pub talks : AllTalk t.setting.terms t.machine.clients
   pub conversations : IsTrue (are_conversations t)
   pub kept : IsTrue (are_kept t)
   pub scripts : IsTrue (follow_scripts t)

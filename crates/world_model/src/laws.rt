@@ -1,8 +1,9 @@
 //! What of the invariant holds of the start and is kept in each event, if the whole invariant held before it. Each law is the
 //! clause of a function with nothing to run.
-ghost use Rattle.world_model.specs.KeptLaws.{IsKept, IsKeptOfCalls, IsOfService, BasicBegins, BasicIsKept, WireBegins, WireIsKept, HoldBegins, HoldIsKept};
+ghost use Rattle.world_model.specs.KeptLaws.{IsKept, IsKeptOfCalls, IsOfService, BasicBegins, BasicIsKept, WireBegins, WireIsKept, HoldBegins, HoldIsKept, TalksBegin, TalksAreKept};
 ghost use Rattle.world_model.specs.Wire.{sent_fronts, reply_fronts, are_handled, in_grammar, one_out, answered_in_order, up_lives, are_fresh};
 ghost use Rattle.world_model.specs.Ready.{are_ready};
+ghost use Rattle.world_model.specs.Script.{are_conversations, follow_scripts, report_rightly};
 ghost use Rattle.world_model.specs.Hold.{are_had, are_queued, are_held, are_idle, slots_held, are_opened, are_by_held};
 ghost use Rattle.world_model.specs.Number.{are_told, are_served_near, blocks_next};
 ghost use Rattle.world_model.specs.Basic.{have_risen, kept_ticks, items_rise, items_differ, is_down, are_ended, sessions_differ, are_made, are_counted, are_named, living_now, commits_counted, lives};
@@ -89,6 +90,24 @@ pub fn wire_is_kept()
 /// slot had no connection, and no call that alters the service is among those that are repeated.
 pub fn requests_stay_ready()
     ensures { IsKeptOfCalls are_ready }
+{}
+
+/// Each step of a request is the client's at its input, which may come then, and the request stands where they lead and has the
+/// connection that they left: to the letter, and by the tests that tell acts apart by their frames and showings.
+pub fn requests_converse()
+    ensures start { TalksBegin }
+    ensures event { TalksAreKept }
+    ensures acts { IsKept are_conversations }
+{}
+
+/// The k-th request of a client is the one that follows the reports of those before it in the client's script.
+pub fn clients_follow_scripts()
+    ensures { IsKept follow_scripts }
+{}
+
+/// A request that is over has the report of its steps.
+pub fn reports_tell_steps()
+    ensures { IsKept report_rightly }
 {}
 
 /// The pool counts the connections that were opened, and drains no more than these.

@@ -1,0 +1,5 @@
+use Rattle.world_model.proofs.KeptTalks.{reports_law}
+use Rattle.world_model.proofs.laws.reports_tell_steps.Goals as goal
+
+pub returns : goal.returns
+returns c = reports_law
