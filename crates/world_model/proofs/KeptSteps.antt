@@ -8,7 +8,7 @@ use Rattle.world_model.proofs.AllClients.{all_courses, past_steps, doing_steps, 
 use Rattle.world_model.proofs.StepsRise.{rises_at}
 use Rattle.world_model.proofs.Happened.{Followed, follow_happens}
 use Rattle.world_model.proofs.BasicSteps.{steps_kept}
-use Rattle.world_model.proofs.BasicTicks.{keeps_at, clients_wanted, ticks_kept, none_now}
+use Rattle.world_model.proofs.BasicTicks.{keeps_at, ticks_kept, none_now}
 
 pub steps_law : IsKept have_risen
 steps_law = record {
@@ -27,5 +27,5 @@ ticks_law = record {
   at_start = λ document. none_now (keeps_at 0 0) (λ client. client.requests) document.clients;
   at_event = λ granted before after old new event note items left one inv.
       let by : Followed old.setting old.machine event note items left new.machine = follow_happens old.setting old.machine event note items left new.machine one.follows in
-      ticks_kept old.setting old.machine items left by.kind new.machine by.happens inv.basic.ended (clients_wanted old inv.basic.ended inv.lost.pending) inv.basic.ticks;
+      ticks_kept old.setting old.machine items left by.kind new.machine by.happens inv.basic.ended inv.basic.ticks;
 }

@@ -34,7 +34,7 @@ use Rattle.request_bounds.specs.declared.clocked.Clocked.{Clocked}
 use Rattle.client_model.specs.Laws.{track_of}
 use Rattle.world_model.specs.Basic.{at_most}
 use Rattle.world_model.specs.Basic as basic
-use Rattle.world_model.specs.Lost.{Wanted, wanted_in}
+use Rattle.world_model.specs.Wanted.{Wanted, wanted_in}
 use Rattle.world_model.proofs.Tests.{le_to}
 use Rattle.world_model.proofs.ClientsKept.{is_past_input}
 

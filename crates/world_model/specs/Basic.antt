@@ -7,9 +7,8 @@ use Rattle.outage_schedule.specs.declared.item.Item.{Item}
 use Rattle.outage_schedule.specs.declared.item.Item.TheVariants as item
 use Rattle.svc_values.specs.Identifiers.{same_session, session_of}
 use Rattle.svc_values.specs.Same.{same_bool}
-use Rattle.client_model.specs.Terms.{Phase, Queued, Seeking, Greeting}
+use Rattle.client_model.specs.Terms.{Phase, Queued}
 use Rattle.client_model.specs.Laws.{track_of}
-use Rattle.client_model.specs.States.{Losing}
 use Rattle.world_model.specs.Frames.{Handled}
 use Rattle.world_model.specs.Links.{Link}
 use Rattle.world_model.specs.Clients.{Doing}
@@ -17,6 +16,7 @@ use Rattle.world_model.specs.Serving.{is_commit, is_last}
 use Rattle.world_model.specs.Traced.{Traced, Course, courses_of}
 use Rattle.world_model.specs.Sames.{rise, each_pair}
 use Rattle.world_model.specs.Parts.{is_closed, implies}
+use Rattle.world_model.specs.Wanted.{wanted_in}
 
 -- TICKS AND EVENTS --------------------------------------------------------------------------------
 
@@ -37,18 +37,12 @@ abbrev pub waits_from : Phase → Option ℕ
 waits_from (Queued from) = from
 waits_from _ = None
 
--- the loss that is to be asked for
-abbrev pub lost_in : Phase → Option Losing
-lost_in (Seeking lost) = lost
-lost_in (Greeting lost) = lost
-lost_in _ = None
-
 abbrev pub keeps_ticks : Traced → Doing → Bool
 keeps_ticks t doing =
     at_most t.machine.tick doing.talk.last_try
     && (at_most t.machine.tick (waits_from doing.talk.phase)
     && (option_map_or (λ track. at_most t.machine.tick track.first) (track_of doing.talk.phase) true
-    && option_map_or (λ lost. nat_le lost.event t.machine.event) (lost_in doing.talk.phase) true))
+    && option_map_or (λ wanted. nat_le wanted.event t.machine.event) (wanted_in doing.talk.phase) true))
 
 abbrev pub kept_ticks : Traced → Bool
 kept_ticks t = list_all (λ client. option_map_or (keeps_ticks t) client.now true) t.machine.clients

@@ -37,5 +37,6 @@ pub mod Settings
 pub mod Told
 pub mod Traced
 pub mod Walking
+pub mod Wanted
 pub mod Wire
 pub mod Words

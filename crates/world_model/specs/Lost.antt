@@ -5,13 +5,11 @@ use Rattle.std.specs.Option.{option_map_or}
 use Rattle.svc_values.specs.declared.entry.Ltxid.{Ltxid}
 use Rattle.svc_values.specs.Endings.{ends_committed}
 use Rattle.svc_values.specs.Identifiers.{same_ltxid}
-use Rattle.client_model.specs.States.{Losing}
 use Rattle.outage_schedule.specs.declared.failure.Failure.{Failure}
 use Rattle.outage_schedule.specs.declared.failure.Failure.TheVariants as failure
 use Rattle.outage_schedule.specs.declared.request.Outcome.{Outcome}
 use Rattle.run_clauses.specs.Outcomes.{completed_of}
 use Rattle.svc_values.specs.Same.{same_bool}
-use Rattle.client_model.specs.Terms.{Phase, Seeking, Greeting, Asked}
 use Rattle.svc_values.specs.declared.frame.Up.{Up}
 use Rattle.svc_values.specs.declared.frame.Up.TheVariants as up
 use Rattle.world_model.specs.Frames.{Sent}
@@ -19,22 +17,9 @@ use Rattle.world_model.specs.Links.{Link, link_at}
 use Rattle.world_model.specs.Traced.{Traced, Course, courses_of}
 use Rattle.world_model.specs.Sames.{owned_by}
 use Rattle.run_clauses.specs.Tried.{holds}
+use Rattle.world_model.specs.Wanted.{Wanted, wanted_in}
 use Rattle.world_model.specs.Words.{held_in}
 use Rattle.world_model.specs.Parts.{sendings_of, number_of, held_number, is_commit_call, is_unmarked}
-
--- the identifier that is to be asked, and the event of its loss
-pub record Wanted : Type 0 where
-  pub ltxid : Ltxid
-  pub event : ℕ
-
-abbrev pub wanted_by : Losing → Wanted
-wanted_by lost = record { ltxid = lost.ltxid; event = lost.event }
-
-abbrev pub wanted_in : Phase → Option Wanted
-wanted_in (Seeking lost) = option_map wanted_by lost
-wanted_in (Greeting lost) = option_map wanted_by lost
-wanted_in (Asked asking) = Some (record { ltxid = asking.ltxid; event = asking.event })
-wanted_in _ = None
 
 -- the connections that a request lost: all that it held, but the one that it has, and where it is over and did not lose its last one, but that
 abbrev pub without_last : List ℕ → List ℕ
