@@ -22,10 +22,10 @@ count_mapped x (entry ∷ entries) =
     sum_by-cons (λ (one : Committed). cond (is_of one.ltxid x.incarnation x.session) 1 0) (committed_of entry) (map committed_of entries)
     ∙ (ap (λ (n : ℕ). cond (is_of entry.ltxid x.incarnation x.session) 1 0 + n) (count_mapped x entries) ∙ sym (sum_by-cons (λ (one : Entry). cond (is_of one.ltxid x.incarnation x.session) 1 0) entry entries))
 
-commits_count : (x : Ltxid) (entries : List Entry) → length (commits_of (map committed_of entries) x.incarnation x.session) ≡ entries_of entries (session_of x)
+pub commits_count : (x : Ltxid) (entries : List Entry) → length (commits_of (map committed_of entries) x.incarnation x.session) ≡ entries_of entries (session_of x)
 commits_count x entries = length-filter (λ (one : Committed). is_of one.ltxid x.incarnation x.session) (map committed_of entries) ∙ count_mapped x entries
 
-all_next : (entries : List Entry) (blocked : List Ltxid) → ((x : Ltxid) → is_blocked blocked x ≡ true → x.number ≡ length (commits_of (map committed_of entries) x.incarnation x.session))
+pub all_next : (entries : List Entry) (blocked : List Ltxid) → ((x : Ltxid) → is_blocked blocked x ≡ true → x.number ≡ length (commits_of (map committed_of entries) x.incarnation x.session))
     → list_all (λ x. x.number == entries_of entries (session_of x)) blocked ≡ true
 all_next entries [] each = refl
 all_next entries (x ∷ blocked) each =

@@ -5,7 +5,7 @@ ghost use Rattle.world_model.specs.Wire.{sent_fronts, reply_fronts, are_handled,
 ghost use Rattle.world_model.specs.Ready.{are_ready};
 ghost use Rattle.world_model.specs.Script.{are_conversations, follow_scripts, report_rightly};
 ghost use Rattle.world_model.specs.Hold.{are_had, are_queued, are_held, are_idle, slots_held, are_opened, are_by_held};
-ghost use Rattle.world_model.specs.Number.{are_told, are_served_near, blocks_next};
+ghost use Rattle.world_model.specs.Number.{are_told, are_served_near, blocks_next, entries_numbered, none_blocked};
 ghost use Rattle.world_model.specs.Basic.{have_risen, kept_ticks, items_rise, items_differ, is_down, are_ended, sessions_differ, are_made, are_counted, are_named, living_now, commits_counted, lives};
 
 /// The items of a connection are in the order of their events, which are past. An event has one item.
@@ -168,3 +168,11 @@ pub fn served_frames_are_near()
 pub fn blocks_are_next()
     ensures { IsOfService blocks_next }
 {}
+
+/// The entries of each session have the numbers 0, 1, 2 and so on, those of the image included, and none of them is blocked.
+pub fn entries_stay_numbered()
+    ensures numbered { IsKept entries_numbered }
+    ensures unblocked { IsKept none_blocked }
+{
+    commit_log::laws::keeps_journal();
+}
