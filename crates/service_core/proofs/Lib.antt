@@ -1,0 +1,2 @@
+mod BaseRows
+mod GoingOn

@@ -1,0 +1,8 @@
+use Rattle.std.proofs.Common.{◌≡◌, ◌++◌, map}
+use Rattle.std.specs.List.{flat_map}
+use Rattle.table_store.specs.Given.{plain}
+use Rattle.commit_log.specs.Bases.{rows_of, schema_in}
+use Rattle.service_core.proofs.opening.gathered.Given as goal
+
+abbrev pub invariant-loop-table : goal.invariant-loop-table
+invariant-loop-table l = (l.schemas.items ++ map schema_in l.table-iterator.rest.items ≡ map schema_in l.fn.tables) × (plain l.rows.items ++ flat_map rows_of l.table-iterator.rest.items ≡ flat_map rows_of l.fn.tables)

@@ -1,0 +1,10 @@
+use Rattle.service_core.proofs.GoingOn.{goes_on, has_opened}
+use Rattle.service_core.proofs.opening.open.Goals as goal
+
+pub core_of-requires : goal.core_of-requires
+core_of-requires g c = goes_on (g.D.Disk.state c.open.new.disk).now.seen c.in-Ok.journal c.keeps_journal.ensures.keeps c.in-Ok.ensures.journal (g.met.D.Disk.bounded c.open.new.disk)
+
+pub returns-in_ok-core_of-in-Ok-clause-opened : goal.returns-in_ok-core_of-in-Ok-clause-opened
+returns-in_ok-core_of-in-Ok-clause-opened g c =
+    has_opened c.args.horizon c.args.grants (g.D.Disk.state c.args.disk.now) (g.D.Disk.state c.open.new.disk) c.in-Ok.log c.in-Ok.journal c.in_ok-core_of-in-Ok.field-0 c.requires.journal c.keeps_journal.ensures.keeps
+    c.in-Ok.ensures.added c.in-Ok.ensures.opened c.in-Ok.ensures.journal c.in-Ok.ensures.ready c.in-Ok.ensures.stop c.in_ok-core_of-in-Ok.ensures

@@ -1,0 +1,2 @@
+pub mod InnerOpening
+pub mod Opening

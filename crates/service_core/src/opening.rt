@@ -1,0 +1,186 @@
+//! A new opening of a store: the tables, the book and the source of values that its journal says.
+ghost use Rattle.std.specs.Prelude.{◌≡◌, ◌++◌, ◌≤◌, IfOk, OnOk, IsErrOf, IsTrue, length, map};
+ghost use Rattle.std.specs.List.{flat_map, list_all};
+ghost use Rattle.disk_model.specs.Disk.{Meanwhile, IsSettled, LoweredByLess, Caused};
+ghost use Rattle.table_store.specs.Given.{plain};
+ghost use Rattle.commit_log.specs.Bases.{IsBase, is_sequence, rows_of, schema_in, schemas_of, start_of as start_def};
+ghost use Rattle.commit_log.specs.Journals.{so_far_of};
+ghost use Rattle.commit_log.specs.Growth.{IsGrown, opening_of};
+ghost use Rattle.server_model.specs.Core.{tables_with};
+ghost use Rattle.server_session.specs.Fits.{tables_of as tables_def};
+ghost use Rattle.service_core.specs.Opening.{CanOpen, HasOpened, source_of as source_def, stop_of};
+ghost use Rattle.service_core.specs.InnerOpening.{CanGoOn, IsCoreOf, ends_low, entry_fits, plain_row, state_of};
+
+use commit_log::laws::keeps_journal;
+use commit_log::{Base, BaseRows, BaseSequence, BaseTable, BaseTables, Journal, Log, LogFault};
+use disk_model::Disk;
+use ltxid_book::Book;
+use mutable_values::{Grants, SeqState, Source};
+use server_model::ServeFault;
+use server_session::Core;
+use std::alloc::Global;
+use svc_values::{Entry, Name, NoMemory, Schema, Schemas, TryCopy};
+use table_store::{TableRow, Tables};
+
+/// Opens the store of a disk for the next incarnation, with the outcomes of all incarnations below
+/// `horizon` forgotten: what its sessions share.
+///
+/// It reads the whole store, n log n for n rows and entries, and keeps no entry. Each sequence goes on
+/// behind its last reservation.
+pub fn open<D: Disk>(
+    alloc: Global,
+    disk: &mut D,
+    horizon: u64,
+    grants: Grants,
+) -> Result<Core, ServeFault>
+    requires settled { IsSettled (D.state disk.old) }
+    requires journal { CanOpen horizon (D.state disk.old).now.seen }
+    ensures opened { IfOk result (λ core. HasOpened horizon grants (D.state disk.old) core (D.state disk.new)) }
+
+    // A crash at any moment of the call leaves the old records, or these with the horizon, if it is stored, or with
+    // all that the opening adds.
+    ensures any_moment { let old = (D.state disk.old).now.seen in Meanwhile (D.state disk.old) (D.state disk.new) (IsGrown old (opening_of horizon (so_far_of old))) }
+
+    // It is stopped only under a stop that does not let its device calls pass, or by a fault of the disk.
+    ensures stop { IsErrOf result ServeFault.Stopped → LoweredByLess (stop_of horizon (D.state disk.old).now.seen) (D.state disk.old).stop (D.state disk.new).stop }
+    ensures cause { Caused (IsErrOf result ServeFault.Stopped) (D.state disk.old) (D.state disk.new) }
+{
+    keeps_journal();
+    match Log::open(alloc, disk, horizon) {
+        Ok((log, journal)) => Ok(core_of(alloc, log, journal, grants)?),
+        Err(LogFault::NoMemory) => Err(ServeFault::NoMemory),
+        Err(LogFault::Stopped) => Err(ServeFault::Stopped),
+        Err(LogFault::Damaged(_)) => unreachable!(),
+    }
+}
+
+/// What sessions share at an opening with this log and journal.
+fn core_of(alloc: Global, log: Log, journal: Journal, grants: Grants) -> Result<Core, NoMemory>
+    requires { CanGoOn journal }
+    ensures { IfOk result (IsCoreOf log journal grants) }
+{
+    let book = Book::of_journal(
+        alloc,
+        journal.horizon,
+        journal.entries.as_slice(),
+        journal.blocked.as_slice(),
+    )?;
+    let source = source_of(alloc, &journal)?;
+    let tables = tables_of(alloc, journal)?;
+    Ok(Core {
+        tables,
+        book,
+        source,
+        log,
+        grants,
+    })
+}
+
+/// The source of a new opening.
+fn source_of(alloc: Global, journal: &Journal) -> Result<Source, NoMemory>
+    requires { CanGoOn journal.now }
+    ensures { IfOk result (λ source. source ≡ source_def journal.now) }
+{
+    let sequences = sequences_of(alloc, journal, journal.base.sequences.as_slice())?;
+    Ok(Source::new(journal.incarnation, sequences))
+}
+
+/// Each of these sequences.
+fn sequences_of(
+    alloc: Global,
+    journal: &Journal,
+    sequences: &[BaseSequence],
+) -> Result<Vec<SeqState>, NoMemory>
+    requires begin { IsTrue (list_all is_sequence sequences.now) }
+    requires end { IsTrue (list_all (ends_low journal.now) sequences.now) }
+    ensures { IfOk result (λ made. made.items ≡ map (state_of journal.now) sequences.now) }
+{
+    let mut made = Vec::new(alloc);
+    for sequence in sequences {
+        made.push(sequence_of(alloc, journal, sequence)?)?;
+    }
+    Ok(made)
+}
+
+/// The sequence, which goes on behind its last reservation.
+fn sequence_of(
+    alloc: Global,
+    journal: &Journal,
+    sequence: &BaseSequence,
+) -> Result<SeqState, NoMemory>
+    requires begins { IsTrue (is_sequence sequence.now) }
+    requires ends { IsTrue (ends_low journal.now sequence.now) }
+    ensures { IfOk result (λ made. made ≡ state_of journal.now sequence.now) }
+{
+    let upto = journal.end_of(sequence);
+    Ok(SeqState {
+        name: sequence.name.copy(alloc)?,
+        next: upto + 1,
+        upto,
+        keep: sequence.keep,
+    })
+}
+
+/// The tables of the base, with what the entries wrote.
+fn tables_of(alloc: Global, journal: Journal) -> Result<Tables, NoMemory>
+    requires { CanGoOn journal }
+    ensures { IfOk result (λ tables. tables ≡ tables_def journal) }
+{
+    let Journal { base, entries, .. } = journal;
+    let mut tables = start_of(alloc, base)?;
+    apply_each(&mut tables, entries.as_slice())?;
+    Ok(tables)
+}
+
+/// The tables after the writes of these entries.
+fn apply_each(tables: &mut Tables, entries: &[Entry]) -> Result<(), NoMemory>
+    requires { IsTrue (list_all (entry_fits tables.old.schemas) entries.now) }
+    ensures { OnOk result (tables.new ≡ record { schemas = tables.old.schemas; rows = tables_with tables.old.rows entries.now }) }
+{
+    for entry in entries {
+        tables.apply(&entry.writes)?;
+    }
+    Ok(())
+}
+
+/// The tables of the base.
+fn start_of(alloc: Global, base: Base) -> Result<Tables, NoMemory>
+    requires { IsBase base }
+    ensures { IfOk result (λ tables. tables ≡ record { schemas = schemas_of base; rows = start_def base }) }
+{
+    let Base { tables, .. } = base;
+    let (schemas, rows) = gathered(alloc, tables)?;
+    Tables::new(alloc, Schemas::from_vec(schemas), rows)
+}
+
+/// The declarations of the tables, and all their rows, which are moved.
+fn gathered(alloc: Global, tables: BaseTables) -> Result<(Vec<Schema>, Vec<TableRow>), NoMemory>
+    ensures schemas { IfOk result (λ all. all.0.items ≡ map schema_in tables) }
+    ensures rows { IfOk result (λ all. plain all.1.items ≡ flat_map rows_of tables) }
+    ensures few { IfOk result (λ all. length all.0.items ≤ 32) }
+{
+    let mut schemas = Vec::new(alloc);
+    let mut rows = Vec::new(alloc);
+    for table in tables.into_vec() {
+        let BaseTable { schema, rows: more } = table;
+        push_rows(alloc, &mut rows, &schema.name, more)?;
+        schemas.push(schema)?;
+    }
+    Ok((schemas, rows))
+}
+
+/// Puts the rows of a table behind those of others.
+fn push_rows(
+    alloc: Global,
+    rows: &mut Vec<TableRow>,
+    name: &Name,
+    more: BaseRows,
+) -> Result<(), NoMemory>
+    ensures { OnOk result (plain rows.new.items ≡ plain rows.old.items ++ map (plain_row name.now) more) }
+{
+    for row in more.into_vec() {
+        let table = name.copy(alloc)?;
+        rows.push(TableRow { table, row })?;
+    }
+    Ok(())
+}
