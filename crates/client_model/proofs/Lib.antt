@@ -9,6 +9,7 @@ mod Rows
 mod Sending
 mod Showing
 mod Left
+pub mod Offered
 mod Slots
 mod Stepped
 pub mod Steps

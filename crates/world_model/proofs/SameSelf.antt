@@ -33,7 +33,7 @@ number_self n = eq_to n n refl
 int_self : (n : ℤ) → int_eq n n ≡ true
 int_self n = (Decides-int_eq n n).1 refl
 
-bytes_self : (bytes : List ℕ) → bytes_eq bytes bytes ≡ true
+pub bytes_self : (bytes : List ℕ) → bytes_eq bytes bytes ≡ true
 bytes_self bytes = (bytes_eq-Decides bytes bytes).1 refl
 
 pub each_self : {A : Type 0} (same : A → A → Bool) → ((x : A) → same x x ≡ true) → (xs : List A) → pointwise same xs xs ≡ true
@@ -55,7 +55,7 @@ answer_self answer.RolledBack = refl
 answer_self answer.CommitInReplay = refl
 answer_self (answer.Refused fault) = number_self (fault_code fault)
 
-draw_self : (one : Draw) → same_draw one one ≡ true
+pub draw_self : (one : Draw) → same_draw one one ≡ true
 draw_self (draw.Seq name n) = and_from (bytes_eq name name) (int_eq n n) (bytes_self name) (int_self n)
 draw_self (draw.Clock n) = number_self n
 draw_self (draw.Id bytes) = bytes_self bytes

@@ -5,11 +5,11 @@ use Rattle.std.specs.Option.{option_map_or}
 use Rattle.std.specs.Str.{bytes_eq}
 use Rattle.std.specs.Cmp.Lexicographic.{pointwise}
 use Rattle.svc_values.specs.declared.call.Call.{Call}
-use Rattle.svc_values.specs.declared.answer.Answer.{Answer}
 use Rattle.svc_values.specs.declared.frame.Up.{Up}
 use Rattle.svc_values.specs.declared.frame.Up.TheVariants as up
 use Rattle.svc_values.specs.Calls.{is_lone_commit}
-use Rattle.svc_values.specs.Endings.{ends_committed, ends_conflict}
+use Rattle.svc_values.specs.Endings.{ends_committed}
+use Rattle.request_bounds.specs.Replies.{ends_decided}
 use Rattle.svc_values.specs.Same.{same_answers, same_bool, same_call, same_calls, same_draws}
 use Rattle.client_model.specs.declared.track.Track.{Track}
 use Rattle.call_recorder.specs.declared.recorded.Recorded.{Recorded}
@@ -91,12 +91,9 @@ same_ticks (Some a) (Some b) = a == b
 same_ticks _ _ = false
 
 -- the index behind the last shown answers that end with Committed or Conflict
-abbrev pub decided : List Answer → Bool
-decided answers = ends_committed answers || ends_conflict answers
-
 abbrev pub behind_decided : ℕ → ℕ → List ShownCall → ℕ
 behind_decided found index [] = found
-behind_decided found index (shown ∷ others) = behind_decided (cond (decided shown.answers) (index + 1) found) (index + 1) others
+behind_decided found index (shown ∷ others) = behind_decided (cond (ends_decided shown.answers) (index + 1) found) (index + 1) others
 
 abbrev pub recorded_from : List ShownCall → ℕ
 recorded_from shown = behind_decided 0 0 shown

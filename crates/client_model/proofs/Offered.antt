@@ -1,0 +1,7 @@
+-- Lemmas on this crate's words that the crates above cite.
+
+-- the laws of each conversation: its unmarked calls, its settings, its outcomes, its track and what it lets go
+pub use Rattle.client_model.proofs.Steps.{replays_only_verified, begins_known, few_replays, keeps_what_is_told, releases_rightly}
+-- the reason that the steps tell, and the identifiers under which calls were sent
+pub use Rattle.client_model.proofs.Tables.{has_tables_reason}
+pub use Rattle.client_model.proofs.Trying.{tries_under_held}
