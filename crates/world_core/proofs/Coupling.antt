@@ -45,7 +45,7 @@ abbrev view_at : List View → ℕ → Option View
 view_at all zero = None
 view_at all (suc index) = slice_get all index
 
-abbrev living_in : Option View → Option (Option SessionId)
+abbrev pub living_in : Option View → Option (Option SessionId)
 living_in None = None
 living_in (Some one) = if one.is_living then Some one.session else None
 
@@ -58,7 +58,7 @@ at_view : (links : List Link) (number : ℕ) → view_at (views links) number �
 at_view links zero = refl
 at_view links (suc index) = slice_view links index
 
-living_view : (found : Option Link) → living_of found ≡ living_in (option_map view found)
+pub living_view : (found : Option Link) → living_of found ≡ living_in (option_map view found)
 living_view None = refl
 living_view (Some link) = refl
 
@@ -144,7 +144,7 @@ ticks sees before after goes seen t is = (
     moved t (ticked (begun t.machine)),
     (
       one_alone seen t event.Tick note.Tick (ticked (begun t.machine)) is.coupled refl refl refl refl refl refl,
-      record { seen_so = is.seen_so; coupled = stays_coupled seen t (ticked (begun t.machine)) is.coupled refl refl; underway = goes t.machine is.underway },
+      record { seen_so = is.seen_so; ready = is.ready; coupled = stays_coupled seen t (ticked (begun t.machine)) is.coupled refl refl; underway = goes t.machine is.underway },
     ),
   ),
 )
@@ -204,7 +204,7 @@ cut_makes sees before after number up down reached goes seen t is =
         moved t led.0,
         (
           one_alone seen t (event.Cut number up down) (note.Cut number reached) led.0 is.coupled follows refl refl refl alike.0 alike.1,
-          record { seen_so = is.seen_so; coupled = stays_coupled seen t led.0 is.coupled alike.0 alike.1; underway = led.1.1 },
+          record { seen_so = is.seen_so; ready = is.ready; coupled = stays_coupled seen t led.0 is.coupled alike.0 alike.1; underway = led.1.1 },
         ),
       ),
     )

@@ -87,7 +87,7 @@ drains sees before after closed goes seen t is =
         moved t led.0,
         (
           one_alone seen t event.Drain (note.Drain closed) led.0 is.coupled follows refl refl refl server alike,
-          record { seen_so = is.seen_so; coupled = stays_coupled seen t led.0 is.coupled server alike; underway = led.1.1 },
+          record { seen_so = is.seen_so; ready = is.ready; coupled = stays_coupled seen t led.0 is.coupled server alike; underway = led.1.1 },
         ),
       ),
     )

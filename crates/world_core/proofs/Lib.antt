@@ -2,8 +2,12 @@ pub mod Carrying
 pub mod Linking
 pub mod Standing
 pub mod Underway
+pub mod Readiness
 pub mod Coupling
 pub mod Reaping
 pub mod Opening
 pub mod Places
 pub mod Draining
+pub mod Written
+pub mod Serving
+pub mod ServedFrames

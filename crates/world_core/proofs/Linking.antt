@@ -2,13 +2,13 @@
 use Rattle.std.proofs.Common.{◌≡◌, ℕ, Bool, true, false, List, [], ◌∷◌, ◌++◌, Option, Some, None, Ok, length, map, min, refl, sym, ap, ◌∙◌, subst, inl, inr}
 use Rattle.std.specs.Prelude.{◌⊎◌, nat_le, ◌-◌, sum_by, is_none, option_and_then, if◌then◌else◌}
 use Rattle.std.specs.Option.{option_or}
-use Rattle.std.specs.List.{list_any}
+use Rattle.std.specs.List.{list_any, AllByRecursion}
 use Rattle.std.proofs.lemmas.List.{append-nil, map-append}
 use Rattle.std.proofs.lemmas.List.Sums.{sum_by-cons}
 use Rattle.svc_values.specs.declared.frame.Up.{Up}
 use Rattle.svc_values.specs.declared.frame.Down.{Down}
 use Rattle.svc_values.specs.declared.frame.Down.TheVariants as down
-use Rattle.canon_bytes.specs.UpBytes.{spell_up, FitsUp}
+use Rattle.canon_bytes.specs.UpBytes.{spell_up, FitsUp, IsMadeUp}
 use Rattle.canon_bytes.specs.DownBytes.{spell_down, FitsDown}
 use Rattle.frame_wire.specs.Stream.{Pending, nothing_pending, with_bytes, with_first, whole_front as front_in, IsNext}
 use Rattle.frame_wire.specs.Steps.{stream, AreFrames, frame_size, IsWholeFront}
@@ -40,8 +40,23 @@ new_is_link up down e d = record {
   session = refl;
   ltxid = refl;
   up = subst (Ups true []) (sym e) (carries_none spell_up FitsUp true);
+  made = tt;
   down = subst (Downs true []) (sym d) (carries_none spell_down FitsDown true);
 }
+
+-- MADE --------------------------------------------------------------------------------------------
+
+abbrev AreMade : List Sent → Type 0
+AreMade sent = AllByRecursion IsMadeUp (up_frames sent)
+
+made_more : (sent more : List Sent) → AreMade sent → AreMade more → AreMade (sent ++ more)
+made_more [] more a b = b
+made_more (one ∷ sent) more a b = (a.0, made_more sent more a.1 b)
+
+made_front : (bytes : ℕ) (sent : List Sent) → AreMade sent → AreMade (whole_front up_size bytes sent)
+made_front bytes [] made = tt
+made_front bytes (one ∷ sent) made =
+    elim (nat_le (up_size one) bytes) as (λ b. AreMade (if b then one ∷ whole_front up_size (bytes - up_size one) sent else [])) [ true ↦ (made.0, made_front (bytes - up_size one) sent made.1) | false ↦ tt ]
 
 -- SENDING -----------------------------------------------------------------------------------------
 
@@ -70,9 +85,9 @@ more_carried c link sent frames same (inr unended) are is =
 abbrev sending : List Sent → Link → Link
 sending sent link = record link { sent = link.sent ++ sent; up = link.up ++ sent }
 
-pub sending_is_link : (c : Connection) (up : Pending) (frames : List Up) → (frames ≡ []) ⊎ (c.ended ≡ None) → AreFrames spell_up FitsUp frames → up ≡ with_bytes c.up (stream spell_up FitsUp frames)
+pub sending_is_link : (c : Connection) (up : Pending) (frames : List Up) → (frames ≡ []) ⊎ (c.ended ≡ None) → AllByRecursion IsMadeUp frames → AreFrames spell_up FitsUp frames → up ≡ with_bytes c.up (stream spell_up FitsUp frames)
     → (link : Link) (sent : List Sent) → up_frames sent ≡ frames → IsLink c link → IsLink (record c { up = up }) (sending sent link)
-sending_is_link c up frames open_for are pushed link sent same is = record {
+sending_is_link c up frames open_for made are pushed link sent same is = record {
   is_open = is.is_open;
   ended = is.ended;
   cut = is.cut;
@@ -80,6 +95,7 @@ sending_is_link c up frames open_for are pushed link sent same is = record {
   session = is.session;
   ltxid = is.ltxid;
   up = subst (Ups link.is_open (up_frames (link.up ++ sent))) (sym pushed) (more_carried c link sent frames same open_for are is);
+  made = made_more link.up sent is.made (subst (AllByRecursion IsMadeUp) (sym same) made);
   down = is.down;
 }
 
@@ -110,6 +126,7 @@ gives_front c after frame one next link [] same is =
         session = is.session;
         ltxid = is.ltxid;
         up = subst (λ (s : List Sent). Ups link.is_open (up_frames s) after) (sym same) told.1;
+        made = is.made;
         down = is.down;
       },
     )
@@ -125,6 +142,7 @@ gives_front c after frame one next link (first ∷ later) same is =
         session = is.session;
         ltxid = is.ltxid;
         up = told.1;
+        made = (subst AreMade same is.made).1;
         down = is.down;
       },
     )
@@ -163,6 +181,7 @@ gives_reply c after reply one next link [] same is =
         session = is.session;
         ltxid = is.ltxid ∙ ap (λ (r : Option Down). option_or (option_and_then told_by_frame r) c.held) (sym told.0);
         up = is.up;
+        made = is.made;
         down = subst (λ (r : List Reply). Downs link.is_open (down_frames r) after) (sym same) told.1;
       },
     )
@@ -180,6 +199,7 @@ gives_reply c after reply one next link (first ∷ left) same is =
         session = is.session;
         ltxid = identifier;
         up = is.up;
+        made = is.made;
         down = told.1;
       },
     )
@@ -212,6 +232,7 @@ fallen_is_link c event link is up down ups downs = record {
   session = is.session;
   ltxid = is.ltxid;
   up = subst (λ (b : Bool). Ups b [] up) (sym (ends_closed event link)) (subst (Ups false []) (sym ups) (carries_empty spell_up FitsUp (ends event link).is_open (up_frames (ends event link).up) c.up is.up));
+  made = tt;
   down = subst (λ (b : Bool). Downs b (down_frames (if link.is_cut then link.down else [])) down) (sym (ends_closed event link)) (by_cut downs);
 }
   where
@@ -262,6 +283,7 @@ cut_is_link cut_up cut_down c event up down unended link is =
       session = ends_same (λ l. l.session) event link refl ∙ is.session;
       ltxid = ends_same (λ l. l.held) event link refl ∙ is.ltxid;
       up = subst (λ (b : Bool). Ups b (up_frames (whole_front up_size up link.up)) (cut_of c event up down).up) (sym (ends_closed event link)) up_there;
+      made = made_front up link.up is.made;
       down = subst (λ (b : Bool). Downs b (down_frames (whole_front down_size down link.down)) (cut_of c event up down).down) (sym (ends_closed event link)) down_there;
     }
 

@@ -15,6 +15,7 @@ use Rattle.world_model.specs.Coupled.{SameServer, Coupled}
 use Rattle.world_core.specs.declared.traffic.Traffic.{Traffic}
 use Rattle.world_core.specs.Underway.{IsUnderway}
 use Rattle.world_core.specs.Making.{Makes}
+use Rattle.world_core.proofs.Readiness.{opened_ready}
 use Rattle.world_core.proofs.Coupling.{moved, begun, one_alone, stays_coupled, none_came, none_asked}
 
 -- what is underway knows nothing of the server
@@ -32,7 +33,7 @@ ups_none sees before after up goes seen t is =
         moved t (begun t.machine),
         (
           one_alone seen t event.Up (note.Up None) (begun t.machine) is.coupled follows refl refl refl refl refl,
-          record { seen_so = is.seen_so; coupled = stays_coupled seen t (begun t.machine) is.coupled refl refl; underway = goes t.machine is.underway },
+          record { seen_so = is.seen_so; ready = is.ready; coupled = stays_coupled seen t (begun t.machine) is.coupled refl refl; underway = goes t.machine is.underway },
         ),
       ),
     )
@@ -113,7 +114,7 @@ ups_some sees sees_later before after horizon incarnation down honest told goes 
             outside = sym (append-nil t.outside);
             outside_draws = sym (append-nil t.outside_draws);
           },
-          record { seen_so = gone.1.0; coupled = coupled; underway = any_server after (begun t.machine) (opened t.machine.server incarnation) (leads t.machine is.underway) },
+          record { seen_so = gone.1.0; ready = opened_ready seen new did.keeps is.ready did.is_up.0; coupled = coupled; underway = any_server after (begun t.machine) (opened t.machine.server incarnation) (leads t.machine is.underway) },
         ),
       ),
     )

@@ -21,6 +21,7 @@ use Rattle.world_core.specs.declared.traffic.Traffic.{Traffic}
 use Rattle.world_core.specs.Underway.{IsUnderway, Leads}
 use Rattle.world_core.specs.Making.{Makes}
 use Rattle.world_core.proofs.Places.{slice_same, slice_other}
+use Rattle.world_core.proofs.Readiness.{store_ready}
 use Rattle.world_core.proofs.Coupling.{moved, begun, one_alone, stays_coupled, none_came, none_asked}
 
 -- ONE OF MANY -------------------------------------------------------------------------------------
@@ -98,7 +99,7 @@ reaps_none sees before after number goes seen t is =
         moved t led.0,
         (
           one_alone seen t (event.Reap number) (note.Reap number false) led.0 is.coupled follows refl refl refl server (rw alike refl),
-          record { seen_so = is.seen_so; coupled = stays_coupled seen t led.0 is.coupled server (rw alike refl); underway = led.1.1 },
+          record { seen_so = is.seen_so; ready = is.ready; coupled = stays_coupled seen t led.0 is.coupled server (rw alike refl); underway = led.1.1 },
         ),
       ),
     )
@@ -169,7 +170,7 @@ reaps_one sees sees_later before after number honest goes leads seen t is =
             outside = sym (append-nil t.outside);
             outside_draws = sym (append-nil t.outside_draws);
           },
-          record { seen_so = gone.1.0; coupled = coupled; underway = there.0 },
+          record { seen_so = gone.1.0; ready = store_ready seen new reaped.keeps reaped.keeps_store is.ready; coupled = coupled; underway = there.0 },
         ),
       ),
     )

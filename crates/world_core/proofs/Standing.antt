@@ -57,6 +57,21 @@ pub no_link : (all : List Connection) (links : List Link) (number : ℕ) → con
 no_link all links zero none are = refl
 no_link all links (suc at) none are = none_past all links at are none
 
+-- one of the machine stands for one that is held
+link_held : (all : List Connection) (links : List Link) (at : ℕ) (link : Link) → AreLinks all links → slice_get links at ≡ Some link → (one : Connection) × IsLink one link
+link_held [] [] at link are e = absurd (let nothing : ⊥ = cc in nothing)
+link_held [] (l ∷ links) at link are e = absurd are
+link_held (c ∷ all) [] at link are e = absurd are
+link_held (c ∷ all) (l ∷ links) zero link are e = (c, subst (IsLink c) (held_same l link e) are.0)
+  where
+    held_same : (a b : Link) → ◌≡◌ {A = Option Link} (Some a) (Some b) → a ≡ b
+    held_same a b e = cc
+link_held (c ∷ all) (l ∷ links) (suc at) link are e = link_held all links at link are.1 e
+
+pub link_stands : (all : List Connection) (links : List Link) (number : ℕ) (link : Link) → AreLinks all links → link_at links number ≡ Some link → (one : Connection) × IsLink one link
+link_stands all links zero link are e = absurd (let nothing : ⊥ = cc in nothing)
+link_stands all links (suc at) link are e = link_held all links at link are e
+
 -- the place of a number
 abbrev pub IsPlace : List Connection → ℕ → ℕ → Type 0
 IsPlace all number at = (number ≡ suc at) × (at < length all)

@@ -2,3 +2,5 @@ pub mod Carrying
 pub mod Linked
 pub mod Underway
 pub mod Making
+pub mod Answering
+pub mod InOrder

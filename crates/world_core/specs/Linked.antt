@@ -1,9 +1,10 @@
 -- How a connection stands for one of the machine. What the machine remembers beside, as all that was ever sent, no connection holds.
 use Rattle.std.specs.Prelude.{◌≡◌, ◌⊎◌, ℕ, zero, suc, true, List, [], ◌∷◌, map, slice_get, Option, Some, None, is_none}
+use Rattle.std.specs.List.{AllByRecursion}
 use Rattle.svc_values.specs.declared.entry.Ltxid.{Ltxid}
 use Rattle.svc_values.specs.declared.frame.Up.{Up}
 use Rattle.svc_values.specs.declared.frame.Down.{Down}
-use Rattle.canon_bytes.specs.UpBytes.{spell_up, FitsUp}
+use Rattle.canon_bytes.specs.UpBytes.{spell_up, FitsUp, IsMadeUp}
 use Rattle.canon_bytes.specs.DownBytes.{spell_down, FitsDown}
 use Rattle.client_model.specs.declared.input.Input.TheVariants.{Took}
 use Rattle.world_model.specs.Frames.{Sent, Reply}
@@ -25,7 +26,8 @@ down_frames replies = map (λ one. one.frame) replies
 abbrev pub told_by_frame : Down → Option Ltxid
 told_by_frame frame = told_by (Took frame true)
 
--- It stands as the machine says, and its bytes are those of the frames that may still be served and taken.
+-- It stands as the machine says, and its bytes are those of the frames that may still be served and taken. Frames to the server keep
+-- the rules that a sender sees to.
 pub record IsLink (held : Connection) (link : Link) : Type 0 where
   pub is_open : link.is_open ≡ is_none held.ended
   pub ended : link.ended ≡ held.ended
@@ -34,6 +36,7 @@ pub record IsLink (held : Connection) (link : Link) : Type 0 where
   pub session : link.session ≡ held.session
   pub ltxid : link.held ≡ held.held
   pub up : Carries spell_up FitsUp link.is_open (up_frames link.up) held.up
+  pub made : AllByRecursion IsMadeUp (up_frames link.up)
   pub down : Carries spell_down FitsDown link.is_open (down_frames link.down) held.down
 
 -- the frame that is served next was taken off, where one may be served

@@ -1,18 +1,27 @@
 -- An event of a run without its clients: machine and service go on together.
-use Rattle.std.specs.Prelude.{List, []}
+use Rattle.std.specs.Prelude.{◌≡◌, ◌-◌, ◌^◌, ℕ, true, false, List, [], None}
 use Rattle.outage_schedule.specs.declared.event.Event.{Event}
 use Rattle.outage_schedule.specs.declared.note.Note.{Note}
 use Rattle.outage_schedule.specs.declared.item.Served.{Served}
-use Rattle.server_model.specs.Seen.{Seen}
+use Rattle.server_model.specs.Seen.{ServiceState, Seen}
 use Rattle.world_model.specs.Traced.{Traced}
 use Rattle.world_model.specs.Coupled.{Coupled}
 use Rattle.world_model.specs.OneEvent.{OneEvent}
 use Rattle.world_core.specs.declared.traffic.Traffic.{Traffic}
 use Rattle.world_core.specs.Underway.{IsUnderway}
+use Rattle.world_core.specs.InOrder.{InOrder}
 
--- The service may be seen so, and this is underway as the machine is.
+-- It may be called, and no call of it is stopped. Where it is down it may be opened.
+pub record IsReady (state : ServiceState) : Type 0 where
+  pub live : state.is_spent ≡ false
+  pub quiet : state.is_quiet ≡ true
+  pub unstopped : state.stop ≡ None
+  pub settled : state.is_up ≡ false → state.is_settled ≡ true
+
+-- The service may be seen so, it is ready, and this is underway as the machine is.
 pub record IsAt (sees : Seen → Type 0) (traffic : Traffic) (seen : Seen) (t : Traced) : Type 0 where
   pub seen_so : sees seen
+  pub ready : IsReady seen.state
   pub coupled : Coupled seen t
   pub underway : IsUnderway traffic t.machine
 
@@ -20,3 +29,16 @@ pub record IsAt (sees : Seen → Type 0) (traffic : Traffic) (seen : Seen) (t : 
 abbrev pub Makes : (Seen → Type 0) → Traffic → (Seen → Type 0) → Traffic → Event → Note → List Served → Type 0
 Makes sees before sees_later after event note items =
     (seen : Seen) (t : Traced) → IsAt sees before seen t → (seen_later : Seen) × ((later : Traced) × (OneEvent seen t event note items [] seen_later later × IsAt sees_later after seen_later later))
+
+-- the same, of a frame that is served in order
+abbrev pub MakesInOrder : (Seen → Type 0) → Traffic → (Seen → Type 0) → Traffic → ℕ → Event → Note → List Served → Type 0
+MakesInOrder sees before sees_later after number event note items =
+    (seen : Seen) (t : Traced) → IsAt sees before seen t → InOrder seen t number → (seen_later : Seen) × ((later : Traced) × (OneEvent seen t event note items [] seen_later later × IsAt sees_later after seen_later later))
+
+-- where the service and the traffic may stand, a frame is served in order
+abbrev pub IsInOrder : (Seen → Type 0) → Traffic → ℕ → Type 0
+IsInOrder sees traffic number = (seen : Seen) × ((t : Traced) × (IsAt sees traffic seen t × InOrder seen t number))
+
+-- a call was stopped, and yet under no stop: its faults were counted to the end
+abbrev pub OutOfFaults : (Seen → Type 0) → Traffic → (Seen → Type 0) → Type 0
+OutOfFaults sees traffic sees_later = (seen : Seen) (t : Traced) → IsAt sees traffic seen t → (seen_later : Seen) × (sees_later seen_later × (seen_later.state.faults ≡ 2 ^ 64 - 1))

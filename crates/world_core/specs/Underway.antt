@@ -1,5 +1,5 @@
 -- How the clock, the connections and the pool of a run stand for those of the machine.
-use Rattle.std.specs.Prelude.{◌≡◌, ◌≤◌, ◌<◌, ℕ, Bool, true, false, List, [], ◌∷◌, length, fold, Option, Some, None}
+use Rattle.std.specs.Prelude.{◌≡◌, ◌≤◌, ◌<◌, ℕ, Bool, true, false, List, [], ◌∷◌, length, fold, Option, Some, None, if◌then◌else◌}
 use Rattle.svc_values.specs.declared.frame.Up.{Up}
 use Rattle.svc_values.specs.declared.frame.Up.TheVariants as up
 use Rattle.pool_core.specs.Slots.{Slots, is_among}
@@ -7,14 +7,16 @@ use Rattle.client_model.specs.declared.act.Hold.{Hold}
 use Rattle.client_model.specs.declared.act.Hold.TheVariants.{GiveBack, Drop}
 use Rattle.svc_values.specs.declared.frame.Down.{Down}
 use Rattle.client_model.specs.declared.input.Input.TheVariants.{Took}
+use Rattle.outage_schedule.specs.declared.item.Served.{Served}
 use Rattle.world_model.specs.Frames.{Reply}
-use Rattle.world_model.specs.Links.{Link, with_link, changed, sends, takes}
+use Rattle.world_model.specs.Links.{Link, with_link, changed, ends, sends, takes}
 use Rattle.world_model.specs.Machines.{Machine}
 use Rattle.world_model.specs.Outside.{closed_by_drain}
-use Rattle.world_model.specs.Serving.{Front, front_at}
+use Rattle.world_model.specs.Serving.{Front, front_at, is_blocked, after_front, pool_after}
 use Rattle.world_core.specs.declared.connection.Connection.{Connection}
 use Rattle.world_core.specs.declared.traffic.Traffic.{Traffic}
 use Rattle.world_core.specs.Linked.{Stand, connection_at, MaySend}
+use Rattle.world_core.specs.Answering.{session_served, served_item}
 
 pub record IsUnderway (held : Traffic) (m : Machine) : Type 0 where
   pub event : m.event ≡ held.event
@@ -42,6 +44,10 @@ GivesReplyOf m number link [] frame after = (frame ≡ None) × IsUnderway after
 GivesReplyOf m number link (reply ∷ left) frame after =
     (frame ≡ Some reply.frame) × IsUnderway after (record m { links = with_link m.links number (takes (Took reply.frame link.is_open) reply left link) })
 
+-- the connection behind the frame in front, with this reply
+abbrev pub answered_link : ℕ → Front → Served → Option Down → Link
+answered_link event front served reply = if is_blocked served.item then ends event (after_front front served reply) else after_front front served reply
+
 -- a slot is held where one comes back, and a connection that comes back was opened and is not idle
 abbrev pub MayRelease : Slots → ℕ → Bool → Hold → Type 0
 MayRelease pool number holds_slot GiveBack = (0 < pool.lent) × (number ≤ pool.opened) × (is_among number pool.idle ≡ false)
@@ -61,3 +67,11 @@ AreClosable all (number ∷ numbers) = MaySend (connection_at all number) (up.Cl
 -- a Close is sent on each
 abbrev pub all_closed : ℕ → List Link → List ℕ → List Link
 all_closed event links numbers = fold (changed (sends event (closed_by_drain ∷ []))) links numbers
+
+-- A frame was served with this reply: its item is written down, and the reply is on its way. A commit that was blocked ends the
+-- connection.
+pub record IsWritten (held : Traffic) (m : Machine) (number : ℕ) (front : Front) (frame : Up) (reply : Option Down) (served : Served) (after : Traffic) : Type 0 where
+  pub event : served.event ≡ m.event
+  pub session : served.session ≡ session_served front.link.session reply
+  pub item : served.item ≡ served_item frame reply
+  pub links : IsUnderway after (record m { links = with_link m.links number (answered_link m.event front served reply); pool = pool_after m.pool number served.item })

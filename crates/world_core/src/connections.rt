@@ -58,6 +58,14 @@ impl Connections {
         Some(&self.all[at])
     }
 
+    /// The session of one, once it has its name.
+    pub fn session(&self, number: u64) -> Option<SessionId>
+        ensures { (links : List Link) (link : Link) → link_at links number ≡ Some link → Stand self.now links → result ≡ link.session }
+    {
+        let at = self.place(number)?;
+        self.all[at].session
+    }
+
     /// Opens one, and gives its number.
     pub fn add(&mut self) -> Result<u64, NoMemory>
         ensures number { IfOk result (λ number. number ≡ length self.old.all.items + 1) }

@@ -1,14 +1,16 @@
 //! The service of a run, and the traffic to it.
-ghost use Rattle.std.specs.Prelude.{◌≡◌, ◌<◌, ◌^◌, false, true, [], IfOk};
+ghost use Rattle.std.specs.Prelude.{◌≡◌, ◌<◌, ◌^◌, false, true, [], Err, IfOk, option_to_list};
 ghost use Rattle.server_model.specs.ServiceCalls.{MayForget};
 ghost use Rattle.world_core.specs.Underway.{AreClosable};
-ghost use Rattle.world_core.specs.Making.{Makes};
+ghost use Rattle.world_core.specs.Making.{Makes, MakesInOrder, IsInOrder, OutOfFaults};
 
+use crate::answering::frame_name;
 use crate::traffic::Traffic;
-use outage_schedule::{Event, Note};
-use service_calls::Service;
+use outage_schedule::{Event, Note, Served};
+use service_calls::{ServeFault, Service};
 use std::alloc::Global;
 use svc_values::NoMemory;
+use svc_values::laws::compares_exactly;
 
 /// The service of a run, and the traffic to it: what an event finds beside the clients.
 ///
@@ -38,6 +40,48 @@ impl<S: Service + Drop> Ground<S> {
         self.traffic.begin();
         self.traffic.pass();
         Note::Tick
+    }
+
+    /// Serves the frame that stands first on a connection, if one may be served there, and gives its
+    /// item. A service that is quiet and under no stop is stopped only once it has counted 2^64 - 1
+    /// faults.
+    pub fn serve(
+        &mut self,
+        alloc: Global,
+        connection: u64,
+    ) -> Result<(Note, Option<Served>), ServeFault>
+        requires events { self.old.traffic.event < 2 ^ 48 }
+        requires live { (S.state self.old.service).is_spent ≡ false }
+        requires few { (S.state self.old.service).calls < 2 ^ 48 }
+        requires in_order { IsInOrder (S.sees self.old.service) self.old.traffic connection }
+        ensures made { IfOk result (λ made. MakesInOrder (S.sees self.old.service) self.old.traffic (S.sees self.new.service) self.new.traffic connection (Event.Serve connection) made.0 (option_to_list made.1)) }
+        ensures stopped { result ≡ Err ServeFault.Stopped → OutOfFaults (S.sees self.old.service) self.old.traffic (S.sees self.new.service) }
+    {
+        compares_exactly();
+        self.traffic.begin();
+        let first = self.traffic.first_up(connection)?;
+        let Some(frame) = first else {
+            let note = Note::Serve {
+                connection,
+                frame: None,
+            };
+            return Ok((note, None));
+        };
+        let name = frame_name(&frame);
+        let reply = match self
+            .service
+            .serve(alloc, connection, &frame, self.traffic.tick)
+        {
+            Ok(reply) => reply,
+            Err(ServeFault::NoMemory) => return Err(ServeFault::NoMemory),
+            Err(ServeFault::Stopped) => return Err(ServeFault::Stopped),
+        };
+        let served = self.traffic.answer(alloc, connection, frame, &reply)?;
+        let note = Note::Serve {
+            connection,
+            frame: Some(name),
+        };
+        Ok((note, Some(served)))
     }
 
     /// Cuts a connection, if it is open: of the bytes on their way the first `up` still reach the
@@ -75,23 +119,26 @@ impl<S: Service + Drop> Ground<S> {
     }
 
     /// Opens the store, where the server is down, and forgets the outcomes of all incarnations below
-    /// the horizon. The cost is linear in the store. A stop is told as want of memory: a service that
-    /// is quiet and under no stop has none.
-    pub fn up(&mut self, alloc: Global, horizon: u64) -> Result<Note, NoMemory>
+    /// the horizon. The cost is linear in the store. A service that is quiet and under no stop is
+    /// stopped only once it has counted 2^64 - 1 faults.
+    pub fn up(&mut self, alloc: Global, horizon: u64) -> Result<Note, ServeFault>
         requires events { self.old.traffic.event < 2 ^ 48 }
         requires live { (S.state self.old.service).is_spent ≡ false }
         requires few { (S.state self.old.service).calls < 2 ^ 48 }
         requires settled { (S.state self.old.service).is_up ≡ false → (S.state self.old.service).is_settled ≡ true }
         requires may { MayForget (S.state self.old.service) horizon }
-        ensures { IfOk result (λ note. Makes (S.sees self.old.service) self.old.traffic (S.sees self.new.service) self.new.traffic Event.Up note []) }
+        ensures made { IfOk result (λ note. Makes (S.sees self.old.service) self.old.traffic (S.sees self.new.service) self.new.traffic Event.Up note []) }
+        ensures stopped { result ≡ Err ServeFault.Stopped → OutOfFaults (S.sees self.old.service) self.old.traffic (S.sees self.new.service) }
     {
         self.traffic.begin();
         if self.service.is_up() {
             return Ok(Note::Up { incarnation: None });
         }
-        let Ok(()) = self.service.up(alloc, horizon) else {
-            return Err(NoMemory);
-        };
+        match self.service.up(alloc, horizon) {
+            Ok(()) => {}
+            Err(ServeFault::NoMemory) => return Err(ServeFault::NoMemory),
+            Err(ServeFault::Stopped) => return Err(ServeFault::Stopped),
+        }
         let incarnation = self.service.incarnation();
         Ok(Note::Up {
             incarnation: Some(incarnation),

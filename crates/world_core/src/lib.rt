@@ -1,6 +1,7 @@
 //! The world: connections with their sessions, clients and the pool, run event by event over any service.
 #![tactic(auto)]
 
+mod answering;
 mod connection;
 mod connections;
 mod ground;

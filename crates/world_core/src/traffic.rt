@@ -3,7 +3,6 @@ ghost use Rattle.std.specs.Prelude.{◌≡◌, ◌≢◌, ◌+◌, ◌<◌, ◌�
 ghost use Rattle.std.specs.List.{AllByRecursion};
 ghost use Rattle.canon_bytes.specs.UpBytes.{IsMadeUp};
 ghost use Rattle.canon_bytes.specs.DownBytes.{IsMadeDown};
-ghost use Rattle.outage_schedule.specs.declared.item.Served.{Served};
 ghost use Rattle.pool_core.specs.Slots.{unused, take_answer, after_take, give_back_answer, after_gone, after_opened};
 ghost use Rattle.client_model.specs.Released.{released};
 ghost use Rattle.world_model.specs.Frames.{Sent};
@@ -15,11 +14,12 @@ ghost use Rattle.world_model.specs.Cutting.{follow_cut, follow_reap};
 ghost use Rattle.world_model.specs.Crashing.{fallen_link};
 ghost use Rattle.world_model.specs.Outside.{ticked, follow_drain};
 ghost use Rattle.world_core.specs.Linked.{up_frames, connection_at, MaySend};
-ghost use Rattle.world_core.specs.Underway.{AreClosable, all_closed, IsUnderway, Leads, GivesFrontOf, GivesReplyOf, MayRelease, closes_with};
+ghost use Rattle.world_core.specs.Underway.{AreClosable, all_closed, IsUnderway, Leads, GivesFrontOf, GivesReplyOf, MayRelease, closes_with, IsWritten};
 
+use crate::answering::{is_blocked, is_last, served_item, session_served};
 use crate::connections::Connections;
 use client_model::Hold;
-use outage_schedule::Reached;
+use outage_schedule::{Reached, Served};
 use pool_core::{Back, Pool, Take};
 use std::alloc::Global;
 use svc_values::{Down, NoMemory, SessionId, Up};
@@ -128,6 +128,34 @@ impl Traffic {
         ensures { OnOk result ((m : Machine) (front : Front) (served : Served) → served.session ≡ session → is_last_def served.item ≡ is_last → link_at m.links number ≡ Some (record front.link { up = front.later }) → IsUnderway self.old m → IsUnderway self.new (record m { links = with_link m.links number (after_front front served reply.now) })) }
     {
         self.connections.serve(number, session, is_last, reply)
+    }
+
+    /// Writes down that the frame that was taken off was served, with this reply, which is sent. A
+    /// commit that was blocked ends the connection. Linear in the reply, beside the idle connections
+    /// where it was.
+    pub fn answer(
+        &mut self,
+        alloc: Global,
+        number: u64,
+        frame: Up,
+        reply: &Option<Down>,
+    ) -> Result<Served, NoMemory>
+        requires { IfSome reply.now IsMadeDown }
+        ensures { IfOk result (λ served. (m : Machine) (front : Front) → link_at m.links number ≡ Some (record front.link { up = front.later }) → IsUnderway self.old m → IsWritten self.old m number front frame reply.now served self.new) }
+    {
+        let session = session_served(self.connections.session(number), reply);
+        let item = served_item(alloc, frame, reply)?;
+        self.serve(number, session, is_last(&item), reply)?;
+        let served = Served {
+            event: self.event,
+            session,
+            item,
+        };
+        if !is_blocked(&served.item) {
+            return Ok(served);
+        }
+        self.end(number);
+        Ok(served)
     }
 
     /// The event ends a connection, if it is open. One that is idle leaves the pool. Linear in the

@@ -1,0 +1,276 @@
+-- A frame that is served in order, at the machine and at the service.
+use Rattle.std.proofs.Common.{◌≡◌, ℕ, zero, suc, ◌+◌, ◌==◌, Bool, true, false, List, [], ◌∷◌, ◌++◌, Option, Some, None, refl, sym, ap, ◌∙◌, subst, eq-eqb, inl, inr}
+use Rattle.std.proofs.lemmas.Bool.Decides.{eqb_tells}
+use Rattle.std.proofs.lemmas.List.{append-nil}
+use Rattle.std.specs.Prelude.{◌⊎◌, ◌&&◌, not, cond, slice_set, option_and_then, if◌then◌else◌}
+use Rattle.std.specs.Option.{option_map_or}
+use Rattle.svc_values.specs.declared.entry.SessionId.{SessionId}
+use Rattle.svc_values.specs.declared.frame.Up.{Up}
+use Rattle.svc_values.specs.declared.frame.Down.{Down}
+use Rattle.svc_values.specs.Laws.{AreExact}
+use Rattle.outage_schedule.specs.declared.event.Event.TheVariants as event
+use Rattle.outage_schedule.specs.declared.note.Note.TheVariants as note
+use Rattle.outage_schedule.specs.declared.item.Item.{Item}
+use Rattle.outage_schedule.specs.declared.item.Served.{Served}
+use Rattle.server_model.specs.Outcomes.{Telling, telling_of}
+use Rattle.server_model.specs.Runs.{Served as ServedFrame}
+use Rattle.server_model.specs.Seen.{Connections, Seen, IsHistory, with_connection, without_connection}
+use Rattle.server_model.specs.ServiceCalls.{SessionOf}
+use Rattle.world_model.specs.Frames.{Sent}
+use Rattle.world_model.specs.Links.{Link, link_at, with_link, changed, ends}
+use Rattle.world_model.specs.Machines.{Server, Machine}
+use Rattle.world_model.specs.Noting.{only_if, name_of, same_name}
+use Rattle.world_model.specs.Serving.{Front, first_of, front_of, front_at, is_item_of, is_served_by, serves, follow_serve, is_last, is_blocked, is_commit, commits_after, after_front, handled, reply_of, after_served, server_after, pool_after}
+use Rattle.world_model.specs.Traced.{Traced}
+use Rattle.world_model.specs.Walking.{follow}
+use Rattle.world_model.specs.ServiceDid.{front_served}
+use Rattle.world_model.specs.Coupled.{living_of, HasStored, entries_in, SameServer, Coupled}
+use Rattle.world_model.specs.OneEvent.{OneEvent}
+use Rattle.world_core.specs.declared.traffic.Traffic.{Traffic}
+use Rattle.world_core.specs.Answering.{served_item}
+use Rattle.world_core.specs.InOrder.{IsAnswered, ServedWith, ServesInOrder, commits_in}
+use Rattle.world_core.specs.Underway.{IsUnderway, answered_link}
+use Rattle.world_core.specs.Making.{IsReady, IsAt}
+use Rattle.world_core.proofs.Coupling.{View, view, living_in, living_view, begun}
+use Rattle.world_core.proofs.Opening.{any_server}
+use Rattle.world_core.proofs.Reaping.{link_same, link_other}
+use Rattle.world_core.proofs.Written.{names_same, reads, Which, ServedBy, served_by, stays_up}
+
+-- ONE CONNECTION, CHANGED TWICE -------------------------------------------------------------------
+
+set_twice : {A : Type 0} (all : List A) (index : ℕ) (a b : A) → slice_set (slice_set all index a) index b ≡ slice_set all index b
+set_twice [] index a b = refl
+set_twice (one ∷ all) zero a b = refl
+set_twice (one ∷ all) (suc index) a b = ap (λ rest. one ∷ rest) (set_twice all index a b)
+
+pub with_twice : (links : List Link) (number : ℕ) (a b : Link) → with_link (with_link links number a) number b ≡ with_link links number b
+with_twice links zero a b = refl
+with_twice links (suc index) a b = set_twice links index a b
+
+pub ends_there : (links : List Link) (number event : ℕ) (old after : Link) → link_at links number ≡ Some old → changed (ends event) (with_link links number after) number ≡ with_link links number (ends event after)
+ends_there links number event old after there =
+    ap (λ found. option_map_or (λ link. with_link (with_link links number after) number (ends event link)) found (with_link links number after)) (link_same links number old after there) ∙ with_twice links number after (ends event after)
+
+-- THE FRONT ---------------------------------------------------------------------------------------
+
+first_link : (link : Link) (up : List Sent) (front : Front) → first_of link up ≡ Some front → front.link ≡ link
+first_link link [] front e = absurd (let nothing : ⊥ = cc in nothing)
+first_link link (first ∷ later) front e = ap (λ (f : Option Front). link_or f) (sym e)
+  where
+    link_or : Option Front → Link
+    link_or None = link
+    link_or (Some f) = f.link
+
+front_link : (link : Link) (living : Bool) (front : Front) → (if living then first_of link link.up else None) ≡ Some front → (living ≡ true) × (front.link ≡ link)
+front_link link true front e = (refl, first_link link link.up front e)
+front_link link false front e = absurd (let nothing : ⊥ = cc in nothing)
+
+found_front : (found : Option Link) (front : Front) → option_and_then front_of found ≡ Some front → (found ≡ Some front.link) × (front.link.is_living ≡ true)
+found_front None front e = absurd (let nothing : ⊥ = cc in nothing)
+found_front (Some link) front e = let is = front_link link link.is_living front e in (ap (λ l. Some l) (sym is.1), ap (λ (l : Link). l.is_living) is.1 ∙ is.0)
+
+pub front_there : (links : List Link) (number : ℕ) (front : Front) → front_at links number ≡ Some front → (link_at links number ≡ Some front.link) × (front.link.is_living ≡ true)
+front_there links number front e = found_front (link_at links number) front e
+
+-- WHAT THE SERVICE KNOWS OF IT --------------------------------------------------------------------
+
+view_ends : (event : ℕ) (link : Link) → view (ends event link) ≡ view link
+view_ends event link = elim link.is_open as (λ b. view (if b then record link { is_open = false; ended = Some event } else link) ≡ view link) [ true ↦ refl | false ↦ refl ]
+
+view_if : (event : ℕ) (link : Link) (b : Bool) → view (if b then ends event link else link) ≡ view link
+view_if event link true = view_ends event link
+view_if event link false = refl
+
+abbrev view_behind : Front → Served → View
+view_behind front served = record { is_living = not (is_last served.item); session = Some served.session; commits = commits_after front.link served.item }
+
+view_answered : (event : ℕ) (front : Front) (served : Served) (reply : Option Down) → view (answered_link event front served reply) ≡ view_behind front served
+view_answered event front served reply = view_if event (after_front front served reply) (is_blocked served.item)
+
+-- ITS SESSION -------------------------------------------------------------------------------------
+
+some_known : (a b : Option SessionId) → ◌≡◌ {A = Option (Option SessionId)} (Some a) (Some b) → a ≡ b
+some_known a b e = cc
+
+abbrev session_after : ℕ → ℕ → SessionId
+session_after incarnation sessions = record { incarnation = incarnation; session = sessions + 1 }
+
+which : (server : Server) (seen : Seen) (known : Option SessionId) (session : SessionId) (number sessions : ℕ) → SameServer server seen → seen.state.is_up ≡ true → seen.state.living number ≡ Some known → SessionOf seen number session sessions
+    → Which server known session sessions
+which server seen known session number sessions same up living (inl (named, count)) = inl (some_known known (Some session) (sym living ∙ named), count ∙ sym (same.opened up).1.0)
+which server seen known session number sessions same up living (inr (unnamed, next, count)) =
+    let opened = same.opened up in
+    inr (
+      some_known known None (sym living ∙ unnamed),
+      (
+        next ∙ ap (λ i. session_after i seen.state.sessions) (sym opened.0) ∙ ap (λ n. session_after server.incarnation n) (sym opened.1.0),
+        count ∙ ap (λ (n : ℕ). n + 1) (sym opened.1.0),
+      ),
+    )
+
+-- COUPLED AGAIN -----------------------------------------------------------------------------------
+
+-- the one that serves the frame, and its item
+abbrev pub item_now : Machine → Front → SessionId → Option Down → Served
+item_now m front session reply = record { event = m.event + 1; session = session; item = served_item front.first.frame reply }
+
+up_false : {A : Type 0} (b : Bool) → b ≡ true → b ≡ false → A
+up_false b t f = absurd (let same : true ≡ false = sym t ∙ f in let nothing : ⊥ = cc in nothing)
+
+server_behind : (server : Server) (old new : Seen) (number now : ℕ) (frame : Up) (reply : Option Down) (one : Item) → SameServer server old → server.is_up ≡ true → (did : ServedWith old number now frame reply new) → new.state.is_up ≡ true
+    → (server_after server one).sessions ≡ new.state.sessions → SameServer (server_after server one) new
+server_behind server old new number now frame reply one same up did up_later sessions =
+    let stays = stays_up server one in
+    let opened = same.opened (sym same.is_up ∙ up) in
+    record {
+      is_up = stays.is_up ∙ up ∙ sym up_later;
+      per_record = stays.per_record ∙ same.per_record ∙ sym did.keeps.per_record;
+      opened = λ is. (stays.incarnation ∙ opened.0 ∙ sym did.adds.gains.incarnation, (sessions, stays.stopped ∙ opened.1.1));
+      closed = λ down. up_false new.state.is_up up_later down;
+    }
+
+abbrev LivingBehind : Seen → ℕ → SessionId → Item → Seen → Type 0
+LivingBehind old number session one new = (other : ℕ) → new.state.living other ≡ (if is_last one then without_connection number old.state.living else with_connection number (Some session) old.state.living) other
+
+living_here : (number other : ℕ) (session : SessionId) (last : Bool) (commits : ℕ) (old : ℕ → Option (Option SessionId)) → (other == number) ≡ true
+    → (if last then without_connection number old else with_connection number (Some session) old) other ≡ living_in (Some (record { is_living = not last; session = Some session; commits = commits }))
+living_here number other session true commits old told = rw told refl
+living_here number other session false commits old told = rw told refl
+
+living_there : (number other : ℕ) (session : SessionId) (last : Bool) (old : ℕ → Option (Option SessionId)) → (other == number) ≡ false
+    → (if last then without_connection number old else with_connection number (Some session) old) other ≡ old other
+living_there number other session true old told = rw told refl
+living_there number other session false old told = rw told refl
+
+living_behind : (old new : Seen) (links : List Link) (number : ℕ) (front : Front) (served : Served) (after : Link) → ((other : ℕ) → old.state.living other ≡ living_of (link_at links other)) → LivingBehind old number served.session served.item new
+    → link_at links number ≡ Some front.link → view after ≡ view_behind front served → (other : ℕ) → new.state.living other ≡ living_of (link_at (with_link links number after) other)
+living_behind old new links number front served after coupled living there looks other = by (eqb_tells other number)
+  where
+    by : (((other == number) ≡ true) × (other ≡ number)) ⊎ (((other == number) ≡ false) × (other ≡ number → ⊥)) → new.state.living other ≡ living_of (link_at (with_link links number after) other)
+    by (inl (told, same)) =
+        living other ∙ living_here number other served.session (is_last served.item) (commits_after front.link served.item) old.state.living told ∙ ap (λ v. living_in (Some v)) (sym looks) ∙ sym (living_view (Some after))
+        ∙ ap living_of (sym (link_same links number front.link after there)) ∙ ap (λ n. living_of (link_at (with_link links number after) n)) (sym same)
+    by (inr (told, apart)) = living other ∙ living_there number other served.session (is_last served.item) old.state.living told ∙ coupled other ∙ ap living_of (sym (link_other links number other after apart))
+
+abbrev StoredBehind : Seen → Option View → Type 0
+StoredBehind new None = Unit {0}
+StoredBehind new (Some one) = HasStored new.state.store.entries (living_in (Some one)) one.commits
+
+has_here : (new : Seen) (session : SessionId) (last : Bool) (commits : ℕ) → entries_in new.state.store.entries session ≡ commits
+    → HasStored new.state.store.entries (living_in (Some (record { is_living = not last; session = Some session; commits = commits }))) commits
+has_here new session true commits counted = tt
+has_here new session false commits counted = counted
+
+has_there : (old new : Seen) (session : SessionId) (living : Option (Option SessionId)) (commits : ℕ) → (living ≡ Some (Some session) → ⊥) → ((other : SessionId) → (other ≡ session → ⊥) → entries_in new.state.store.entries other ≡ entries_in old.state.store.entries other)
+    → HasStored old.state.store.entries living commits → HasStored new.state.store.entries living commits
+has_there old new session None commits apart others has = tt
+has_there old new session (Some None) commits apart others has = has
+has_there old new session (Some (Some other)) commits apart others has = others other (λ same. apart (ap (λ s. Some (Some s)) same)) ∙ has
+
+pub some_link : (a b : Link) → ◌≡◌ {A = Option Link} (Some a) (Some b) → a ≡ b
+some_link a b e = cc
+
+stored_behind : (old new : Seen) (t : Traced) (number : ℕ) (front : Front) (served : Served) (reply : Option Down) (after : Link) → Coupled old t → IsAnswered old number served.session front.link.commits front.first.frame reply new
+    → is_commit served.item ≡ commits_in reply → link_at t.machine.links number ≡ Some front.link → view after ≡ view_behind front served
+    → (other : ℕ) (link : Link) → link_at (with_link t.machine.links number after) other ≡ Some link → HasStored new.state.store.entries (living_of (Some link)) link.commits
+stored_behind old new t number front served reply after coupled answered commits there looks other link found = by (eqb_tells other number)
+  where
+    by : (((other == number) ≡ true) × (other ≡ number)) ⊎ (((other == number) ≡ false) × (other ≡ number → ⊥)) → HasStored new.state.store.entries (living_of (Some link)) link.commits
+    by (inl (told, same)) =
+        let is : after ≡ link = some_link after link (sym (link_same t.machine.links number front.link after there) ∙ ap (λ n. link_at (with_link t.machine.links number after) n) (sym same) ∙ found) in
+        let counted = answered.counted ∙ ap (λ b. front.link.commits + cond b 1 0) (sym commits) in
+        subst (λ v. HasStored new.state.store.entries (living_in (Some v)) v.commits) (sym looks ∙ ap view is) (has_here new served.session (is_last served.item) (commits_after front.link served.item) counted)
+    by (inr (told, apart)) =
+        let at = sym (link_other t.machine.links number other after apart) ∙ found in
+        has_there old new served.session (living_of (Some link)) link.commits (λ same. answered.apart other apart (coupled.living other ∙ ap living_of at ∙ same)) answered.others (coupled.stored other link at)
+
+-- the state behind the frame
+abbrev traced_behind : Traced → Machine → Seen → Traced
+traced_behind t m new = record t { machine = m; entries = new.state.store.entries; blocked = new.state.store.blocked }
+
+-- SERVED ------------------------------------------------------------------------------------------
+
+abbrev pub GoesTo : (Seen → Type 0) → Seen → Traced → ℕ → Up → Served → Traffic → Type 0
+GoesTo sees_later seen t number frame served after =
+    (seen_later : Seen) × ((later : Traced) × (OneEvent seen t (event.Serve number) (note.Serve number (Some (name_of frame))) (served ∷ []) [] seen_later later × IsAt sees_later after seen_later later))
+
+all_true : (a b c d : Bool) → a ≡ true → b ≡ true → c ≡ true → d ≡ true → (a && ((b && c) && d)) ≡ true
+all_true a b c d p q r s = rw (p, q, r, s) refl
+
+-- the session that serves it, and what is written down of it
+pub served_so : AreExact → (seen new : Seen) (t : Traced) (number : ℕ) (front : Front) (reply : Option Down) → Coupled seen t → front_at t.machine.links number ≡ Some front → ServesInOrder seen t number front
+    → IsHistory new → (did : ServedWith seen number t.machine.tick front.first.frame reply new) → ServedBy t.machine.server front.link front.first.frame reply did.session new.state.sessions
+served_so exact seen new t number front reply coupled there ordered history did =
+    let answered = ordered.answered reply new history did in
+    let at = front_there t.machine.links number front there in
+    let up : seen.state.is_up ≡ true = sym coupled.server.is_up ∙ ordered.is_up in
+    let living : seen.state.living number ≡ Some front.link.session = coupled.living number ∙ ap living_of at.0 ∙ ap (λ b. if b then Some front.link.session else None) at.1 in
+    let known = which t.machine.server seen front.link.session did.session number new.state.sessions coupled.server up living did.of_connection in
+    served_by exact t.machine.server front.link front.link.commits did.session front.first.frame reply answered.answers new.state.sessions known ordered.is_first
+
+pub serves_front : (sees_later : Seen → Type 0) (seen new : Seen) (t : Traced) (number : ℕ) (front : Front) (reply : Option Down) (after : Traffic) → AreExact → Coupled seen t → front_at t.machine.links number ≡ Some front → ServesInOrder seen t number front
+    → IsHistory new → sees_later new → IsReady new.state → (did : ServedWith seen number t.machine.tick front.first.frame reply new)
+    → IsUnderway after (record (begun t.machine) { links = with_link t.machine.links number (answered_link (t.machine.event + 1) front (item_now t.machine front did.session reply) reply); pool = pool_after t.machine.pool number (served_item front.first.frame reply) })
+    → GoesTo sees_later seen t number front.first.frame (item_now t.machine front did.session reply) after
+serves_front sees_later seen new t number front reply after exact coupled there ordered history sees ready did underway =
+    let m = begun t.machine in
+    let session = did.session in
+    let frame = front.first.frame in
+    let served = item_now t.machine front session reply in
+    let answered = ordered.answered reply new history did in
+    let at = front_there t.machine.links number front there in
+    let read = reads exact session number front.link.commits frame reply answered.answers in
+    let by = served_so exact seen new t number front reply coupled there ordered history did in
+    let link = handled m.event front served in
+    let same_handled : answered_link m.event front served reply ≡ link = ap (λ r. answered_link m.event front served r) (sym read.replies) in
+    let machine = after_served m number front served in
+    let looks : view link ≡ view_behind front served = view_answered m.event front served (reply_of session (commits_after front.link served.item) served.item) in
+    let later = traced_behind t machine new in
+    let test = all_true (same_name (name_of frame) (name_of frame)) (served.event == m.event) (is_served_by m.server front.link frame session) (is_item_of frame served.item) (names_same frame) (eq-eqb m.event m.event refl) by.is_served read.is_item in
+    let ordinary : serves m number (Some (name_of frame)) (served ∷ []) (Some front) ≡ Some (machine, []) = ap (λ b. only_if {A = Machine × List Served} b (machine, [])) test in
+    let followed : follow_serve m number (Some (name_of frame)) (served ∷ []) ≡ Some (machine, []) = ap (λ found. serves m number (Some (name_of frame)) (served ∷ []) found) there ∙ ordinary in
+    let follows : follow t.setting t.machine (event.Serve number) (note.Serve number (Some (name_of frame))) (served ∷ []) ≡ Some (machine, []) = rw (eq-eqb number number refl, followed) refl in
+    let coupled_later : Coupled new later = record {
+      history = history;
+      sound = rw did.keeps.start coupled.sound;
+      stops = answered.stops;
+      server = server_behind t.machine.server seen new number t.machine.tick frame reply served.item coupled.server ordered.is_up did (did.is_up ∙ read.is_up) by.sessions_are;
+      living = living_behind seen new t.machine.links number front served link coupled.living (λ other. did.living other ∙ ap (λ (living : Connections). living other) (read.living seen.state.living)) at.0 looks;
+      stored = stored_behind seen new t number front served reply link coupled answered read.commits_so at.0 looks;
+      entries = refl;
+      blocked = refl;
+      image = rw did.keeps.start coupled.image;
+    } in (
+      new,
+      (
+        later,
+        (
+          record {
+            follows = follows;
+            happened = ServedFrame session t.machine.tick frame (telling_of reply) ∷ [];
+            did = ap (λ (told : Telling). ServedFrame session t.machine.tick frame told ∷ []) (sym read.tells) ∙ ap (λ found. front_served t.machine.tick found (served ∷ [])) (sym there);
+            history = did.history;
+            start = did.keeps.start;
+            coupled_before = coupled;
+            coupled_after = coupled_later;
+            more_entries = did.adds.gains.more_entries;
+            entries = did.adds.gains.entries ∙ ap (λ e. e ++ did.adds.gains.more_entries) (sym coupled.entries);
+            own = did.adds.gains.own;
+            more_blocked = did.adds.gains.more_blocked;
+            blocked = did.adds.gains.blocked ∙ ap (λ e. e ++ did.adds.gains.more_blocked) (sym coupled.blocked);
+            asked = did.adds.gains.asked;
+            setting = refl;
+            image = refl;
+            outside = sym (append-nil t.outside);
+            outside_draws = sym (append-nil t.outside_draws);
+          },
+          record {
+            seen_so = sees;
+            ready = ready;
+            coupled = coupled_later;
+            underway = any_server after (record m { links = with_link t.machine.links number link; pool = pool_after t.machine.pool number served.item }) (server_after t.machine.server served.item)
+                (subst (λ (l : Link). IsUnderway after (record m { links = with_link t.machine.links number l; pool = pool_after t.machine.pool number served.item })) same_handled underway);
+          },
+        ),
+      ),
+    )

@@ -1,0 +1,30 @@
+use Rattle.std.proofs.Common.{subst}
+use Rattle.world_model.specs.Serving.{front_at}
+use Rattle.world_core.specs.Underway.{FrontOf}
+use Rattle.world_core.proofs.Coupling.{begun}
+use Rattle.world_core.proofs.ServedFrames.{serves_none, serves_some, lives_there, frame_made, made_there}
+use Rattle.world_core.proofs.ground.Ground.serve.Goals as goal
+
+pub returns-in_default-clause-made : goal.returns-in_default-clause-made
+returns-in_default-clause-made g c = serves_none (g.S.Service.sees c.args.self.now.service) c.args.self.now.traffic c.first_up.new.self c.args.connection (λ m is. subst (λ frame. FrontOf (begun m) c.args.connection (front_at m.links c.args.connection) frame c.first_up.new.self) c.in_default.is (c.in_ok-first.ensures _ (c.begin.ensures.begun m is)))
+
+pub serve-requires-clause-lives : goal.serve-requires-clause-lives
+serve-requires-clause-lives g c =
+    let seen = c.requires.in_order.0 in
+    let is = c.requires.in_order.1.1.0 in
+    let m = c.requires.in_order.1.0.machine in
+    lives_there (g.S.Service.state c.args.self.now.service) seen c.requires.in_order.1.0 c.args.connection c.in-Some.frame c.first_up.new.self (g.met.S.Service.honest c.args.self.now.service seen is.seen_so).state_is is.coupled (subst (λ frame. FrontOf (begun m) c.args.connection (front_at m.links c.args.connection) frame c.first_up.new.self) c.in-Some.is (c.in_ok-first.ensures _ (c.begin.ensures.begun m is.underway)))
+
+pub serve-requires-clause-made : goal.serve-requires-clause-made
+serve-requires-clause-made g c =
+    let is = c.requires.in_order.1.1.0 in
+    let m = c.requires.in_order.1.0.machine in
+    frame_made c.requires.in_order.1.0.machine c.args.connection c.in-Some.frame c.args.self.now.traffic c.first_up.new.self is.underway (subst (λ frame. FrontOf (begun m) c.args.connection (front_at m.links c.args.connection) frame c.first_up.new.self) c.in-Some.is (c.in_ok-first.ensures _ (c.begin.ensures.begun m is.underway)))
+
+pub answer-requires : goal.answer-requires
+answer-requires g c = made_there (g.S.Service.sees c.args.self.now.service) (g.S.Service.sees c.serve.new.self) (g.S.Service.leaves c.serve.new.self) c.args.self.now.traffic c.first_up.new.self c.args.connection c.in-Some.frame c.in-Ok.reply c.requires.in_order
+    (λ seen sees. (g.met.S.Service.honest c.serve.new.self seen sees).history) c.in-Ok.ensures.served (λ m is. subst (λ frame. FrontOf (begun m) c.args.connection (front_at m.links c.args.connection) frame c.first_up.new.self) c.in-Some.is (c.in_ok-first.ensures _ (c.begin.ensures.begun m is)))
+
+pub returns-clause-made : goal.returns-clause-made
+returns-clause-made g c = rw c.frame_name-name.ensures (serves_some (g.S.Service.sees c.args.self.now.service) (g.S.Service.sees c.serve.new.self) (g.S.Service.leaves c.serve.new.self) c.args.self.now.traffic c.first_up.new.self c.answer.new.self c.args.connection c.in-Some.frame c.in-Ok.reply c.in_ok-served.served c.compares_exactly.ensures.exact
+    (λ seen sees. (g.met.S.Service.honest c.serve.new.self seen sees).history) c.in-Ok.ensures.served (λ m is. subst (λ frame. FrontOf (begun m) c.args.connection (front_at m.links c.args.connection) frame c.first_up.new.self) c.in-Some.is (c.in_ok-first.ensures _ (c.begin.ensures.begun m is))) c.in_ok-served.ensures)

@@ -1,0 +1,130 @@
+//! What is written down of a frame that was served.
+ghost use Rattle.std.specs.Prelude.{◌≡◌, IfOk};
+ghost use Rattle.world_model.specs.Noting.{name_of};
+ghost use Rattle.world_model.specs.Serving.{is_blocked as is_blocked_def, is_last as is_last_def};
+ghost use Rattle.world_core.specs.Answering.{session_served as session_served_def, session_named as session_named_def, result_told as result_told_def, call_item as call_item_def, ordinary_item as ordinary_item_def, served_item as served_item_def};
+
+use outage_schedule::{AskResult, FrameName, Item};
+use std::alloc::Global;
+use svc_values::{Ahead, Call, Down, NoMemory, SessionId, TryCopy, Up};
+
+/// The name of a frame.
+pub(crate) fn frame_name(frame: &Up) -> FrameName
+    ensures { result ≡ name_of frame.now }
+{
+    match frame {
+        Up::Connect => FrameName::Connect,
+        Up::Begin { .. } => FrameName::Begin,
+        Up::Call { .. } => FrameName::Call,
+        Up::Outcome { .. } => FrameName::Outcome,
+        Up::End => FrameName::End,
+        Up::Close => FrameName::Close,
+    }
+}
+
+/// The session that a Hello names.
+fn session_named(reply: &Option<Down>) -> Option<SessionId>
+    ensures { result ≡ session_named_def reply.now }
+{
+    match reply {
+        Some(Down::Hello { ltxid }) => Some(SessionId {
+            incarnation: ltxid.incarnation,
+            session: ltxid.session,
+        }),
+        _ => None,
+    }
+}
+
+/// The session that served a frame: the one that its connection has, or else the one that the reply
+/// names.
+pub(crate) fn session_served(known: Option<SessionId>, reply: &Option<Down>) -> SessionId
+    ensures { result ≡ session_served_def known reply.now }
+{
+    known.or(session_named(reply)).unwrap_or(SessionId {
+        incarnation: 0,
+        session: 0,
+    })
+}
+
+/// The outcome that a reply tells.
+fn result_told(reply: &Option<Down>) -> AskResult
+    ensures { result ≡ result_told_def reply.now }
+{
+    match reply {
+        Some(
+            Down::OutcomeIs {
+                committed: true,
+                completed,
+            },
+        ) => AskResult::Committed {
+            completed: *completed,
+        },
+        Some(Down::OutcomeRefused { ahead, next }) => match ahead {
+            Ahead::Server => AskResult::ServerAhead { next: *next },
+            Ahead::Client => AskResult::ClientAhead { next: *next },
+            Ahead::Forgotten => AskResult::Forgotten { horizon: *next },
+        },
+        _ => AskResult::Uncommitted,
+    }
+}
+
+/// What a call is written down as: with its answers and draws, or as blocked.
+fn call_item(
+    alloc: Global,
+    replay: bool,
+    call: Call,
+    reply: &Option<Down>,
+) -> Result<Item, NoMemory>
+    ensures { IfOk result (λ item. item ≡ call_item_def replay call reply.now) }
+{
+    match reply {
+        Some(Down::Reply { answers, draws, .. }) => Ok(Item::Call {
+            replay,
+            call,
+            answers: answers.copy(alloc)?,
+            draws: draws.copy(alloc)?,
+        }),
+        _ => Ok(Item::Blocked { call }),
+    }
+}
+
+/// What a frame that was not refused is written down as.
+fn ordinary_item(alloc: Global, frame: Up, reply: &Option<Down>) -> Result<Item, NoMemory>
+    ensures { IfOk result (λ item. item ≡ ordinary_item_def frame reply.now) }
+{
+    match frame {
+        Up::Connect => Ok(Item::Connect),
+        Up::Begin { settings } => Ok(Item::Begin { settings }),
+        Up::Call { replay, call, .. } => call_item(alloc, replay, call, reply),
+        Up::Outcome { ltxid } => Ok(Item::Outcome {
+            ltxid,
+            result: result_told(reply),
+        }),
+        Up::End => Ok(Item::End),
+        Up::Close => Ok(Item::Close),
+    }
+}
+
+/// What a frame is written down as, by its reply. Linear in the answers and draws of the reply.
+pub(crate) fn served_item(alloc: Global, frame: Up, reply: &Option<Down>) -> Result<Item, NoMemory>
+    ensures { IfOk result (λ item. item ≡ served_item_def frame reply.now) }
+{
+    match reply {
+        Some(Down::Refused { cause }) => Ok(Item::Refused { cause: *cause }),
+        _ => ordinary_item(alloc, frame, reply),
+    }
+}
+
+/// Whether the commit of a call was blocked.
+pub(crate) fn is_blocked(item: &Item) -> bool
+    ensures { result ≡ is_blocked_def item.now }
+{
+    matches!(item, Item::Blocked { .. })
+}
+
+/// Whether a session ends with it.
+pub(crate) fn is_last(item: &Item) -> bool
+    ensures { result ≡ is_last_def item.now }
+{
+    matches!(item, Item::Blocked { .. } | Item::Close)
+}
