@@ -1,2 +1,3 @@
 mod BaseRows
 mod GoingOn
+mod Standing

@@ -1,2 +1,6 @@
+pub mod Held
 pub mod InnerOpening
 pub mod Opening
+pub mod Seeing
+pub mod Sound
+pub mod Within

@@ -1,6 +1,10 @@
 //! One service on one store: its sessions, its connections and its disk.
 #![tactic(auto)]
 
+mod connections;
+mod notes;
+mod one;
 mod opening;
 
+pub use one::OneService;
 pub use opening::open;

@@ -1,0 +1,88 @@
+//! One service on one store.
+ghost use Rattle.std.specs.Prelude.{◌≡◌, ◌<◌, ◌^◌, None, IfOk, is_some, false};
+ghost use Rattle.server_model.specs.Seen.{Seen};
+ghost use Rattle.server_model.specs.ServiceCalls.{Connected, Reaped, with_stop};
+ghost use Rattle.service_calls.specs.Kept.{Goes, HaveOneBase};
+ghost use Rattle.service_core.specs.Seeing.{SeesIn, bytes_in, state_in};
+
+use crate::connections::Connections;
+use crate::notes::Notes;
+use disk_model::{Disk, StopDisk};
+use mutable_values::Grants;
+use server_session::Core;
+use std::alloc::Global;
+use std::marker::Model;
+use svc_values::NoMemory;
+
+/// One service on one store: its disk, what its sessions share while it is up, and its connections.
+#[derive(Drop)]
+pub struct OneService<D: StopDisk> {
+    pub(crate) disk: D,
+    pub(crate) grants: Grants,
+    pub(crate) core: Option<Core>,
+    pub(crate) held: Connections,
+    pub(crate) notes: Notes,
+}
+
+impl<D: StopDisk> Model for OneService<D> {
+    ghost use Rattle.service_core.specs.Within.{Within};
+    ghost use Rattle.service_core.specs.Sound.{IsKept};
+
+    ghost Value = { Within };
+
+    ghost view = { λ s. record { grants = s.grants; disk = D.state s.disk; core = s.core; held = s.held; notes = s.notes } };
+
+    ghost invariant = { λ s. IsKept (record { grants = s.grants; disk = D.state s.disk; core = s.core; held = s.held; notes = s.notes }) };
+}
+
+impl<D: StopDisk> OneService<D> {
+    /// Whether it serves.
+    pub(crate) fn serves(&self) -> bool
+        ensures { result ≡ is_some self.now.core }
+    {
+        self.core.is_some()
+    }
+
+    /// Makes a connection, where the service is up.
+    pub(crate) fn add(&mut self, connection: u64) -> Result<bool, NoMemory>
+        requires live { self.old.notes.is_spent ≡ false }
+        requires few { self.old.notes.calls < 2 ^ 48 }
+        requires new { (state_in self.old).living connection ≡ None }
+        ensures connected { IfOk result (λ up. Goes (SeesIn self.old) (SeesIn self.new) (λ old new. Connected old connection up new)) }
+        ensures base { IfOk result (λ up. HaveOneBase (bytes_in self.old) (bytes_in self.new)) }
+    {
+        self.notes.calls += 1;
+        if self.core.is_none() {
+            return Ok(false);
+        }
+        match self.held.put(connection, None) {
+            Ok(()) => Ok(true),
+            Err(NoMemory) => {
+                self.notes.is_spent = true;
+                Err(NoMemory)
+            }
+        }
+    }
+
+    /// Ends a connection, with its session.
+    pub(crate) fn end(&mut self, connection: u64)
+        requires live { self.old.notes.is_spent ≡ false }
+        requires few { self.old.notes.calls < 2 ^ 48 }
+        ensures reaped { Goes (SeesIn self.old) (SeesIn self.new) (λ old new. Reaped old connection new) }
+        ensures base { HaveOneBase (bytes_in self.old) (bytes_in self.new) }
+    {
+        self.held.take(connection);
+        self.notes.calls += 1;
+    }
+
+    /// Sets a stop, or takes it away.
+    pub(crate) fn set_stop(&mut self, calls: Option<u64>)
+        requires live { self.old.notes.is_spent ≡ false }
+        requires few { self.old.notes.calls < 2 ^ 48 }
+        ensures stop { Goes (SeesIn self.old) (SeesIn self.new) (λ old new. new ≡ with_stop old calls) }
+        ensures base { HaveOneBase (bytes_in self.old) (bytes_in self.new) }
+    {
+        self.disk.stop_after(calls);
+        self.notes.calls += 1;
+    }
+}
