@@ -1,0 +1,4 @@
+mod Following
+mod OnceEach
+mod Trying
+mod Drafting

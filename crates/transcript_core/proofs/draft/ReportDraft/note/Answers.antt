@@ -1,0 +1,12 @@
+use Rattle.std.proofs.Common.{◌∷◌, [], ◌++◌, fold, subst, sym, ap, ◌∙◌}
+use Rattle.std.proofs.lemmas.Result.{on_ok_weaker}
+use Rattle.transcript_core.specs.Drafts.{Draft, IsDraft, sends, done_so}
+use Rattle.transcript_core.proofs.Drafting.{noted_so}
+use Rattle.transcript_core.proofs.draft.ReportDraft.note.Goals as goal
+
+pub returns : goal.returns
+returns c = λ terms request steps now hold is.
+    let done = done_so c.args.input.now now c.args.send.now c.args.shown c.args.failed hold in
+    on_ok_weaker c.send.result
+    (λ sent. subst (λ (d : Draft). IsDraft terms request (steps ++ done ∷ []) d) (sym (sent ∙ ap (λ (d : Draft). fold sends d c.args.send.now) c.in_ok-hear.ensures)) (noted_so terms request steps c.args.self.now done is))
+    c.send.ensures
