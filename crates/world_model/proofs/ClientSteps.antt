@@ -1,132 +1,219 @@
--- What an event does to the clients: none changes, or one does, by what its request came to.
-use Rattle.std.proofs.Common.{◌≡◌, refl, sym, ap, subst, ◌∙◌, Bool, true, false, ℕ, append_assoc, List, [], ◌∷◌, ◌++◌, Option, Some, None, if◌then◌else◌}
+-- What an event does to the clients and to what was sent: nothing, or one client steps and sends, or idle connections are closed.
+use Rattle.std.proofs.Common.{◌≡◌, refl, sym, ap, subst, ◌∙◌, Bool, true, false, ℕ, fold, List, [], ◌∷◌, ◌++◌, map, Option, Some, None, if◌then◌else◌}
 use Rattle.std.specs.Prelude.{unwrap_or, option_and_then}
+use Rattle.std.proofs.lemmas.List.{map-append}
 use Rattle.outage_schedule.specs.declared.item.Served.{Served}
+use Rattle.pool_core.specs.Slots.{Slots, after_take}
+use Rattle.client_model.specs.declared.act.Act.{Act}
 use Rattle.client_model.specs.declared.act.Hold.{Hold}
 use Rattle.client_model.specs.declared.act.Hold.TheVariants as hold
 use Rattle.client_model.specs.declared.input.Input.{Input}
 use Rattle.client_model.specs.declared.input.Input.TheVariants.{Waiting, Lent, Opened, TryFailed, Took, Gone}
 use Rattle.world_model.specs.Settings.{Setting}
-use Rattle.world_model.specs.Clients.{Step, Doing, Client, client_at, with_client, doing_at, doing_of, heard, step_at, after_hold, after_step}
+use Rattle.world_model.specs.Frames.{Sent}
+use Rattle.world_model.specs.Links.{Link, new_link, with_link, changed, sends, takes}
+use Rattle.world_model.specs.Clients.{Doing, Client, client_at, with_client, doing_at, doing_of, heard, step_at, after_hold, after_step}
+use Rattle.world_model.specs.Conversing.{connected}
 use Rattle.world_model.specs.Machines.{Machine}
 use Rattle.world_model.specs.Matching.{Noted}
+use Rattle.world_model.specs.Acting.{frames_of, call_in, sent_by, owner_at}
 use Rattle.world_model.specs.Going.{lost_at_once}
+use Rattle.world_model.specs.Crashing.{falls, fallen_link}
+use Rattle.world_model.specs.Cutting.{cut_link, reaped_link}
+use Rattle.world_model.specs.Outside.{closed_by_drain}
+use Rattle.world_model.specs.Serving.{handled, after_front}
 use Rattle.world_model.proofs.AllClients.{stepped_client, client_set, client_twice}
-use Rattle.world_model.proofs.Moves.{next_number, takes_one, Goes, Rests, Waits, Lends, Opens, Fails, Takes, Loses, ServesLast, LastNone, LastStopped, LastServed, Happens, Nothing, IsStep, Serves, Cuts, Reaps, Crashes, OpensUp, StopsOpening, Ticks, RunsOutside, Asks, Drains}
+use Rattle.world_model.proofs.AllLinks.{front_is, open_is}
+use Rattle.world_model.proofs.Lookups.{handled_said, fallen_said, cut_said}
+use Rattle.world_model.proofs.Moves.{next_number, with_new, takes_one, Goes, Rests, Waits, Lends, Opens, Fails, Takes, Loses, ServesLast, LastNone, LastStopped, LastServed, Happens, Nothing, IsStep, Serves, Cuts, Reaps, Crashes, OpensUp, StopsOpening, Ticks, RunsOutside, Asks, Drains}
+use Rattle.world_model.proofs.SentLists.{sent_lists, spoken, with_same, changed_same, mapped_same, changed_more, sends_more, each_more}
 
--- of this client, whose request went on by these steps, and goes on or is over then
-pub record HasStepped (setting : Setting) (m : Machine) (number : ℕ) (clients : List Client) : Type 0 where
+-- the loss of the connection may be heard in the same event
+pub data GoesOn (setting : Setting) (first : Doing) (held : Hold) : Doing → Hold → Type 0 where
+  AtOnce : GoesOn setting first held first held
+  LostToo : (event tick ended : ℕ) → held ≡ hold.Keep → GoesOn setting first held (heard setting.terms event tick (record first { connection = None }) (Gone ended)) hold.Keep
+
+-- a connection may be opened first
+pub data Grows (lists : List (List Sent)) : List (List Sent) → Type 0 where
+  AsBefore : Grows lists lists
+  OneMore : Grows lists (lists ++ [] ∷ [])
+
+-- Of this client: what its request hears on which connection, and where it stands then; and what it sends there.
+pub record HasStepped (setting : Setting) (m : Machine) (number : ℕ) (n : Machine) : Type 0 where
   pub client : Client
   pub here : client_at m.clients number ≡ Some client
   pub before : Doing
   pub does : doing_of setting.terms m.event m.tick client ≡ Some before
+  pub connection : Option ℕ
+  pub input : Input
+  pub connects : connected before.connection input ≡ connection
   pub after : Doing
   pub held : Hold
-  pub request : after.request ≡ before.request
-  pub more : List Step
-  pub steps : after.steps ≡ before.steps ++ more
-  pub clients_are : clients ≡ with_client m.clients number (after_hold setting number client after held)
+  pub goes_on : GoesOn setting (heard setting.terms m.event m.tick (record before { connection = connection }) input) (step_at setting.terms m.event m.tick (record before { connection = connection }) input).done.act.hold after held
+  pub clients_are : n.clients ≡ with_client m.clients number (after_hold setting number client after held)
+  pub pool : Slots
+  pub lists : List (List Sent)
+  pub grows : Grows (sent_lists m.links) lists
+  pub sent_are : sent_lists n.links ≡ spoken lists (unwrap_or connection 0)
+      (map (sent_by (owner_at m number) (call_in (heard setting.terms m.event m.tick (record before { connection = connection }) input).talk.phase))
+      (frames_of pool (unwrap_or connection 0) (step_at setting.terms m.event m.tick (record before { connection = connection }) input).done.act))
 
-pub data MayStep (setting : Setting) (m : Machine) (clients : List Client) : Type 0 where
-  Still : clients ≡ m.clients → MayStep setting m clients
-  Stepped : (number : ℕ) → HasStepped setting m number clients → MayStep setting m clients
+pub data MayStep (setting : Setting) (m : Machine) (n : Machine) : Type 0 where
+  Still : n.clients ≡ m.clients → sent_lists n.links ≡ sent_lists m.links → MayStep setting m n
+  Closed : n.clients ≡ m.clients → sent_lists n.links ≡ fold (λ (lists : List (List Sent)) (number : ℕ). spoken lists number (closed_by_drain ∷ [])) (sent_lists m.links) m.pool.idle → MayStep setting m n
+  Stepped : (number : ℕ) → HasStepped setting m number n → MayStep setting m n
 
 module _ (setting : Setting) (m : Machine) (number : ℕ) where
-  one_step : (client : Client) (before : Doing) (had : Option ℕ) (input : Input) → client_at m.clients number ≡ Some client → doing_of setting.terms m.event m.tick client ≡ Some before
-      → HasStepped setting m number
-      (after_step setting m.clients number (heard setting.terms m.event m.tick (record before { connection = had }) input) (step_at setting.terms m.event m.tick (record before { connection = had }) input).done.act.hold)
-  one_step client before had input here does =
-      let doing : Doing = record before { connection = had } in
-      let step : Step = step_at setting.terms m.event m.tick doing input in
-      record {
-        client = client;
-        here = here;
-        before = before;
-        does = does;
-        after = heard setting.terms m.event m.tick doing input;
-        held = step.done.act.hold;
-        request = refl;
-        more = step ∷ [];
-        steps = refl;
-        clients_are = stepped_client setting m.clients number client (heard setting.terms m.event m.tick doing input) step.done.act.hold here;
-      }
+  abbrev FirstOf : Doing → Option ℕ → Input → Doing
+  FirstOf before connection input = heard setting.terms m.event m.tick (record before { connection = connection }) input
 
-  -- the connection is gone in the same event
-  lost_step : (a : Machine) (ended : Option ℕ) (client : Client) (before next : Doing) (step : Step) (held : Hold) → client_at m.clients number ≡ Some client → doing_of setting.terms m.event m.tick client ≡ Some before
-      → next.request ≡ before.request → next.steps ≡ before.steps ++ step ∷ [] → a.clients ≡ after_step setting m.clients number next held
-      → HasStepped setting m number (lost_at_once setting a number ended (doing_at a.clients number)).clients
-  lost_step a ended client before next step held here does request steps now = by held now
+  abbrev ActOf : Doing → Option ℕ → Input → Act
+  ActOf before connection input = (step_at setting.terms m.event m.tick (record before { connection = connection }) input).done.act
+
+  -- the frames of the step
+  abbrev SaidOf : Slots → Doing → Option ℕ → Input → List Sent
+  SaidOf pool before connection input = map (sent_by (owner_at m number) (call_in (FirstOf before connection input).talk.phase)) (frames_of pool (unwrap_or connection 0) (ActOf before connection input))
+
+  one_step : (n : Machine) (client : Client) (before : Doing) (connection : Option ℕ) (input : Input) (pool : Slots) (links : List Link) → client_at m.clients number ≡ Some client
+      → doing_of setting.terms m.event m.tick client ≡ Some before → connected before.connection input ≡ connection → Grows (sent_lists m.links) (sent_lists links)
+      → n.clients ≡ after_step setting m.clients number (FirstOf before connection input) (ActOf before connection input).hold
+      → n.links ≡ changed (sends m.event (SaidOf pool before connection input)) links (unwrap_or connection 0) → HasStepped setting m number n
+  one_step n client before connection input pool links here does connects grows clients said = record {
+    client = client;
+    here = here;
+    before = before;
+    does = does;
+    connection = connection;
+    input = input;
+    connects = connects;
+    after = FirstOf before connection input;
+    held = (ActOf before connection input).hold;
+    goes_on = AtOnce;
+    clients_are = clients ∙ stepped_client setting m.clients number client (FirstOf before connection input) (ActOf before connection input).hold here;
+    pool = pool;
+    lists = sent_lists links;
+    grows = grows;
+    sent_are = ap sent_lists said
+        ∙ changed_more (sends m.event (SaidOf pool before connection input)) (SaidOf pool before connection input) links (unwrap_or connection 0) (sends_more m.event (SaidOf pool before connection input));
+  }
+
+  -- THE CONNECTION IS GONE TOO --------------------------------------------------------------------
+
+  lost_links : (a : Machine) (ended : Option ℕ) (doing : Option Doing) → (lost_at_once setting a number ended doing).links ≡ a.links
+  lost_links a ended None = refl
+  lost_links a ended (Some doing) = refl
+
+  unless_step : (a : Machine) (ended : Option ℕ) (alive : Bool) (client : Client) (before : Doing) (connection : Option ℕ) (input : Input) (pool : Slots) (links : List Link) → client_at m.clients number ≡ Some client
+      → doing_of setting.terms m.event m.tick client ≡ Some before → connected before.connection input ≡ connection → Grows (sent_lists m.links) (sent_lists links)
+      → a.clients ≡ after_step setting m.clients number (FirstOf before connection input) (ActOf before connection input).hold
+      → a.links ≡ changed (sends m.event (SaidOf pool before connection input)) links (unwrap_or connection 0) → HasStepped setting m number (if alive then a else lost_at_once setting a number ended (doing_at a.clients number))
+  unless_step a ended true client before connection input pool links here does connects grows clients said = one_step a client before connection input pool links here does connects grows clients said
+  unless_step a ended false client before connection input pool links here does connects grows clients said = by (ActOf before connection input).hold refl
     where
-      set : (held : Hold) → a.clients ≡ after_step setting m.clients number next held → a.clients ≡ with_client m.clients number (after_hold setting number client next held)
-      set held now = now ∙ stepped_client setting m.clients number client next held here
+      first : Doing
+      first = FirstOf before connection input
 
-      found : (held : Hold) → a.clients ≡ after_step setting m.clients number next held → client_at a.clients number ≡ Some (after_hold setting number client next held)
-      found held now = ap (λ (all : List Client). client_at all number) (set held now) ∙ client_set m.clients number client (after_hold setting number client next held) here
+      set : a.clients ≡ with_client m.clients number (after_hold setting number client first (ActOf before connection input).hold)
+      set = clients ∙ stepped_client setting m.clients number client first (ActOf before connection input).hold here
 
-      doing_now : (held : Hold) → a.clients ≡ after_step setting m.clients number next held → doing_at a.clients number ≡ (after_hold setting number client next held).now
-      doing_now held now = ap (λ (one : Option Client). option_and_then (λ (c : Client). c.now) one) (found held now)
+      doing_now : (held : Hold) → (ActOf before connection input).hold ≡ held → doing_at a.clients number ≡ (after_hold setting number client first held).now
+      doing_now held is =
+          ap (λ (one : Option Client). option_and_then (λ (c : Client). c.now) one)
+          (ap (λ (all : List Client). client_at all number) (set ∙ ap (λ (h : Hold). with_client m.clients number (after_hold setting number client first h)) is)
+          ∙ client_set m.clients number client (after_hold setting number client first held) here)
 
-      over : (held : Hold) → a.clients ≡ after_step setting m.clients number next held → (after_hold setting number client next held).now ≡ None
-          → HasStepped setting m number (lost_at_once setting a number ended (doing_at a.clients number)).clients
-      over held now none =
-          subst (λ (one : Option Doing). HasStepped setting m number (lost_at_once setting a number ended one).clients) (sym (doing_now held now ∙ none))
-          (record { client = client; here = here; before = before; does = does; after = next; held = held; request = request; more = step ∷ []; steps = steps; clients_are = set held now })
+      over : (held : Hold) → (ActOf before connection input).hold ≡ held → (after_hold setting number client first held).now ≡ None → HasStepped setting m number (lost_at_once setting a number ended (doing_at a.clients number))
+      over held is none =
+          subst (λ (one : Option Doing). HasStepped setting m number (lost_at_once setting a number ended one)) (sym (doing_now held is ∙ none))
+          (one_step a client before connection input pool links here does connects grows clients said)
 
       gone : Doing
-      gone = heard setting.terms a.event a.tick (record next { connection = None }) (Gone (unwrap_or ended 0))
+      gone = heard setting.terms a.event a.tick (record first { connection = None }) (Gone (unwrap_or ended 0))
 
-      last : Step
-      last = step_at setting.terms a.event a.tick (record next { connection = None }) (Gone (unwrap_or ended 0))
+      kept : (ActOf before connection input).hold ≡ hold.Keep → HasStepped setting m number (lost_at_once setting a number ended (Some first))
+      kept is =
+          let one : Client = record client { now = Some first } in
+          let next : Client = record client { now = Some gone } in
+          let so_far : a.clients ≡ with_client m.clients number one = set ∙ ap (λ (h : Hold). with_client m.clients number (after_hold setting number client first h)) is in
+          let found : client_at a.clients number ≡ Some one = ap (λ (all : List Client). client_at all number) so_far ∙ client_set m.clients number client one here in
+          record {
+            client = client;
+            here = here;
+            before = before;
+            does = does;
+            connection = connection;
+            input = input;
+            connects = connects;
+            after = gone;
+            held = hold.Keep;
+            goes_on = LostToo a.event a.tick (unwrap_or ended 0) is;
+            clients_are = stepped_client setting a.clients number one gone hold.Keep found ∙ (ap (λ (c : List Client). with_client c number next) so_far ∙ client_twice m.clients number one next);
+            pool = pool;
+            lists = sent_lists links;
+            grows = grows;
+            sent_are = ap sent_lists said
+                ∙ changed_more (sends m.event (SaidOf pool before connection input)) (SaidOf pool before connection input) links (unwrap_or connection 0) (sends_more m.event (SaidOf pool before connection input));
+          }
 
-      kept : a.clients ≡ after_step setting m.clients number next hold.Keep → HasStepped setting m number (lost_at_once setting a number ended (doing_at a.clients number)).clients
-      kept now =
-          let one : Client = record client { now = Some next } in
-          let then_is : after_step setting a.clients number gone hold.Keep ≡ with_client m.clients number (record client { now = Some gone }) =
-          stepped_client setting a.clients number one gone hold.Keep (found hold.Keep now)
-          ∙ (ap (λ (c : List Client). with_client c number (record client { now = Some gone })) (set hold.Keep now) ∙ client_twice m.clients number one (record client { now = Some gone })) in
-          let all : gone.steps ≡ before.steps ++ (step ∷ last ∷ []) = ap (λ (done : List Step). done ++ last ∷ []) steps ∙ append_assoc before.steps (step ∷ []) (last ∷ []) in
-          subst (λ (lost : Option Doing). HasStepped setting m number (lost_at_once setting a number ended lost).clients) (sym (doing_now hold.Keep now))
-          (record { client = client; here = here; before = before; does = does; after = gone; held = hold.Keep; request = request; more = step ∷ last ∷ []; steps = all; clients_are = then_is })
+      by : (held : Hold) → (ActOf before connection input).hold ≡ held → HasStepped setting m number (lost_at_once setting a number ended (doing_at a.clients number))
+      by hold.Keep is = subst (λ (one : Option Doing). HasStepped setting m number (lost_at_once setting a number ended one)) (sym (doing_now hold.Keep is)) (kept is)
+      by hold.GiveBack is = over hold.GiveBack is refl
+      by hold.Drop is = over hold.Drop is refl
 
-      by : (held : Hold) → a.clients ≡ after_step setting m.clients number next held → HasStepped setting m number (lost_at_once setting a number ended (doing_at a.clients number)).clients
-      by hold.Keep now = kept now
-      by hold.GiveBack now = over hold.GiveBack now refl
-      by hold.Drop now = over hold.Drop now refl
-
-  unless_step : (a : Machine) (ended : Option ℕ) (alive : Bool) (client : Client) (before : Doing) (input : Input) → client_at m.clients number ≡ Some client → doing_of setting.terms m.event m.tick client ≡ Some before
-      → a.clients ≡ after_step setting m.clients number (heard setting.terms m.event m.tick before input) (step_at setting.terms m.event m.tick before input).done.act.hold
-      → HasStepped setting m number (if alive then a else lost_at_once setting a number ended (doing_at a.clients number)).clients
-  unless_step a ended true client before input here does now = subst (λ (c : List Client). HasStepped setting m number c) (sym now) (one_step client before before.connection input here does)
-  unless_step a ended false client before input here does now =
-      let step : Step = step_at setting.terms m.event m.tick before input in
-      lost_step a ended client before (heard setting.terms m.event m.tick before input) step step.done.act.hold here does refl refl now
+-- EVENTS ------------------------------------------------------------------------------------------
 
 module _ (setting : Setting) (m : Machine) where
-  goes_step : (number : ℕ) (a : Machine) → Goes setting m number a → MayStep setting m a.clients
-  goes_step number _ Rests = Still refl
-  goes_step number _ (Waits doing is answer) = Stepped number (one_step setting m number is.client doing doing.connection Waiting is.here is.does)
-  goes_step number _ (Lends doing connection link ltxid is answer there held) = Stepped number (one_step setting m number is.client doing (Some connection) (Lent connection ltxid) is.here is.does)
-  goes_step number _ (Opens doing wanted pool is tries runs) = Stepped number (one_step setting m number is.client doing (Some (next_number m)) (Opened (next_number m)) is.here is.does)
-  goes_step number _ (Fails doing wanted pool is tries down) = Stepped number (one_step setting m number is.client doing doing.connection TryFailed is.here is.does)
+  grown : (links : List Link) → sent_lists links ≡ sent_lists m.links → Grows (sent_lists m.links) (sent_lists links)
+  grown links same = subst (λ (lists : List (List Sent)). Grows (sent_lists m.links) lists) (sym same) AsBefore
+
+  goes_step : (number : ℕ) (a : Machine) → Goes setting m number a → MayStep setting m a
+  goes_step number _ Rests = Still refl refl
+  goes_step number _ (Waits doing is answer) =
+      Stepped number (one_step setting m number _ is.client doing doing.connection Waiting (after_take m.pool number) m.links is.here is.does refl AsBefore refl refl)
+  goes_step number _ (Lends doing connection link ltxid is answer there held) =
+      Stepped number (one_step setting m number _ is.client doing (Some connection) (Lent connection ltxid) (after_take m.pool number) m.links is.here is.does refl AsBefore refl refl)
+  goes_step number _ (Opens doing wanted pool is tries runs) =
+      Stepped number (one_step setting m number _ is.client doing (Some (next_number m)) (Opened (next_number m)) (with_new m pool).pool (m.links ++ new_link ∷ []) is.here is.does refl
+      (subst (λ (lists : List (List Sent)). Grows (sent_lists m.links) lists) (sym (map-append (λ (link : Link). link.sent) m.links (new_link ∷ []))) OneMore) refl refl)
+  goes_step number _ (Fails doing wanted pool is tries down) = Stepped number (one_step setting m number _ is.client doing doing.connection TryFailed pool m.links is.here is.does refl AsBefore refl refl)
   goes_step number _ (Takes doing connection link reply left is on down) =
-      Stepped number (unless_step setting m number (takes_one setting m number doing connection link reply left) link.ended link.is_open is.client doing (Took reply.frame link.is_open) is.here is.does refl)
-  goes_step number _ (Loses doing connection link is on none closed) = Stepped number (one_step setting m number is.client doing None (Gone (unwrap_or link.ended 0)) is.here is.does)
+      let taken : Link = takes (Took reply.frame link.is_open) reply left link in
+      Stepped number (unless_step setting m number (takes_one setting m number doing connection link reply left) link.ended link.is_open is.client doing doing.connection (Took reply.frame link.is_open) m.pool
+      (with_link m.links connection taken) is.here is.does refl (grown (with_link m.links connection taken) (with_same m.links connection link taken on.there refl)) refl refl)
+  goes_step number _ (Loses doing connection link is on none closed) =
+      Stepped number (one_step setting m number _ is.client doing None (Gone (unwrap_or link.ended 0)) m.pool m.links is.here is.does refl AsBefore refl refl)
 
-  last_step : (number after : ℕ) (items left : List Served) (a : Machine) → ServesLast m number after items left a → MayStep setting m a.clients
-  last_step number after items left _ (LastNone same) = Still refl
-  last_step number after items left _ (LastStopped front served is stopped same) = Still refl
-  last_step number after items left _ (LastServed front served is over same) = Still refl
+  fallen_same : (links : List Link) → sent_lists (map (fallen_link m.event) links) ≡ sent_lists links
+  fallen_same links = mapped_same (fallen_link m.event) links (λ link. (fallen_said m.event link).sent)
 
-  pub happens_step : (items left : List Served) (happened : Noted) (n : Machine) → Happens setting m items left happened n → MayStep setting m n.clients
-  happens_step items left happened _ (Nothing kind other) = Still refl
+  last_step : (number after : ℕ) (failover : Bool) (items left : List Served) (a : Machine) → ServesLast m number after items left a → MayStep setting m (falls failover a)
+  last_step number after failover items left _ (LastNone same) = Still refl (fallen_same m.links)
+  last_step number after failover items left _ (LastStopped front served is stopped same) =
+      let next : Link = after_front front served None in
+      Still refl (fallen_same (with_link m.links number next) ∙ with_same m.links number front.link next (front_is m.links number front is).there refl)
+  last_step number after failover items left _ (LastServed front served is over same) =
+      let next : Link = handled m.event front served in
+      Still refl (fallen_same (with_link m.links number next) ∙ with_same m.links number front.link next (front_is m.links number front is).there (handled_said m.event front served).sent)
+
+  pub happens_step : (items left : List Served) (happened : Noted) (n : Machine) → Happens setting m items left happened n → MayStep setting m n
+  happens_step items left happened _ (Nothing kind other) = Still refl refl
   happens_step items left happened _ (IsStep number did n moves) = goes_step number n moves
-  happens_step items left happened _ (Serves number frame front served is ordinary same) = Still refl
-  happens_step items left happened _ (Cuts number up down reached link is) = Still refl
-  happens_step items left happened _ (Reaps number reaped orphan) = Still refl
-  happens_step items left happened _ (Crashes number after failover down a runs last) = last_step number after items left a last
-  happens_step items left happened _ (OpensUp incarnation down may) = Still refl
-  happens_step items left happened _ (StopsOpening made down) = Still refl
-  happens_step items left happened _ Ticks = Still refl
-  happens_step items left happened _ (RunsOutside ran runs) = Still refl
-  happens_step items left happened _ (Asks ltxid result runs) = Still refl
-  happens_step items left happened _ (Drains closed) = Still refl
+  happens_step items left happened _ (Serves number frame front served is ordinary same) =
+      Still refl (with_same m.links number front.link (handled m.event front served) (front_is m.links number front is).there (handled_said m.event front served).sent)
+  happens_step items left happened _ (Cuts number up down reached link is) =
+      let at = open_is m.links number link is in
+      Still refl (with_same m.links number link (cut_link m.event up down link) at.there (cut_said m.event up down link at.open_now).sent)
+  happens_step items left happened _ (Reaps number reaped orphan) = Still refl (changed_same reaped_link m.links number (λ link. refl))
+  happens_step items left happened _ (Crashes number after failover down a runs last) = last_step number after failover items left a last
+  happens_step items left happened _ (OpensUp incarnation down may) = Still refl refl
+  happens_step items left happened _ (StopsOpening made down) = Still refl refl
+  happens_step items left happened _ Ticks = Still refl refl
+  happens_step items left happened _ (RunsOutside ran runs) = Still refl refl
+  happens_step items left happened _ (Asks ltxid result runs) = Still refl refl
+  happens_step items left happened _ (Drains closed) = Closed refl (each_more m.event (closed_by_drain ∷ []) m.links m.pool.idle)
+
+-- THE REQUEST -------------------------------------------------------------------------------------
+
+pub same_request_after : (setting : Setting) (first after : Doing) (held kept : Hold) → GoesOn setting first held after kept → after.request ≡ first.request
+same_request_after setting first _ held _ AtOnce = refl
+same_request_after setting first _ held _ (LostToo event tick ended is) = refl

@@ -21,7 +21,7 @@ use Rattle.world_model.specs.Reached.{traced_start}
 use Rattle.world_model.specs.Script.{same_request, now_or_next, past_follows, follows_script, follow_scripts_from, follow_scripts}
 use Rattle.world_model.specs.Traced.{Traced}
 use Rattle.world_model.specs.KeptLaws.{IsKept}
-use Rattle.world_model.proofs.ClientSteps.{HasStepped, MayStep, Still, Stepped, happens_step}
+use Rattle.world_model.proofs.ClientSteps.{HasStepped, MayStep, Still, Closed, Stepped, happens_step, same_request_after}
 use Rattle.world_model.proofs.Happened.{Followed, follow_happens, at_event}
 use Rattle.world_model.proofs.SameSelf.{each_self}
 use Rattle.world_model.proofs.Tests.{eq_to}
@@ -99,9 +99,9 @@ module _ (t : Traced) where
       let parts = and_parts (follows_script t start first) (follow_scripts_from t (start + 1) clients) all in
       and_from (follows_script t start first) (follow_scripts_from t (start + 1) (slice_set clients index client)) parts.0 (follows_set (start + 1) clients index number client next parts.1 here)
 
-  stepped_follow : (m : Machine) (number : ℕ) (clients : List Client) → follow_scripts_from t 1 m.clients ≡ true → HasStepped t.setting m number clients → follow_scripts_from t 1 clients ≡ true
-  stepped_follow m zero clients all stepped = let here = stepped.here in absurd (let none : ⊥ = cc in none)
-  stepped_follow m (suc index) clients all stepped =
+  stepped_follow : (m : Machine) (number : ℕ) (n : Machine) → follow_scripts_from t 1 m.clients ≡ true → HasStepped t.setting m number n → follow_scripts_from t 1 n.clients ≡ true
+  stepped_follow m zero n all stepped = let here = stepped.here in absurd (let none : ⊥ = cc in none)
+  stepped_follow m (suc index) n all stepped =
       let same : suc index ≡ 1 + index = omega arith in
       let script : List Request = script_at t.setting (suc index) in
       let found : Option Request = next_of script (reports_of stepped.client.past) in
@@ -109,13 +109,15 @@ module _ (t : Traced) where
       let before : same_request (Some stepped.before.request) found ≡ true =
       does_follow t.setting.terms m.event m.tick stepped.client.now stepped.client.next found stepped.before stepped.does
       (and_parts (past_follows script [] stepped.client.past) (same_request (now_or_next stepped.client) found) here).1 in
-      let after : same_request (Some stepped.after.request) found ≡ true = subst (λ (r : Request). same_request (Some r) found ≡ true) (sym stepped.request) before in
+      let after : same_request (Some stepped.after.request) found ≡ true =
+      subst (λ (r : Request). same_request (Some r) found ≡ true) (sym (same_request_after t.setting _ stepped.after _ stepped.held stepped.goes_on)) before in
       subst (λ (c : List Client). follow_scripts_from t 1 c ≡ true) (sym stepped.clients_are)
       (follows_set 1 m.clients index (suc index) (after_hold t.setting (suc index) stepped.client stepped.after stepped.held) same all (held_follows t.setting (suc index) stepped.client stepped.after stepped.held here after))
 
-  may_follow : (m : Machine) (clients : List Client) → follow_scripts_from t 1 m.clients ≡ true → MayStep t.setting m clients → follow_scripts_from t 1 clients ≡ true
-  may_follow m clients all (Still same) = subst (λ (c : List Client). follow_scripts_from t 1 c ≡ true) (sym same) all
-  may_follow m clients all (Stepped number stepped) = stepped_follow m number clients all stepped
+  may_follow : (m n : Machine) → follow_scripts_from t 1 m.clients ≡ true → MayStep t.setting m n → follow_scripts_from t 1 n.clients ≡ true
+  may_follow m n all (Still same sent) = subst (λ (c : List Client). follow_scripts_from t 1 c ≡ true) (sym same) all
+  may_follow m n all (Closed same sent) = subst (λ (c : List Client). follow_scripts_from t 1 c ≡ true) (sym same) all
+  may_follow m n all (Stepped number stepped) = stepped_follow m number n all stepped
 
 -- under the same setting
 same_follow : (a b : Traced) (start : ℕ) (clients : List Client) → b.setting ≡ a.setting → follow_scripts_from a start clients ≡ true → follow_scripts_from b start clients ≡ true
@@ -147,5 +149,5 @@ scripts_law = record {
   at_event = λ granted before after old new event note items left one inv.
       let by : Followed old.setting old.machine event note items left new.machine = follow_happens old.setting old.machine event note items left new.machine one.follows in
       same_follow old new 1 new.machine.clients one.setting
-      (may_follow old (at_event old.machine) new.machine.clients inv.script.scripts (happens_step old.setting (at_event old.machine) items left by.kind new.machine by.happens));
+      (may_follow old (at_event old.machine) new.machine inv.script.scripts (happens_step old.setting (at_event old.machine) items left by.kind new.machine by.happens));
 }

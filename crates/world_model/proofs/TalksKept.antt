@@ -57,7 +57,7 @@ module _ (terms : Terms) where
   through_more (first ∷ past) one all here = (all.0, through_more past one all.1 here)
 
   -- the one in course, or the one that begins
-  does_talk : (event tick : ℕ) (now : Option Doing) (next : Option Request) (doing : Doing) → option_or now (option_map (begun terms event tick) next) ≡ Some doing → IsTalking terms now → Talks terms false doing
+  pub does_talk : (event tick : ℕ) (now : Option Doing) (next : Option Request) (doing : Doing) → option_or now (option_map (begun terms event tick) next) ≡ Some doing → IsTalking terms now → Talks terms false doing
   does_talk event tick (Some one) next doing is talks = let same : one ≡ doing = cc in subst (λ (d : Doing). Talks terms false d) same talks
   does_talk event tick None (Some request) doing is talks =
       let same : begun terms event tick request ≡ doing = cc in subst (λ (d : Doing). Talks terms false d) same (begun_talks terms event tick request)
