@@ -1,3 +1,9 @@
 mod BaseRows
+mod Falling
+mod Faulty
 mod GoingOn
+mod Halted
+mod Opened
+mod Reaching
+mod Reopening
 mod Standing

@@ -59,6 +59,7 @@ fewer_up grants disk core held less notes fewer up = record {
   settled = up.settled;
   room = omega (arith, up.room);
   few = omega (arith, up.few);
+  crashes = omega (arith, up.crashes);
   each = λ connection session at. let one = up.each connection session (fewer connection session at) in record { reads = one.reads; noted = one.noted; belongs = one.belongs; lives = one.lives; numbered = one.numbered };
   unmade_belong = up.unmade_belong;
   apart = λ connection other session another here there one. up.apart connection other session another (fewer connection session here) (fewer other another there) one;
@@ -70,6 +71,7 @@ none_down disk held after notes empty down = record {
   base = down.base;
   leaves = λ image leaves. let read = down.leaves image leaves in record { journal = read.journal; reads = read.reads; base_is = read.base_is; room = omega (arith, read.room) };
   faults = down.faults;
+  crashes = omega (arith, down.crashes);
   reads_now = down.reads_now;
   settled = down.settled;
 }
@@ -191,7 +193,7 @@ stop_fits core disk stop fits = record {
 }
 
 stop_sound : (grants : Grants) (disk : DiskState) (core : Option Core) (held : Held) (notes : Notes) (stop : Option ℕ) → IsSound grants disk core held notes → IsSound grants (record disk { stop = stop }) core held (called notes)
-stop_sound grants disk None held notes stop down = let same = none_down disk held held notes (λ none. none) down in record { none = same.none; base = same.base; leaves = same.leaves; faults = same.faults; reads_now = same.reads_now; settled = same.settled }
+stop_sound grants disk None held notes stop down = let same = none_down disk held held notes (λ none. none) down in record { none = same.none; base = same.base; leaves = same.leaves; faults = same.faults; crashes = same.crashes; reads_now = same.reads_now; settled = same.settled }
 stop_sound grants disk (Some core) held notes stop up = record {
   fits = stop_fits core disk stop up.fits;
   granted = up.granted;
@@ -199,6 +201,7 @@ stop_sound grants disk (Some core) held notes stop up = record {
   settled = up.settled;
   room = omega (arith, up.room);
   few = omega (arith, up.few);
+  crashes = omega (arith, up.crashes);
   each = up.each;
   unmade_belong = up.unmade_belong;
   apart = up.apart;

@@ -40,6 +40,7 @@ pub record IsUp (grants : Grants) (disk : DiskState) (core : Core) (held : Held)
   pub settled : notes.is_settled ≡ true
   pub room : HasRoom core.source.incarnation notes
   pub few : notes.sessions ≤ notes.calls
+  pub crashes : notes.crashes ≤ notes.calls
   pub each : (connection : ℕ) (session : Session) → held_at held connection ≡ Some (Some session) → IsHeld core notes.sessions session
   -- no session above those that were made has committed
   pub unmade_belong : (session : ℕ) → notes.sessions < session → Belongs core (unmade core session)
@@ -58,6 +59,7 @@ pub record IsDown (disk : DiskState) (held : Held) (notes : Notes) : Type 0 wher
   pub base : Base
   pub leaves : (image : List ℕ) → MayLeave disk.now image → Reads base notes image
   pub faults : disk.faults ≤ 2 ^ 64 - 1
+  pub crashes : notes.crashes ≤ notes.calls
   pub reads_now : MayLeave disk.now disk.now.seen
   pub settled : notes.is_settled ≡ true → IsSettled disk
 

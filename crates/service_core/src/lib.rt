@@ -2,6 +2,7 @@
 #![tactic(auto)]
 
 mod connections;
+mod crash;
 mod notes;
 mod one;
 mod opening;

@@ -1,0 +1,31 @@
+//! Crashes of a service.
+ghost use Rattle.std.specs.Prelude.{◌≡◌, ◌<◌, ◌^◌, false};
+ghost use Rattle.server_model.specs.ServiceCalls.{Crashed, MayCrash};
+ghost use Rattle.service_calls.specs.Kept.{Goes, HaveOneBase};
+ghost use Rattle.service_core.specs.Seeing.{LeavesIn, SeesIn, bytes_in, state_in};
+
+use crate::one::OneService;
+use disk_model::StopDisk;
+
+impl<D: StopDisk> OneService<D> {
+    /// Ends it as a crash does: all connections end, and of what a stopped call stored the disk
+    /// leaves what the pick's remainder by 4 says.
+    pub(crate) fn fall(&mut self, pick: u8)
+        requires live { self.old.notes.is_spent ≡ false }
+        requires few { self.old.notes.calls < 2 ^ 48 }
+        requires may { MayCrash (state_in self.old) pick }
+        ensures left { LeavesIn self.old (state_in self.new).store }
+        ensures crashed { Goes (SeesIn self.old) (SeesIn self.new) (λ old new. Crashed old pick new) }
+        ensures base { HaveOneBase (bytes_in self.old) (bytes_in self.new) }
+    {
+        self.disk.crash(pick % 4);
+        self.core = None;
+        self.held.clear();
+        self.notes.is_settled = true;
+        self.notes.is_opened = false;
+        self.notes.crashes += 1;
+        self.notes.last_pick = Some(pick);
+        self.notes.last_stop = self.notes.kept;
+        self.notes.calls += 1;
+    }
+}
