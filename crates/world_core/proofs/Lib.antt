@@ -11,3 +11,5 @@ pub mod Draining
 pub mod Written
 pub mod Serving
 pub mod ServedFrames
+pub mod Stops
+pub mod Questions

@@ -9,6 +9,8 @@ use Rattle.svc_values.specs.declared.frame.Down.{Down}
 use Rattle.svc_values.specs.declared.frame.Down.TheVariants as down
 use Rattle.svc_values.specs.declared.frame.Ahead.TheVariants as ahead
 use Rattle.svc_values.specs.Identifiers.{session_of}
+use Rattle.ltxid_book.specs.declared.verdict.Verdict.{Verdict}
+use Rattle.ltxid_book.specs.declared.verdict.Verdict.TheVariants as verdict
 use Rattle.outage_schedule.specs.declared.note.AskResult.{AskResult}
 use Rattle.outage_schedule.specs.declared.note.AskResult.TheVariants as told
 use Rattle.outage_schedule.specs.declared.item.Item.{Item}
@@ -50,3 +52,12 @@ ordinary_item up.Close reply = item.Close
 abbrev pub served_item : Up → Option Down → Item
 served_item frame (Some (down.Refused cause)) = item.Refused cause
 served_item frame reply = ordinary_item frame reply
+
+-- what a verdict tells: an identifier that is to be blocked was so before it was told
+abbrev pub result_of : Verdict → AskResult
+result_of (verdict.Committed completed) = told.Committed completed
+result_of verdict.BlockIt = told.Uncommitted
+result_of verdict.AlreadyBlocked = told.Uncommitted
+result_of (verdict.ServerAhead next) = told.ServerAhead next
+result_of (verdict.ClientAhead next) = told.ClientAhead next
+result_of (verdict.Forgotten horizon) = told.Forgotten horizon

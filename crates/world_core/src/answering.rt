@@ -2,8 +2,9 @@
 ghost use Rattle.std.specs.Prelude.{◌≡◌, IfOk};
 ghost use Rattle.world_model.specs.Noting.{name_of};
 ghost use Rattle.world_model.specs.Serving.{is_blocked as is_blocked_def, is_last as is_last_def};
-ghost use Rattle.world_core.specs.Answering.{session_served as session_served_def, session_named as session_named_def, result_told as result_told_def, call_item as call_item_def, ordinary_item as ordinary_item_def, served_item as served_item_def};
+ghost use Rattle.world_core.specs.Answering.{session_served as session_served_def, session_named as session_named_def, result_told as result_told_def, call_item as call_item_def, ordinary_item as ordinary_item_def, served_item as served_item_def, result_of as result_of_def};
 
+use ltxid_book::Verdict;
 use outage_schedule::{AskResult, FrameName, Item};
 use std::alloc::Global;
 use svc_values::{Ahead, Call, Down, NoMemory, SessionId, TryCopy, Up};
@@ -127,4 +128,17 @@ pub(crate) fn is_last(item: &Item) -> bool
     ensures { result ≡ is_last_def item.now }
 {
     matches!(item, Item::Blocked { .. } | Item::Close)
+}
+
+/// What a verdict tells. An identifier that is to be blocked was so before it was told.
+pub(crate) fn result_of(verdict: Verdict) -> AskResult
+    ensures { result ≡ result_of_def verdict }
+{
+    match verdict {
+        Verdict::Committed { completed } => AskResult::Committed { completed },
+        Verdict::BlockIt | Verdict::AlreadyBlocked => AskResult::Uncommitted,
+        Verdict::ServerAhead { next } => AskResult::ServerAhead { next },
+        Verdict::ClientAhead { next } => AskResult::ClientAhead { next },
+        Verdict::Forgotten { horizon } => AskResult::Forgotten { horizon },
+    }
 }

@@ -1,0 +1,157 @@
+-- An outcome is asked for from outside.
+use Rattle.std.proofs.Common.{◌≡◌, ℕ, ◌+◌, Bool, true, false, List, [], ◌∷◌, ◌++◌, Some, None, refl, sym, ap, ◌∙◌, subst, inl, inr}
+use Rattle.std.specs.Prelude.{◌⊎◌, All}
+use Rattle.std.proofs.lemmas.List.{append-nil}
+use Rattle.std.proofs.lemmas.List.Elements.{All-cons, Contains-push}
+use Rattle.svc_values.specs.declared.entry.Ltxid.{Ltxid}
+use Rattle.svc_values.specs.Laws.{AreExact}
+use Rattle.ltxid_book.specs.declared.verdict.Verdict.{Verdict}
+use Rattle.ltxid_book.specs.declared.verdict.Verdict.TheVariants as verdict
+use Rattle.outage_schedule.specs.declared.event.Event.TheVariants as event
+use Rattle.outage_schedule.specs.declared.note.Note.TheVariants as note
+use Rattle.outage_schedule.specs.declared.note.AskResult.{AskResult}
+use Rattle.outage_schedule.specs.declared.note.AskResult.TheVariants as result
+use Rattle.server_model.specs.Laws.{stops_last}
+use Rattle.server_model.specs.Outcomes.{Telling, Says, down_of}
+use Rattle.server_model.specs.Runs.{Asked}
+use Rattle.server_model.specs.Seen.{Seen, IsHistory}
+use Rattle.server_model.specs.ServiceCalls.{WasAsked, AskedOne}
+use Rattle.service_calls.specs.Kept.{Goes}
+use Rattle.world_model.specs.Machines.{Server, Machine}
+use Rattle.world_model.specs.Outside.{after_asked}
+use Rattle.world_model.specs.Serving.{outcome_frame}
+use Rattle.world_model.specs.Traced.{Traced}
+use Rattle.world_model.specs.Walking.{follow}
+use Rattle.world_model.specs.Coupled.{SameServer, Coupled}
+use Rattle.world_core.specs.declared.traffic.Traffic.{Traffic}
+use Rattle.world_core.specs.Answering.{result_of}
+use Rattle.world_core.specs.Underway.{IsUnderway}
+use Rattle.world_core.specs.Making.{Makes}
+use Rattle.world_core.proofs.Readiness.{stays_ready, up_not_down}
+use Rattle.world_core.proofs.Coupling.{moved, begun, one_alone, stays_coupled, none_came, none_asked}
+use Rattle.world_core.proofs.Opening.{any_server}
+use Rattle.world_core.proofs.Stops.{stops_behind}
+
+-- the server is down
+pub asks_none : (sees : Seen → Type 0) (before after : Traffic) (x : Ltxid) → AreExact → ((seen : Seen) → sees seen → seen.state.is_up ≡ false) → ((m : Machine) → IsUnderway before m → IsUnderway after (begun m))
+    → Makes sees before sees after (event.Ask x) (note.Ask x None) []
+asks_none sees before after x exact down goes seen t is =
+    let server_down : t.machine.server.is_up ≡ false = is.coupled.server.is_up ∙ down seen is.seen_so in
+    let follows : follow t.setting t.machine (event.Ask x) (note.Ask x None) [] ≡ Some (begun t.machine, []) = rw ((exact.identifiers x x).1 refl, server_down) refl in (
+      seen,
+      (
+        moved t (begun t.machine),
+        (
+          one_alone seen t (event.Ask x) (note.Ask x None) (begun t.machine) is.coupled follows refl refl refl refl refl,
+          record { seen_so = is.seen_so; ready = is.ready; coupled = stays_coupled seen t (begun t.machine) is.coupled refl refl; underway = goes t.machine is.underway },
+        ),
+      ),
+    )
+
+-- the frame that tells a verdict
+same_frame : (told : Verdict) → outcome_frame (result_of told) ≡ down_of told
+same_frame (verdict.Committed completed) = refl
+same_frame verdict.BlockIt = refl
+same_frame verdict.AlreadyBlocked = refl
+same_frame (verdict.ServerAhead next) = refl
+same_frame (verdict.ClientAhead next) = refl
+same_frame (verdict.Forgotten horizon) = refl
+
+blocked_one : (server : Server) (x : Ltxid) (seen : Seen) → SameServer server seen → SameServer (record server { blocked = x ∷ server.blocked }) seen
+blocked_one server x seen same = record { is_up = same.is_up; per_record = same.per_record; opened = same.opened; closed = same.closed }
+
+server_asked : (server : Server) (x : Ltxid) (told : AskResult) (seen : Seen) → SameServer server seen → SameServer (after_asked server x told) seen
+server_asked server x (result.Committed completed) seen same = same
+server_asked server x result.Uncommitted seen same = blocked_one server x seen same
+server_asked server x (result.ServerAhead next) seen same = same
+server_asked server x (result.ClientAhead next) seen same = same
+server_asked server x (result.Forgotten horizon) seen same = same
+
+server_behind : (server : Server) (old new : Seen) (x : Ltxid) (told : Verdict) → SameServer server old → old.state.is_up ≡ true → AskedOne old x told new → SameServer server new
+server_behind server old new x told same up did =
+    let opened = same.opened up in
+    record {
+      is_up = same.is_up ∙ up ∙ sym did.others.1;
+      per_record = same.per_record ∙ sym did.keeps.per_record;
+      opened = λ is. (opened.0 ∙ sym did.adds.opening.0, (opened.1.0 ∙ sym did.others.3, opened.1.1));
+      closed = λ down. absurd (let clash : true ≡ false = sym did.others.1 ∙ down in let nothing : ⊥ = cc in nothing);
+    }
+
+-- the block that was added, if one was
+abbrev MoreBlocked : List Ltxid → List Ltxid → Ltxid → Telling → Type 0
+MoreBlocked old new x told = (more : List Ltxid) × ((new ≡ old ++ more) × All (WasAsked (Asked x told ∷ [])) more)
+
+block_added : (old new : List Ltxid) (x : Ltxid) (told : Telling) → (new ≡ old) ⊎ (new ≡ old ++ x ∷ []) → MoreBlocked old new x told
+block_added old new x told (inl same) = ([], (same ∙ sym (append-nil old), none_asked (Asked x told ∷ [])))
+block_added old new x told (inr one) =
+    let happened = Asked x told ∷ [] in
+    (x ∷ [], (one, All-cons (WasAsked happened) x [] (Asked x told, (Contains-push [] (Asked x told), refl)) (none_asked happened)))
+
+abbrev asked_machine : Machine → Ltxid → AskResult → Machine
+asked_machine m x result = record (begun m) { server = after_asked m.server x result }
+
+abbrev traced_behind : Traced → Machine → Seen → Traced
+traced_behind t m new = record t { machine = m; entries = new.state.store.entries; blocked = new.state.store.blocked }
+
+asked_coupled : (old new : Seen) (t : Traced) (x : Ltxid) (told : Verdict) → Coupled old t → old.state.is_up ≡ true → IsHistory new → AskedOne old x told new
+    → Coupled new (traced_behind t (asked_machine t.machine x (result_of told)) new)
+asked_coupled old new t x told coupled up history did = record {
+  history = history;
+  sound = rw did.keeps.start coupled.sound;
+  stops = ap stops_last did.history ∙ stops_behind old (Asked x (Says (down_of told)) ∷ []) coupled.sound coupled.history up coupled.stops refl tt;
+  server = server_asked t.machine.server x (result_of told) new (server_behind t.machine.server old new x told coupled.server up did);
+  living = λ number. did.others.0 number ∙ coupled.living number;
+  stored = λ number link there. rw did.adds.entries.0 (coupled.stored number link there);
+  entries = refl;
+  blocked = refl;
+  image = rw did.keeps.start coupled.image;
+}
+
+pub asks_some : (sees sees_later : Seen → Type 0) (before after : Traffic) (x : Ltxid) (told : Verdict) → AreExact
+    → ((seen : Seen) → sees seen → seen.state.is_up ≡ true)
+    → ((seen : Seen) → sees_later seen → IsHistory seen)
+    → Goes sees sees_later (λ old new. AskedOne old x told new)
+    → ((m : Machine) → IsUnderway before m → IsUnderway after (begun m))
+    → Makes sees before sees_later after (event.Ask x) (note.Ask x (Some (result_of told))) []
+asks_some sees sees_later before after x told exact up honest goes leads seen t is =
+    let gone = goes seen is.seen_so in
+    let new = gone.0 in
+    let did : AskedOne seen x told new = gone.1.1 in
+    let is_up = up seen is.seen_so in
+    let server_up : t.machine.server.is_up ≡ true = is.coupled.server.is_up ∙ is_up in
+    let m = asked_machine t.machine x (result_of told) in
+    let follows : follow t.setting t.machine (event.Ask x) (note.Ask x (Some (result_of told))) [] ≡ Some (m, []) = rw ((exact.identifiers x x).1 refl, server_up) refl in
+    let coupled : Coupled new (traced_behind t m new) = asked_coupled seen new t x told is.coupled is_up (honest new gone.1.0) did in
+    let more = block_added seen.state.store.blocked new.state.store.blocked x (Says (down_of told)) did.adds.blocked in (
+      new,
+      (
+        traced_behind t m new,
+        (
+          record {
+            follows = follows;
+            happened = Asked x (Says (down_of told)) ∷ [];
+            did = ap (λ frame. Asked x (Says frame) ∷ []) (sym (same_frame told));
+            history = did.history;
+            start = did.keeps.start;
+            coupled_before = is.coupled;
+            coupled_after = coupled;
+            more_entries = [];
+            entries = did.adds.entries.0 ∙ sym is.coupled.entries ∙ sym (append-nil t.entries);
+            own = none_came (Asked x (Says (down_of told)) ∷ []);
+            more_blocked = more.0;
+            blocked = more.1.0 ∙ ap (λ b. b ++ more.0) (sym is.coupled.blocked);
+            asked = more.1.1;
+            setting = refl;
+            image = refl;
+            outside = sym (append-nil t.outside);
+            outside_draws = sym (append-nil t.outside_draws);
+          },
+          record {
+            seen_so = gone.1.0;
+            ready = stays_ready seen new did.keeps is.ready (up_not_down new.state did.others.1);
+            coupled = coupled;
+            underway = any_server after (begun t.machine) (after_asked t.machine.server x (result_of told)) (leads t.machine is.underway);
+          },
+        ),
+      ),
+    )
