@@ -13,3 +13,5 @@ pub mod Serving
 pub mod ServedFrames
 pub mod Stops
 pub mod Questions
+pub mod Storing
+pub mod Outsiders

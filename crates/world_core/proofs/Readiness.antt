@@ -4,9 +4,8 @@ use Rattle.std.proofs.lemmas.Bool.Decides.{eqb_tells}
 use Rattle.std.specs.Prelude.{◌⊎◌, ◌≢◌}
 use Rattle.server_model.specs.Outcomes.{Stopped}
 use Rattle.server_model.specs.Seen.{ServiceState, Store, Seen, Keeps, KeepsStore, Rose}
-use Rattle.server_model.specs.ServiceCalls.{ServedOne, KeepsOpening, StopsOnly, StoppedOpening, StoppedAsk}
+use Rattle.server_model.specs.ServiceCalls.{ServedOne, KeepsOpening, StopsOnly, StoppedOpening}
 use Rattle.svc_values.specs.declared.frame.Up.{Up}
-use Rattle.svc_values.specs.declared.entry.Ltxid.{Ltxid}
 use Rattle.service_calls.specs.Kept.{Goes}
 use Rattle.world_core.specs.declared.traffic.Traffic.{Traffic}
 use Rattle.world_core.specs.Making.{IsReady, OutOfFaults}
@@ -67,9 +66,4 @@ frame_stopped sees sees_later leaves before number now frame goes seen t is =
 pub opening_stopped : (sees sees_later : Seen → Type 0) (leaves : Store → Type 0) (before : Traffic) (horizon : ℕ)
     → Goes sees sees_later (λ old new. StoppedOpening old horizon leaves new) → OutOfFaults sees before sees_later
 opening_stopped sees sees_later leaves before horizon goes seen t is =
-    let gone = goes seen is.seen_so in (gone.0, (gone.1.0, stops_only seen gone.0 is.ready gone.1.1.cause))
-
-pub question_stopped : (sees sees_later : Seen → Type 0) (leaves : Store → Type 0) (before : Traffic) (x : Ltxid)
-    → Goes sees sees_later (λ old new. StoppedAsk old x leaves new) → OutOfFaults sees before sees_later
-question_stopped sees sees_later leaves before x goes seen t is =
     let gone = goes seen is.seen_so in (gone.0, (gone.1.0, stops_only seen gone.0 is.ready gone.1.1.cause))

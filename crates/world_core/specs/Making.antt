@@ -1,9 +1,10 @@
 -- An event of a run without its clients: machine and service go on together.
-use Rattle.std.specs.Prelude.{◌≡◌, ◌-◌, ◌^◌, ℕ, true, false, List, [], None}
+use Rattle.std.specs.Prelude.{◌≡◌, ◌-◌, ◌^◌, ℕ, true, false, IsTrue, List, [], None}
 use Rattle.outage_schedule.specs.declared.event.Event.{Event}
 use Rattle.outage_schedule.specs.declared.note.Note.{Note}
 use Rattle.outage_schedule.specs.declared.item.Served.{Served}
 use Rattle.server_model.specs.Seen.{ServiceState, Seen}
+use Rattle.world_model.specs.Basic.{are_made}
 use Rattle.world_model.specs.Traced.{Traced}
 use Rattle.world_model.specs.Coupled.{Coupled}
 use Rattle.world_model.specs.OneEvent.{OneEvent}
@@ -30,10 +31,18 @@ abbrev pub Makes : (Seen → Type 0) → Traffic → (Seen → Type 0) → Traff
 Makes sees before sees_later after event note items =
     (seen : Seen) (t : Traced) → IsAt sees before seen t → (seen_later : Seen) × ((later : Traced) × (OneEvent seen t event note items [] seen_later later × IsAt sees_later after seen_later later))
 
--- the same, of a frame that is served in order
+-- the same, where this held
+abbrev pub MakesWhere : (Seen → Traced → Type 0) → (Seen → Type 0) → Traffic → (Seen → Type 0) → Traffic → Event → Note → List Served → Type 0
+MakesWhere Holds sees before sees_later after event note items =
+    (seen : Seen) (t : Traced) → IsAt sees before seen t → Holds seen t → (seen_later : Seen) × ((later : Traced) × (OneEvent seen t event note items [] seen_later later × IsAt sees_later after seen_later later))
+
+-- the sessions so far are of this server, each below the next one
+abbrev pub HasMade : Seen → Traced → Type 0
+HasMade seen t = IsTrue (are_made t)
+
+-- a frame is served in order
 abbrev pub MakesInOrder : (Seen → Type 0) → Traffic → (Seen → Type 0) → Traffic → ℕ → Event → Note → List Served → Type 0
-MakesInOrder sees before sees_later after number event note items =
-    (seen : Seen) (t : Traced) → IsAt sees before seen t → InOrder seen t number → (seen_later : Seen) × ((later : Traced) × (OneEvent seen t event note items [] seen_later later × IsAt sees_later after seen_later later))
+MakesInOrder sees before sees_later after number event note items = MakesWhere (λ seen t. InOrder seen t number) sees before sees_later after event note items
 
 -- where the service and the traffic may stand, a frame is served in order
 abbrev pub IsInOrder : (Seen → Type 0) → Traffic → ℕ → Type 0

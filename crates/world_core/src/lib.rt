@@ -6,6 +6,7 @@ mod asking;
 mod connection;
 mod connections;
 mod ground;
+mod outside;
 mod traffic;
 
 pub use connection::Connection;

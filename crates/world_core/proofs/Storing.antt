@@ -1,0 +1,140 @@
+-- Entries that come from what one session did, and sessions that are apart.
+use Rattle.std.proofs.Common.{◌≡◌, ℕ, zero, suc, ◌+◌, ◌==◌, Bool, true, false, List, [], ◌∷◌, ◌++◌, Option, Some, None, refl, sym, ap, ◌∙◌, arith}
+use Rattle.std.specs.Prelude.{◌&&◌, ◌||◌, All, cond, filter_map, nat_lt, nat_le, slice_get, if◌then◌else◌}
+use Rattle.std.specs.List.{list_all, cons_option}
+use Rattle.std.proofs.lemmas.Bool.{lt-leb}
+use Rattle.std.proofs.lemmas.List.Sums.{sum_by-cons, sum_by-append}
+use Rattle.std.proofs.lemmas.List.Elements.{All-head, All-tail, All-contains}
+use Rattle.svc_values.specs.declared.entry.Entry.{Entry}
+use Rattle.svc_values.specs.declared.entry.SessionId.{SessionId}
+use Rattle.svc_values.specs.declared.frame.Up.TheVariants as up
+use Rattle.svc_values.specs.declared.frame.Down.TheVariants as down
+use Rattle.svc_values.specs.Identifiers.{same_session, session_of}
+use Rattle.svc_values.specs.Laws.{AreExact}
+use Rattle.server_model.specs.Laws.{CommitsAs}
+use Rattle.server_model.specs.Outcomes.{Silent, Says, Stopped}
+use Rattle.server_model.specs.Runs.{Happened, Served, Asked}
+use Rattle.server_model.specs.ServiceCalls.{CameFrom, IsOf}
+use Rattle.world_model.specs.Basic.{sessions_of, is_made, are_made}
+use Rattle.world_model.specs.Coupled.{entries_in, living_of}
+use Rattle.world_model.specs.Links.{Link, link_at}
+use Rattle.world_model.specs.Machines.{next_session}
+use Rattle.world_model.specs.Traced.{Traced}
+
+-- COUNTED -----------------------------------------------------------------------------------------
+
+abbrev counts : SessionId → Entry → ℕ
+counts session entry = cond (same_session (session_of entry.ltxid) session) 1 0
+
+entries_more : (old more : List Entry) (session : SessionId) → entries_in (old ++ more) session ≡ entries_in old session + entries_in more session
+entries_more old more session = sum_by-append (counts session) old more
+
+-- each is of this session
+abbrev pub AreOf : SessionId → List Entry → Type 0
+AreOf session [] = Unit {0}
+AreOf session (entry ∷ entries) = (session ≡ session_of entry.ltxid) × AreOf session entries
+
+sessions_differ : AreExact → (a b : SessionId) → (a ≡ b → ⊥) → same_session a b ≡ false
+sessions_differ exact a b apart = by (same_session a b) refl
+  where
+    by : (told : Bool) → same_session a b ≡ told → same_session a b ≡ false
+    by true told = absurd (apart ((exact.sessions a b).0 told))
+    by false told = told
+
+none_of : AreExact → (session other : SessionId) (more : List Entry) → AreOf session more → (other ≡ session → ⊥) → entries_in more other ≡ 0
+none_of exact session other [] are apart = refl
+none_of exact session other (entry ∷ more) are apart =
+    let none : counts other entry ≡ 0 = ap (λ b. cond b 1 0) (sessions_differ exact (session_of entry.ltxid) other (λ same. apart (sym same ∙ sym are.0))) in
+    let rest : entries_in more other ≡ 0 = none_of exact session other more are.1 apart in
+    sum_by-cons (counts other) entry more ∙ ap (λ (n : ℕ). n + entries_in more other) none ∙ ap (λ (n : ℕ). 0 + n) rest
+
+none_more : (n : ℕ) → n + 0 ≡ n
+none_more n = omega arith
+
+-- other sessions have no more than before
+pub others_counted : AreExact → (session other : SessionId) (old more : List Entry) → AreOf session more → (other ≡ session → ⊥) → entries_in (old ++ more) other ≡ entries_in old other
+others_counted exact session other old more are apart =
+    entries_more old more other ∙ ap (λ (n : ℕ). entries_in old other + n) (none_of exact session other more are apart) ∙ none_more (entries_in old other)
+
+-- COME FROM ---------------------------------------------------------------------------------------
+
+committed_of : (session : SessionId) (entry : Entry) (one : Happened) → IsOf session one → CommitsAs entry one → session ≡ session_of entry.ltxid
+committed_of session entry (Served other now (up.Call replay kept called) (Says (down.Reply answers draws x))) of commits = sym of ∙ commits.0
+committed_of session entry (Served other now (up.Call replay kept called) Stopped) of commits = sym of ∙ commits.0
+committed_of session entry (Served other now (up.Call replay kept called) Silent) of commits = absurd commits
+committed_of session entry (Served other now (up.Call replay kept called) (Says (down.Hello x))) of commits = absurd commits
+committed_of session entry (Served other now (up.Call replay kept called) (Says (down.OutcomeIs committed completed))) of commits = absurd commits
+committed_of session entry (Served other now (up.Call replay kept called) (Says (down.OutcomeRefused ahead next))) of commits = absurd commits
+committed_of session entry (Served other now (up.Call replay kept called) (Says down.Blocked)) of commits = absurd commits
+committed_of session entry (Served other now (up.Call replay kept called) (Says (down.Refused cause))) of commits = absurd commits
+committed_of session entry (Served other now up.Connect told) of commits = absurd commits
+committed_of session entry (Served other now (up.Begin settings) told) of commits = absurd commits
+committed_of session entry (Served other now (up.Outcome x) told) of commits = absurd commits
+committed_of session entry (Served other now up.End told) of commits = absurd commits
+committed_of session entry (Served other now up.Close told) of commits = absurd commits
+committed_of session entry (Asked x told) of commits = absurd of
+
+-- what came from what a session did is of the session
+pub came_of : (session : SessionId) (happened : List Happened) (more : List Entry) → All (IsOf session) happened → All (CameFrom happened) more → AreOf session more
+came_of session happened [] all came = tt
+came_of session happened (entry ∷ more) all came =
+    let from = All-head (CameFrom happened) entry more came in
+    (committed_of session entry from.0 (All-contains (IsOf session) happened from.0 all from.1.0) from.1.1, came_of session happened more all (All-tail (CameFrom happened) entry more came))
+
+-- THE NEXT SESSION --------------------------------------------------------------------------------
+
+both : (a b : Bool) → (a && b) ≡ true → (a ≡ true) × (b ≡ true)
+both true b e = (refl, e)
+both false b e = absurd (let nothing : ⊥ = cc in nothing)
+
+some_named : (a b : SessionId) → ◌≡◌ {A = Option SessionId} (Some a) (Some b) → a ≡ b
+some_named a b e = cc
+
+passes_first : (test : SessionId → Bool) (known : Option SessionId) (later : List SessionId) (session : SessionId) → list_all test (cons_option known later) ≡ true → known ≡ Some session → test session ≡ true
+passes_first test None later session all named = absurd (let nothing : ⊥ = cc in nothing)
+passes_first test (Some one) later session all named = ap test (sym (some_named one session named)) ∙ (both (test one) (list_all test later) all).0
+
+passes_rest : (test : SessionId → Bool) (known : Option SessionId) (later : List SessionId) → list_all test (cons_option known later) ≡ true → list_all test later ≡ true
+passes_rest test None later all = all
+passes_rest test (Some one) later all = (both (test one) (list_all test later) all).1
+
+same_link : (a b : Link) → ◌≡◌ {A = Option Link} (Some a) (Some b) → a ≡ b
+same_link a b e = cc
+
+abbrev named : List Link → List SessionId
+named links = filter_map (λ link. link.session) links
+
+passes_at : (test : SessionId → Bool) (links : List Link) (index : ℕ) (link : Link) (session : SessionId) → list_all test (named links) ≡ true → slice_get links index ≡ Some link → link.session ≡ Some session → test session ≡ true
+passes_at test [] index link session all there is = absurd (let nothing : ⊥ = cc in nothing)
+passes_at test (one ∷ links) zero link session all there is = passes_first test one.session (named links) session all (ap (λ (l : Link). l.session) (same_link one link there) ∙ is)
+passes_at test (one ∷ links) (suc index) link session all there is = passes_at test links index link session (passes_rest test one.session (named links) all) there is
+
+pub passes : (test : SessionId → Bool) (links : List Link) (number : ℕ) (link : Link) (session : SessionId) → list_all test (named links) ≡ true → link_at links number ≡ Some link → link.session ≡ Some session → test session ≡ true
+passes test links zero link session all there is = absurd (let nothing : ⊥ = cc in nothing)
+passes test links (suc index) link session all there is = passes_at test links index link session all there is
+
+neither : (a b c d : Bool) → b ≡ false → d ≡ false → (a && (b || (c && d))) ≡ false
+neither true b true d p q = rw (p, q) refl
+neither true b false d p q = rw p refl
+neither false b c d p q = refl
+
+unmade : (t : Traced) → is_made t (next_session t.machine.server) ≡ false
+unmade t =
+    let incarnation = t.machine.server.incarnation in
+    let sessions = t.machine.server.sessions in
+    neither (nat_lt 0 (sessions + 1)) (nat_lt incarnation incarnation) (incarnation == incarnation) (nat_le (sessions + 1) sessions) (lt-leb (suc incarnation) incarnation (omega arith)) (lt-leb (sessions + 1) sessions (omega arith))
+
+living_session : (link : Link) (living : Bool) (session : SessionId) → (if living then Some link.session else None) ≡ Some (Some session) → link.session ≡ Some session
+living_session link true session e = some_known link.session (Some session) e
+  where
+    some_known : (a b : Option SessionId) → ◌≡◌ {A = Option (Option SessionId)} (Some a) (Some b) → a ≡ b
+    some_known a b e = cc
+living_session link false session e = absurd (let nothing : ⊥ = cc in nothing)
+
+-- no connection has the session that is made next
+pub next_apart : (t : Traced) → are_made t ≡ true → (number : ℕ) (link : Link) → link_at t.machine.links number ≡ Some link → living_of (Some link) ≡ Some (Some (next_session t.machine.server)) → ⊥
+next_apart t made number link there living =
+    let session = next_session t.machine.server in
+    let is : is_made t session ≡ true = passes (is_made t) t.machine.links number link session (both (list_all (is_made t) (sessions_of t)) (list_all (is_made t) t.outside) made).0 there (living_session link link.is_living session living) in
+    let clash : true ≡ false = sym is ∙ unmade t in
+    cc
