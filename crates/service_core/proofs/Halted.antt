@@ -1,14 +1,16 @@
 -- What a service is seen as after an opening that was stopped.
 use Rattle.std.proofs.Common.{◌≡◌, ◌≢◌, ◌∙◌, ◌+◌, ◌≤◌, ℕ, Bool, true, false, refl, sym, ap, subst, inl, inr, List, [], append-nil, arith}
-use Rattle.std.specs.Prelude.{Option, Some, None, Result, Ok, IfOk, is_some}
+use Rattle.std.specs.Prelude.{Option, Some, None, Result, Ok, IfOk, IsErrOf, is_some}
 use Rattle.disk_model.specs.Moment.{MayLeave}
-use Rattle.disk_model.specs.Disk.{DiskState, Meanwhile, LoweredByLess, with_fault}
+use Rattle.disk_model.specs.Disk.{DiskState, Meanwhile, LoweredByLess, Caused, with_fault}
 use Rattle.redo_store.specs.Records.{records_of, record_count}
 use Rattle.commit_log.specs.declared.journal.Journal.{Journal}
 use Rattle.commit_log.specs.Growth.{IsGrown, opening_of}
 use Rattle.commit_log.specs.Journals.{so_far_of, journal_of}
 use Rattle.commit_log.specs.Laws.{RaisesHorizon}
 use Rattle.mutable_values.specs.declared.grants.Grants.{Grants}
+use Rattle.server_model.specs.declared.fault.ServeFault.{ServeFault}
+use Rattle.server_model.specs.declared.fault.ServeFault.TheVariants as fault
 use Rattle.server_model.specs.Base.{Base}
 use Rattle.server_model.specs.Runs.{Happened, Server, Off, On, Runs, Then, StopsOpening, MayForget}
 use Rattle.server_model.specs.Seen.{Store, HasPower}
@@ -32,8 +34,8 @@ use Rattle.service_core.proofs.Standing.{goes_from}
 abbrev pub halted_notes : Notes → Option ℕ → Notes
 halted_notes notes stop = record notes { is_settled = false; kept = stop; calls = notes.calls + 1 }
 
-abbrev pub halted_from : Within → DiskState → Within
-halted_from old new = record old { disk = new; notes = halted_notes old.notes old.disk.stop }
+abbrev pub halted_from : Within → DiskState → Option ℕ → Within
+halted_from old new stop = record old { disk = new; notes = halted_notes old.notes stop }
 
 -- what an opening that was stopped says of its disk
 pub record IsHalted (below calls : ℕ) (old new : DiskState) : Type 0 where
@@ -43,6 +45,10 @@ pub record IsHalted (below calls : ℕ) (old new : DiskState) : Type 0 where
   pub at_stop : old.quiet ≡ true → new.stop ≡ Some 0
   pub quiet : new.quiet ≡ old.quiet
   pub reads_now : MayLeave new.now new.now.seen
+
+pub is_halted : (result : Result Core ServeFault) (below calls : ℕ) (old new : DiskState) → IsErrOf result fault.Stopped → MayLeave new.now new.now.seen → Meanwhile old new (IsGrown old.now.seen (opening_of below (so_far_of old.now.seen)))
+    → (IsErrOf result fault.Stopped → LoweredByLess calls old.stop new.stop) → Caused (IsErrOf result fault.Stopped) old new → IsHalted below calls old new
+is_halted result below calls old new stopped reads_now run stop cause = record { run = run; stop = stop stopped; faults = cause.counted stopped; at_stop = λ quiet. cause.at_stop quiet stopped; quiet = cause.still_quiet; reads_now = reads_now }
 
 -- ---- what is left
 
@@ -78,25 +84,25 @@ still_down : (grants : Grants) (disk : DiskState) (core : Option Core) (held : H
 still_down grants disk None held notes off down = down
 still_down grants disk (Some core) held notes off down = absurd (cc)
 
-pub halts_soundly : (old : Within) (new : DiskState) (below calls : ℕ) → RaisesHorizon → is_some old.core ≡ false → old.notes.is_settled ≡ true → IsSoundWithin old → IsHalted below calls old.disk new → IsSoundWithin (halted_from old new)
-halts_soundly old new below calls raises off settled sound halted =
+pub halts_soundly : (old : Within) (new : DiskState) (stop : Option ℕ) (below calls : ℕ) → RaisesHorizon → is_some old.core ≡ false → old.notes.is_settled ≡ true → IsSoundWithin old → IsHalted below calls old.disk new → IsSoundWithin (halted_from old new stop)
+halts_soundly old new stop below calls raises off settled sound halted =
     let down = down_of old off sound in
-    still_down old.grants new old.core old.held (halted_notes old.notes old.disk.stop) off
+    still_down old.grants new old.core old.held (halted_notes old.notes stop) off
     (record {
       none = down.none;
       base = down.base;
-      leaves = λ image leaves. part_reads old old.disk.stop down below image (reaches_in old new below calls raises settled down halted image leaves);
+      leaves = λ image leaves. part_reads old stop down below image (reaches_in old new below calls raises settled down halted image leaves);
       faults = still_counted old.disk.faults new.faults halted.faults;
       crashes = omega (arith, down.crashes);
       reads_now = halted.reads_now;
       settled = λ settled. absurd (let e : ◌≡◌ {A = Bool} false true = settled in cc);
     })
 
-pub halts_on_base : (old : Within) (new : DiskState) (below calls : ℕ) → RaisesHorizon → is_some old.core ≡ false → old.notes.is_settled ≡ true → IsSoundWithin old → IsHalted below calls old.disk new → HaveOneBase old.disk.now.seen new.now.seen
-halts_on_base old new below calls raises off settled sound halted =
+pub halts_on_base : (old : Within) (new : DiskState) (stop : Option ℕ) (below calls : ℕ) → RaisesHorizon → is_some old.core ≡ false → old.notes.is_settled ≡ true → IsSoundWithin old → IsHalted below calls old.disk new → HaveOneBase old.disk.now.seen new.now.seen
+halts_on_base old new stop below calls raises off settled sound halted =
     let down = down_of old off sound in
-    one_base down.base old.notes (halted_notes old.notes old.disk.stop) old.disk.now.seen new.now.seen (down.leaves old.disk.now.seen down.reads_now)
-    (part_reads old old.disk.stop down below new.now.seen (reaches_in old new below calls raises settled down halted new.now.seen halted.reads_now))
+    one_base down.base old.notes (halted_notes old.notes stop) old.disk.now.seen new.now.seen (down.leaves old.disk.now.seen down.reads_now)
+    (part_reads old stop down below new.now.seen (reaches_in old new below calls raises settled down halted new.now.seen halted.reads_now))
 
 -- ---- the plain server
 
@@ -107,16 +113,16 @@ down_stands grants disk (Some core) held notes start history off stands = absurd
 never_on : Off ≢ On
 never_on same = absurd (cc)
 
-halted_stands : (old : Within) (new : DiskState) (below calls : ℕ) (start : Base) (history : List Happened) → RaisesHorizon → is_some old.core ≡ false → old.notes.is_settled ≡ true → IsSoundWithin old → MayForgetAt (state_in old) below → IsHalted below calls old.disk new
-    → StandsIn old start history → StandsIn (halted_from old new) start history
-halted_stands old new below calls start history raises off settled sound may halted stands =
+halted_stands : (old : Within) (new : DiskState) (stop : Option ℕ) (below calls : ℕ) (start : Base) (history : List Happened) → RaisesHorizon → is_some old.core ≡ false → old.notes.is_settled ≡ true → IsSoundWithin old → MayForgetAt (state_in old) below → IsHalted below calls old.disk new
+    → StandsIn old start history → StandsIn (halted_from old new stop) start history
+halted_stands old new stop below calls start history raises off settled sound may halted stands =
     let down = down_of old off sound in
     let read = down.leaves old.disk.now.seen down.reads_now in
     let came = stands_down old start history off stands old.disk.now.seen down.reads_now in
     let stored = subst (λ (r : Result Journal ℕ). IfOk r (IsStored came.server.core)) read.reads came.stands.stored in
     let power : came.server.power ≡ Off = subst (λ (b : Bool). HasPower false b came.server.power) settled came.stands.power in
     let forgets : MayForget came.server.core below = subst (λ (n : ℕ). below ≤ n + 1) (sym stored.source.incarnation) (may_forget old read.journal below read.reads may) in
-    down_stands old.grants new old.core old.held (halted_notes old.notes old.disk.stop) start history off
+    down_stands old.grants new old.core old.held (halted_notes old.notes stop) start history off
     (λ image leaves.
     let reached = reaches_in old new below calls raises settled down halted image leaves in
     let follow = follows came.server.core read.journal below reached.reached stored reached.part in
@@ -148,10 +154,10 @@ so_far_stored journal below old image reads reached =
     (subst (λ (s : Store). OpenedSoFar below (store_in (Ok journal) (record_count (records_of old))) s) (sym (store_is image reached.reached reached.reads))
     (part_stored journal below (record_count (records_of old)) (record_count (records_of image)) reached.reached reached.part))
 
-pub halts : (old : Within) (new : DiskState) (below calls : ℕ) → RaisesHorizon → old.notes.is_spent ≡ false → is_some old.core ≡ false → old.notes.is_settled ≡ true → IsSoundWithin old → MayForgetAt (state_in old) below → IsHalted below calls old.disk new
-    → Goes (SeesIn old) (SeesIn (halted_from old new)) (λ before after. StoppedOpening before below (LeavesIn (halted_from old new)) after)
-halts old new below calls raises live off settled sound may halted =
-    goes_from old (halted_from old new) (λ before after. StoppedOpening before below (LeavesIn (halted_from old new)) after) live (halts_soundly old new below calls raises off settled sound halted)
+pub halts : (old : Within) (new : DiskState) (stop : Option ℕ) (below calls : ℕ) → stop ≡ old.disk.stop → RaisesHorizon → old.notes.is_spent ≡ false → is_some old.core ≡ false → old.notes.is_settled ≡ true → IsSoundWithin old → MayForgetAt (state_in old) below → IsHalted below calls old.disk new
+    → Goes (SeesIn old) (SeesIn (halted_from old new stop)) (λ before after. StoppedOpening before below (LeavesIn (halted_from old new stop)) after)
+halts old new stop below calls same raises live off settled sound may halted =
+    goes_from old (halted_from old new stop) (λ before after. StoppedOpening before below (LeavesIn (halted_from old new stop)) after) live (halts_soundly old new stop below calls raises off settled sound halted)
     (λ start history stands.
     let down = down_of old off sound in
     let read = down.leaves old.disk.now.seen down.reads_now in
@@ -159,7 +165,7 @@ halts old new below calls raises live off settled sound may halted =
     (λ image leaves. so_far_stored read.journal below old.disk.now.seen image read.reads (reaches_in old new below calls raises settled down halted image leaves)) in
     record {
       later = history;
-      stands = halted_stands old new below calls start history raises off settled sound may halted stands;
+      stands = halted_stands old new stop below calls start history raises off settled sound may halted stands;
       does = record {
         keeps = record {
           start = refl;
@@ -170,7 +176,7 @@ halts old new below calls raises live off settled sound may halted =
           crashes = (refl, refl, refl);
           faults = never_falls old.disk.faults new.faults down.faults halted.faults;
           stop = λ none. still_none_by_less calls old.disk.stop new.stop halted.stop none;
-          kept = refl;
+          kept = same;
           calls = refl;
           is_spent = live;
         };

@@ -2,8 +2,8 @@
 use Rattle.std.proofs.Common.{◌≡◌, ◌∙◌, ◌+◌, ◌≤◌, ℕ, Bool, true, false, refl, sym, ap, subst, List, [], ◌∷◌, map, append-nil, arith}
 use Rattle.std.proofs.lemmas.Bool.Decides.{nat_tests}
 use Rattle.std.proofs.lemmas.List.Elements.{All-tail, All-head}
-use Rattle.std.specs.Prelude.{Option, Some, None, Result, Ok, IfOk, is_some, All, max, length, nat_lt, if◌then◌else◌}
-use Rattle.disk_model.specs.Disk.{DiskState}
+use Rattle.std.specs.Prelude.{Option, Some, None, Result, Ok, Err, IsErrOf, IfOk, is_some, All, max, length, nat_lt, if◌then◌else◌}
+use Rattle.disk_model.specs.Disk.{DiskState, Caused}
 use Rattle.redo_store.specs.Records.{records_of, record_count}
 use Rattle.svc_values.specs.declared.entry.Entry.{Entry}
 use Rattle.svc_values.specs.Identifiers.{is_of}
@@ -14,6 +14,8 @@ use Rattle.commit_log.specs.declared.journal.Journal.{Journal}
 use Rattle.commit_log.specs.Journals.{journal_of}
 use Rattle.commit_log.specs.Keeping.{EachKeeps}
 use Rattle.commit_log.specs.Rules.{sessions_of}
+use Rattle.server_model.specs.declared.fault.ServeFault.{ServeFault}
+use Rattle.server_model.specs.declared.fault.ServeFault.TheVariants as fault
 use Rattle.server_model.specs.Base.{Base}
 use Rattle.server_model.specs.Runs.{Happened, Server, Off, On, Runs, Then, Opens, MayForget}
 use Rattle.server_model.specs.Seen.{Store, HasPower}
@@ -21,7 +23,7 @@ use Rattle.server_model.specs.ServiceCalls.{Opened, SameLists, MayForget as MayF
 use Rattle.server_session.specs.declared.shared.Core.{Core}
 use Rattle.server_session.specs.Plain.{IsStored}
 use Rattle.server_session.specs.SeenSession.{SeenSession as Session}
-use Rattle.service_calls.specs.Kept.{Goes, HaveOneBase}
+use Rattle.service_calls.specs.Kept.{Goes}
 use Rattle.service_core.specs.declared.notes.Notes.{Notes}
 use Rattle.service_core.specs.Held.{Held, held_at}
 use Rattle.service_core.specs.Opening.{HasOpened}
@@ -87,8 +89,8 @@ unmade_next journal below session earlier =
 abbrev pub opened_notes : Notes → Option ℕ → Notes
 opened_notes notes stop = record notes { is_opened = true; sessions = 0; kept = stop; calls = notes.calls + 1 }
 
-abbrev pub opened_from : Within → DiskState → Core → Within
-opened_from old new core = record old { disk = new; core = Some core; notes = opened_notes old.notes old.disk.stop }
+abbrev pub opened_from : Within → DiskState → Core → Option ℕ → Within
+opened_from old new core stop = record old { disk = new; core = Some core; notes = opened_notes old.notes stop }
 
 -- what an opening says of its disk beside what it has opened
 pub record IsOpening (below : ℕ) (old : Within) (new : DiskState) (core : Core) : Type 0 where
@@ -96,12 +98,19 @@ pub record IsOpening (below : ℕ) (old : Within) (new : DiskState) (core : Core
   pub faults : new.faults ≡ old.disk.faults
   pub quiet : new.quiet ≡ old.disk.quiet
 
+pub is_opening : (below : ℕ) (old : Within) (new : DiskState) (core : Core) → HasOpened below old.grants old.disk core new → Caused (IsErrOf {T = Core} {E = ServeFault} (Ok core) fault.Stopped) old.disk new → IsOpening below old new core
+is_opening below old new core opened cause = record {
+  opened = opened;
+  faults = cause.uncounted (λ stopped. absurd (let e : ◌≡◌ {A = Result Core ServeFault} (Ok core) (Err fault.Stopped) = stopped in cc));
+  quiet = cause.still_quiet;
+}
+
 -- what it was opened from
 read_of : (old : Within) (down : IsDown old.disk old.held old.notes) → Reads down.base old.notes old.disk.now.seen
 read_of old down = down.leaves old.disk.now.seen down.reads_now
 
-pub opens_soundly : (old : Within) (new : DiskState) (core : Core) (below : ℕ) → EachKeeps → is_some old.core ≡ false → old.notes.is_settled ≡ true → IsSoundWithin old → IsOpening below old new core → IsSoundWithin (opened_from old new core)
-opens_soundly old new core below keeps off settled sound opening =
+pub opens_soundly : (old : Within) (new : DiskState) (core : Core) (stop : Option ℕ) (below : ℕ) → EachKeeps → is_some old.core ≡ false → old.notes.is_settled ≡ true → IsSoundWithin old → IsOpening below old new core → IsSoundWithin (opened_from old new core stop)
+opens_soundly old new core stop below keeps off settled sound opening =
     let down = down_of old off sound in
     let read = read_of old down in
     let opened = opening.opened in
@@ -126,9 +135,9 @@ opens_soundly old new core below keeps off settled sound opening =
       apart = λ connection other session another here there one. none_at old.held connection session down.none here;
     }
 
-opened_stands : (old : Within) (new : DiskState) (core : Core) (below : ℕ) (start : Base) (history : List Happened) → is_some old.core ≡ false → old.notes.is_settled ≡ true → IsSoundWithin old → MayForgetAt (state_in old) below → IsOpening below old new core
-    → StandsIn old start history → StandsIn (opened_from old new core) start history
-opened_stands old new core below start history off settled sound may opening stands =
+opened_stands : (old : Within) (new : DiskState) (core : Core) (stop : Option ℕ) (below : ℕ) (start : Base) (history : List Happened) → is_some old.core ≡ false → old.notes.is_settled ≡ true → IsSoundWithin old → MayForgetAt (state_in old) below → IsOpening below old new core
+    → StandsIn old start history → StandsIn (opened_from old new core stop) start history
+opened_stands old new core stop below start history off settled sound may opening stands =
     let down = down_of old off sound in
     let read = read_of old down in
     let came = stands_down old start history off stands old.disk.now.seen down.reads_now in
@@ -160,16 +169,16 @@ store_opened old new journal below reads later =
     (subst (λ (s : Store). IsOpenedStore (store_in (Ok journal) (record_count (records_of old))) below s) (sym (store_is new (opened_journal journal below) later))
     (record { lists = record { entries = refl; blocked = refl; alerts = refl }; incarnation = refl; horizon = refl }))
 
-pub opens : (old : Within) (new : DiskState) (core : Core) (below : ℕ) → EachKeeps → old.notes.is_spent ≡ false → is_some old.core ≡ false → old.notes.is_settled ≡ true → IsSoundWithin old → MayForgetAt (state_in old) below → IsOpening below old new core
-    → Goes (SeesIn old) (SeesIn (opened_from old new core)) (λ before after. Opened before below after)
-opens old new core below keeps live off settled sound may opening =
-    goes_from old (opened_from old new core) (λ before after. Opened before below after) live (opens_soundly old new core below keeps off settled sound opening)
+pub opens : (old : Within) (new : DiskState) (core : Core) (stop : Option ℕ) (below : ℕ) → stop ≡ old.disk.stop → EachKeeps → old.notes.is_spent ≡ false → is_some old.core ≡ false → old.notes.is_settled ≡ true → IsSoundWithin old → MayForgetAt (state_in old) below → IsOpening below old new core
+    → Goes (SeesIn old) (SeesIn (opened_from old new core stop)) (λ before after. Opened before below after)
+opens old new core stop below same keeps live off settled sound may opening =
+    goes_from old (opened_from old new core stop) (λ before after. Opened before below after) live (opens_soundly old new core stop below keeps off settled sound opening)
     (λ start history stands.
     let read = read_of old (down_of old off sound) in
     let store = store_opened old.disk.now.seen new.now.seen read.journal below read.reads (opened_reads read.journal below old.grants old.disk new core read.reads opening.opened) in
     record {
       later = history;
-      stands = opened_stands old new core below start history off settled sound may opening stands;
+      stands = opened_stands old new core stop below start history off settled sound may opening stands;
       does = record {
         keeps = record {
           start = refl;
@@ -180,7 +189,7 @@ opens old new core below keeps live off settled sound may opening =
           crashes = (refl, refl, refl);
           faults = omega (arith, opening.faults);
           stop = λ none. still_none _ old.disk.stop new.stop opening.opened.stop none;
-          kept = refl;
+          kept = same;
           calls = refl;
           is_spent = live;
         };
@@ -192,9 +201,3 @@ opens old new core below keeps live off settled sound may opening =
         cause = record { rose = λ stopped. absurd (let e : ◌≡◌ {A = Bool} false true = stopped in cc); quiet = λ is_quiet changed. absurd (changed opening.faults) };
       };
     })
-
-pub opens_on_base : (old : Within) (new : DiskState) (core : Core) (below : ℕ) → is_some old.core ≡ false → IsSoundWithin old → HasOpened below old.grants old.disk core new → HaveOneBase old.disk.now.seen new.now.seen
-opens_on_base old new core below off sound opened journal later reads reads_later =
-    let e : ◌≡◌ {A = Result Journal ℕ} (Ok (opened_journal journal below)) (Ok later) = sym (opened_reads journal below old.grants old.disk new core reads opened) ∙ reads_later in
-    let same : opened_journal journal below ≡ later = cc in
-    ap (λ (j : Journal). j.base) (sym same)

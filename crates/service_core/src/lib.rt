@@ -6,6 +6,7 @@ mod crash;
 mod notes;
 mod one;
 mod opening;
+mod up;
 
 pub use one::OneService;
 pub use opening::open;

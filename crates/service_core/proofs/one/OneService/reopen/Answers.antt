@@ -1,0 +1,67 @@
+use Rattle.std.proofs.Common.{◌≡◌, ◌∙◌, true, false, sym, ap, subst}
+use Rattle.std.specs.Prelude.{Err, is_some}
+use Rattle.server_model.specs.ServiceCalls.{MayForget, Opened, StoppedOpening}
+use Rattle.service_calls.specs.Kept.{Goes, HaveOneBase}
+use Rattle.service_core.specs.Seeing.{LeavesIn, SeesIn, bytes_in, state_in}
+use Rattle.service_core.specs.Opening.{stop_of}
+use Rattle.service_core.specs.Within.{Within}
+use Rattle.service_core.proofs.Opened.{is_opening, opened_from, opens_soundly, opens}
+use Rattle.service_core.proofs.Halted.{is_halted, halted_from, halts_soundly, halts_on_base, halts}
+use Rattle.service_core.proofs.one.OneService.reopen.Goals as goal
+
+pub invariant_of-self : goal.invariant_of-self
+invariant_of-self g c live =
+    let old : Within = record { grants = c.self.inside.grants; disk = g.D.Disk.state c.self.inside.disk; core = c.self.inside.core; held = c.self.inside.held; notes = c.self.inside.notes } in
+    let new = g.D.Disk.state c.open.new.disk in
+    let opening = is_opening c.args.horizon old new c.in-Ok.core c.in-Ok.ensures.opened c.in-Ok.ensures.cause in
+    let off : is_some old.core ≡ false = ap (λ (w : Within). is_some w.core) c.self.view_is ∙ c.requires.down.0 in
+    let settled : old.notes.is_settled ≡ true = ap (λ (w : Within). w.notes.is_settled) c.self.view_is ∙ c.requires.down.1 in
+    opens_soundly old new c.in-Ok.core c.left-self-inside.result c.args.horizon c.keeps_journal.ensures.keeps off settled (c.self.invariant live) opening
+
+pub returns-in-Ok-clause-opened : goal.returns-in-Ok-clause-opened
+returns-in-Ok-clause-opened g c =
+    let old : Within = record { grants = c.self.inside.grants; disk = g.D.Disk.state c.self.inside.disk; core = c.self.inside.core; held = c.self.inside.held; notes = c.self.inside.notes } in
+    let new = g.D.Disk.state c.open.new.disk in
+    let opening = is_opening c.args.horizon old new c.in-Ok.core c.in-Ok.ensures.opened c.in-Ok.ensures.cause in
+    let live = ap (λ (w : Within). w.notes.is_spent) c.self.view_is ∙ c.requires.live in
+    let off : is_some old.core ≡ false = ap (λ (w : Within). is_some w.core) c.self.view_is ∙ c.requires.down.0 in
+    let settled : old.notes.is_settled ≡ true = ap (λ (w : Within). w.notes.is_settled) c.self.view_is ∙ c.requires.down.1 in
+    let may = subst (λ (w : Within). MayForget (state_in w) c.args.horizon) (sym c.self.view_is) c.requires.may in
+    subst (λ (w : Within). Goes (SeesIn w) (SeesIn (opened_from old new c.in-Ok.core c.left-self-inside.result)) (λ before after. Opened before c.args.horizon after)) {x = old} c.self.view_is
+    (opens old new c.in-Ok.core c.left-self-inside.result c.args.horizon c.left-self-inside.ensures c.keeps_journal.ensures.keeps live off settled (c.self.invariant live) may opening)
+
+pub invariant_of-self-in-Err-Stopped : goal.invariant_of-self-in-Err-Stopped
+invariant_of-self-in-Err-Stopped g c live =
+    let old : Within = record { grants = c.self.inside.grants; disk = g.D.Disk.state c.self.inside.disk; core = c.self.inside.core; held = c.self.inside.held; notes = c.self.inside.notes } in
+    let new = g.D.Disk.state c.open.new.disk in
+    let said = c.in-Err-Stopped.ensures in
+    let halted = is_halted (Err c.in-Err-Stopped.field-0) c.args.horizon (stop_of c.args.horizon old.disk.now.seen) old.disk new (ap Err c.in-Err-Stopped.field-0-is) (g.met.D.Disk.reads_now c.open.new.disk) said.any_moment said.stop said.cause in
+    let off : is_some old.core ≡ false = ap (λ (w : Within). is_some w.core) c.self.view_is ∙ c.requires.down.0 in
+    let settled : old.notes.is_settled ≡ true = ap (λ (w : Within). w.notes.is_settled) c.self.view_is ∙ c.requires.down.1 in
+    halts_soundly old new c.left-self-inside.result c.args.horizon (stop_of c.args.horizon old.disk.now.seen) c.raises_horizon.ensures off settled (c.self.invariant live) halted
+
+pub returns-in-Err-Stopped-clause-opened : goal.returns-in-Err-Stopped-clause-opened
+returns-in-Err-Stopped-clause-opened g c =
+    let old : Within = record { grants = c.self.inside.grants; disk = g.D.Disk.state c.self.inside.disk; core = c.self.inside.core; held = c.self.inside.held; notes = c.self.inside.notes } in
+    let new = g.D.Disk.state c.open.new.disk in
+    let said = c.in-Err-Stopped.ensures in
+    let halted = is_halted (Err c.in-Err-Stopped.field-0) c.args.horizon (stop_of c.args.horizon old.disk.now.seen) old.disk new (ap Err c.in-Err-Stopped.field-0-is) (g.met.D.Disk.reads_now c.open.new.disk) said.any_moment said.stop said.cause in
+    let live = ap (λ (w : Within). w.notes.is_spent) c.self.view_is ∙ c.requires.live in
+    let off : is_some old.core ≡ false = ap (λ (w : Within). is_some w.core) c.self.view_is ∙ c.requires.down.0 in
+    let settled : old.notes.is_settled ≡ true = ap (λ (w : Within). w.notes.is_settled) c.self.view_is ∙ c.requires.down.1 in
+    let may = subst (λ (w : Within). MayForget (state_in w) c.args.horizon) (sym c.self.view_is) c.requires.may in
+    let after = halted_from old new c.left-self-inside.result in
+    subst (λ (w : Within). Goes (SeesIn w) (SeesIn after) (λ before seen. StoppedOpening before c.args.horizon (LeavesIn after) seen)) {x = old} c.self.view_is
+    (halts old new c.left-self-inside.result c.args.horizon (stop_of c.args.horizon old.disk.now.seen) c.left-self-inside.ensures c.raises_horizon.ensures live off settled (c.self.invariant live) may halted)
+
+pub returns-in-Err-Stopped-clause-base : goal.returns-in-Err-Stopped-clause-base
+returns-in-Err-Stopped-clause-base g c =
+    let old : Within = record { grants = c.self.inside.grants; disk = g.D.Disk.state c.self.inside.disk; core = c.self.inside.core; held = c.self.inside.held; notes = c.self.inside.notes } in
+    let new = g.D.Disk.state c.open.new.disk in
+    let said = c.in-Err-Stopped.ensures in
+    let halted = is_halted (Err c.in-Err-Stopped.field-0) c.args.horizon (stop_of c.args.horizon old.disk.now.seen) old.disk new (ap Err c.in-Err-Stopped.field-0-is) (g.met.D.Disk.reads_now c.open.new.disk) said.any_moment said.stop said.cause in
+    let live = ap (λ (w : Within). w.notes.is_spent) c.self.view_is ∙ c.requires.live in
+    let off : is_some old.core ≡ false = ap (λ (w : Within). is_some w.core) c.self.view_is ∙ c.requires.down.0 in
+    let settled : old.notes.is_settled ≡ true = ap (λ (w : Within). w.notes.is_settled) c.self.view_is ∙ c.requires.down.1 in
+    subst (λ (w : Within). HaveOneBase (bytes_in w) new.now.seen) {x = old} c.self.view_is
+    (halts_on_base old new c.left-self-inside.result c.args.horizon (stop_of c.args.horizon old.disk.now.seen) c.raises_horizon.ensures off settled (c.self.invariant live) halted)

@@ -1,0 +1,47 @@
+//! Openings of a service.
+ghost use Rattle.std.specs.Prelude.{◌≡◌, ◌<◌, ◌^◌, false, true};
+ghost use Rattle.server_model.specs.ServiceCalls.{MayForget, Opened, StoppedOpening};
+ghost use Rattle.service_calls.specs.Answers.{Ends, NotMemory};
+ghost use Rattle.service_calls.specs.Kept.{Goes, HaveOneBase};
+ghost use Rattle.service_core.specs.Seeing.{LeavesIn, SeesIn, bytes_in, state_in};
+
+use crate::one::OneService;
+use crate::opening::open;
+use commit_log::laws::{keeps_journal, raises_horizon};
+use disk_model::StopDisk;
+use server_model::ServeFault;
+use std::alloc::Global;
+
+impl<D: StopDisk> OneService<D> {
+    /// Opens the store for the next incarnation, and forgets the outcomes of all incarnations below
+    /// `horizon`. The cost is that of `open`.
+    pub(crate) fn reopen(&mut self, alloc: Global, horizon: u64) -> Result<(), ServeFault>
+        requires live { self.old.notes.is_spent ≡ false }
+        requires few { self.old.notes.calls < 2 ^ 48 }
+        requires down { ((state_in self.old).is_up ≡ false) × ((state_in self.old).is_settled ≡ true) }
+        requires may { MayForget (state_in self.old) horizon }
+        ensures opened { Ends result (λ done. Goes (SeesIn self.old) (SeesIn self.new) (λ old new. Opened old horizon new)) (Goes (SeesIn self.old) (SeesIn self.new) (λ old new. StoppedOpening old horizon (LeavesIn self.new) new)) }
+        ensures base { NotMemory result (HaveOneBase (bytes_in self.old) (bytes_in self.new)) }
+    {
+        keeps_journal();
+        raises_horizon();
+        self.notes.kept = self.disk.left();
+        self.notes.calls += 1;
+        match open(alloc, &mut self.disk, horizon, self.grants) {
+            Ok(core) => {
+                self.core = Some(core);
+                self.notes.is_opened = true;
+                self.notes.sessions = 0;
+                Ok(())
+            }
+            Err(ServeFault::Stopped) => {
+                self.notes.is_settled = false;
+                Err(ServeFault::Stopped)
+            }
+            Err(ServeFault::NoMemory) => {
+                self.notes.is_spent = true;
+                Err(ServeFault::NoMemory)
+            }
+        }
+    }
+}
