@@ -1,7 +1,8 @@
 -- What an event does to the clients and to what was sent: nothing, or one client steps and sends, or idle connections are closed.
-use Rattle.std.proofs.Common.{◌≡◌, refl, sym, ap, subst, ◌∙◌, Bool, true, false, ℕ, fold, List, [], ◌∷◌, ◌++◌, map, Option, Some, None, if◌then◌else◌}
-use Rattle.std.specs.Prelude.{unwrap_or, option_and_then}
+use Rattle.std.proofs.Common.{◌≡◌, refl, sym, ap, subst, ◌∙◌, Bool, true, false, ℕ, ◌+◌, ◌-◌, fold, List, [], ◌∷◌, ◌++◌, map, Option, Some, None, if◌then◌else◌}
+use Rattle.std.specs.Prelude.{nat_le, unwrap_or, option_and_then}
 use Rattle.std.proofs.lemmas.List.{map-append}
+use Rattle.svc_values.specs.declared.frame.Up.{Up}
 use Rattle.outage_schedule.specs.declared.item.Served.{Served}
 use Rattle.pool_core.specs.Slots.{Slots, after_take}
 use Rattle.client_model.specs.declared.act.Act.{Act}
@@ -9,6 +10,12 @@ use Rattle.client_model.specs.declared.act.Hold.{Hold}
 use Rattle.client_model.specs.declared.act.Hold.TheVariants as hold
 use Rattle.client_model.specs.declared.input.Input.{Input}
 use Rattle.client_model.specs.declared.input.Input.TheVariants.{Waiting, Lent, Opened, TryFailed, Took, Gone}
+use Rattle.client_model.specs.declared.input.Wants.{Wants}
+use Rattle.client_model.specs.declared.input.Wants.TheVariants as wants
+use Rattle.client_model.specs.declared.act.Failed.TheVariants.{Retries, PoolWait}
+use Rattle.client_model.specs.Conversation.{may_come}
+use Rattle.client_model.specs.Talk.{wants_of, stands, quiet, fails, with_tried, lost_of, on_waiting, waits_from, on_try_failed}
+use Rattle.client_model.specs.Terms.{Talk, Queued, Seeking}
 use Rattle.world_model.specs.Settings.{Setting}
 use Rattle.world_model.specs.Frames.{Sent}
 use Rattle.world_model.specs.Links.{Link, new_link, with_link, changed, sends, takes}
@@ -25,7 +32,7 @@ use Rattle.world_model.specs.Serving.{handled, after_front}
 use Rattle.world_model.proofs.AllClients.{stepped_client, client_set, client_twice}
 use Rattle.world_model.proofs.AllLinks.{front_is, open_is}
 use Rattle.world_model.proofs.Lookups.{handled_said, fallen_said, cut_said}
-use Rattle.world_model.proofs.Moves.{next_number, with_new, takes_one, Goes, Rests, Waits, Lends, Opens, Fails, Takes, Loses, ServesLast, LastNone, LastStopped, LastServed, Happens, Nothing, IsStep, Serves, Cuts, Reaps, Crashes, OpensUp, StopsOpening, Ticks, RunsOutside, Asks, Drains}
+use Rattle.world_model.proofs.Moves.{Tries, FromQueue, Again, IsDoing, next_number, with_new, takes_one, Goes, Rests, Waits, Lends, Opens, Fails, Takes, Loses, ServesLast, LastNone, LastStopped, LastServed, Happens, Nothing, IsStep, Serves, Cuts, Reaps, Crashes, OpensUp, StopsOpening, Ticks, RunsOutside, Asks, Drains}
 use Rattle.world_model.proofs.SentLists.{sent_lists, spoken, with_same, changed_same, mapped_same, changed_more, sends_more, each_more}
 
 -- the loss of the connection may be heard in the same event
@@ -47,6 +54,8 @@ pub record HasStepped (setting : Setting) (m : Machine) (number : ℕ) (n : Mach
   pub connection : Option ℕ
   pub input : Input
   pub connects : connected before.connection input ≡ connection
+  pub may : may_come false (wants_of setting.terms before.talk m.tick) input ≡ true
+  pub silent : connection ≡ None → (step_at setting.terms m.event m.tick (record before { connection = connection }) input).done.act.send ≡ []
   pub after : Doing
   pub held : Hold
   pub goes_on : GoesOn setting (heard setting.terms m.event m.tick (record before { connection = connection }) input) (step_at setting.terms m.event m.tick (record before { connection = connection }) input).done.act.hold after held
@@ -74,11 +83,15 @@ module _ (setting : Setting) (m : Machine) (number : ℕ) where
   abbrev SaidOf : Slots → Doing → Option ℕ → Input → List Sent
   SaidOf pool before connection input = map (sent_by (owner_at m number) (call_in (FirstOf before connection input).talk.phase)) (frames_of pool (unwrap_or connection 0) (ActOf before connection input))
 
+  -- the input may come, and where there is no connection nothing is said
+  abbrev Heard : Doing → Option ℕ → Input → Type 0
+  Heard before connection input = (may_come false (wants_of setting.terms before.talk m.tick) input ≡ true) × (connection ≡ None → (ActOf before connection input).send ≡ [])
+
   one_step : (n : Machine) (client : Client) (before : Doing) (connection : Option ℕ) (input : Input) (pool : Slots) (links : List Link) → client_at m.clients number ≡ Some client
-      → doing_of setting.terms m.event m.tick client ≡ Some before → connected before.connection input ≡ connection → Grows (sent_lists m.links) (sent_lists links)
+      → doing_of setting.terms m.event m.tick client ≡ Some before → connected before.connection input ≡ connection → Heard before connection input → Grows (sent_lists m.links) (sent_lists links)
       → n.clients ≡ after_step setting m.clients number (FirstOf before connection input) (ActOf before connection input).hold
       → n.links ≡ changed (sends m.event (SaidOf pool before connection input)) links (unwrap_or connection 0) → HasStepped setting m number n
-  one_step n client before connection input pool links here does connects grows clients said = record {
+  one_step n client before connection input pool links here does connects hears grows clients said = record {
     client = client;
     here = here;
     before = before;
@@ -86,6 +99,8 @@ module _ (setting : Setting) (m : Machine) (number : ℕ) where
     connection = connection;
     input = input;
     connects = connects;
+    may = hears.0;
+    silent = hears.1;
     after = FirstOf before connection input;
     held = (ActOf before connection input).hold;
     goes_on = AtOnce;
@@ -104,11 +119,11 @@ module _ (setting : Setting) (m : Machine) (number : ℕ) where
   lost_links a ended (Some doing) = refl
 
   unless_step : (a : Machine) (ended : Option ℕ) (alive : Bool) (client : Client) (before : Doing) (connection : Option ℕ) (input : Input) (pool : Slots) (links : List Link) → client_at m.clients number ≡ Some client
-      → doing_of setting.terms m.event m.tick client ≡ Some before → connected before.connection input ≡ connection → Grows (sent_lists m.links) (sent_lists links)
+      → doing_of setting.terms m.event m.tick client ≡ Some before → connected before.connection input ≡ connection → Heard before connection input → Grows (sent_lists m.links) (sent_lists links)
       → a.clients ≡ after_step setting m.clients number (FirstOf before connection input) (ActOf before connection input).hold
       → a.links ≡ changed (sends m.event (SaidOf pool before connection input)) links (unwrap_or connection 0) → HasStepped setting m number (if alive then a else lost_at_once setting a number ended (doing_at a.clients number))
-  unless_step a ended true client before connection input pool links here does connects grows clients said = one_step a client before connection input pool links here does connects grows clients said
-  unless_step a ended false client before connection input pool links here does connects grows clients said = by (ActOf before connection input).hold refl
+  unless_step a ended true client before connection input pool links here does connects hears grows clients said = one_step a client before connection input pool links here does connects hears grows clients said
+  unless_step a ended false client before connection input pool links here does connects hears grows clients said = by (ActOf before connection input).hold refl
     where
       first : Doing
       first = FirstOf before connection input
@@ -125,7 +140,7 @@ module _ (setting : Setting) (m : Machine) (number : ℕ) where
       over : (held : Hold) → (ActOf before connection input).hold ≡ held → (after_hold setting number client first held).now ≡ None → HasStepped setting m number (lost_at_once setting a number ended (doing_at a.clients number))
       over held is none =
           subst (λ (one : Option Doing). HasStepped setting m number (lost_at_once setting a number ended one)) (sym (doing_now held is ∙ none))
-          (one_step a client before connection input pool links here does connects grows clients said)
+          (one_step a client before connection input pool links here does connects hears grows clients said)
 
       gone : Doing
       gone = heard setting.terms a.event a.tick (record first { connection = None }) (Gone (unwrap_or ended 0))
@@ -144,6 +159,8 @@ module _ (setting : Setting) (m : Machine) (number : ℕ) where
             connection = connection;
             input = input;
             connects = connects;
+            may = hears.0;
+            silent = hears.1;
             after = gone;
             held = hold.Keep;
             goes_on = LostToo a.event a.tick (unwrap_or ended 0) is;
@@ -166,22 +183,55 @@ module _ (setting : Setting) (m : Machine) where
   grown : (links : List Link) → sent_lists links ≡ sent_lists m.links → Grows (sent_lists m.links) (sent_lists links)
   grown links same = subst (λ (lists : List (List Sent)). Grows (sent_lists m.links) lists) (sym same) AsBefore
 
+  -- it is wanted
+  may_so : (doing : Doing) (wanted : Wants) (input : Input) → wants_of setting.terms doing.talk m.tick ≡ wanted → may_come false wanted input ≡ true → may_come false (wants_of setting.terms doing.talk m.tick) input ≡ true
+  may_so doing wanted input wants may = subst (λ (w : Wants). may_come false w input ≡ true) (sym wants) may
+
+  tries_may : (number connection : ℕ) (doing : Doing) (wanted : Wants) (pool : Slots) → IsDoing setting m number doing wanted → Tries m number wanted pool
+      → (may_come false (wants_of setting.terms doing.talk m.tick) (Opened connection) ≡ true) × (may_come false (wants_of setting.terms doing.talk m.tick) TryFailed ≡ true)
+  tries_may number connection doing _ _ is (FromQueue answer) = (may_so doing wants.Slot (Opened connection) is.wants refl, may_so doing wants.Slot TryFailed is.wants refl)
+  tries_may number connection doing _ _ is Again = (may_so doing wants.Try (Opened connection) is.wants refl, may_so doing wants.Try TryFailed is.wants refl)
+
+  waited_silent : (talk : Talk) (from now : ℕ) → (on_waiting setting.terms talk from now).1.send ≡ []
+  waited_silent talk from now = by (nat_le setting.terms.limits.wait (now - from))
+    where
+      by : (long : Bool) → (if long then fails talk false None (PoolWait from now) else (stands talk (Queued (Some from)), quiet)).1.send ≡ []
+      by true = refl
+      by false = refl
+
+  tried_silent : (talk : Talk) (now : ℕ) → (on_try_failed setting.terms talk now).1.send ≡ []
+  tried_silent talk now = by (nat_le setting.terms.limits.retries (talk.tries + 1))
+    where
+      by : (many : Bool) → (if many then fails (with_tried talk now) false None (Retries (talk.tries + 1)) else (stands (with_tried talk now) (Seeking (lost_of talk.phase)), quiet)).1.send ≡ []
+      by true = refl
+      by false = refl
+
+  some_none : (connection : Option ℕ) (number : ℕ) (send : List Up) → connection ≡ Some number → connection ≡ None → send ≡ []
+  some_none connection number send has none = absurd (let never : ⊥ = cc in never)
+
   goes_step : (number : ℕ) (a : Machine) → Goes setting m number a → MayStep setting m a
   goes_step number _ Rests = Still refl refl
   goes_step number _ (Waits doing is answer) =
-      Stepped number (one_step setting m number _ is.client doing doing.connection Waiting (after_take m.pool number) m.links is.here is.does refl AsBefore refl refl)
+      Stepped number (one_step setting m number _ is.client doing doing.connection Waiting (after_take m.pool number) m.links is.here is.does refl
+      (may_so doing wants.Slot Waiting is.wants refl, λ none. waited_silent doing.talk (waits_from doing.talk.phase m.tick) m.tick) AsBefore refl refl)
   goes_step number _ (Lends doing connection link ltxid is answer there held) =
-      Stepped number (one_step setting m number _ is.client doing (Some connection) (Lent connection ltxid) (after_take m.pool number) m.links is.here is.does refl AsBefore refl refl)
+      Stepped number (one_step setting m number _ is.client doing (Some connection) (Lent connection ltxid) (after_take m.pool number) m.links is.here is.does refl
+      (may_so doing wants.Slot (Lent connection ltxid) is.wants refl, some_none (Some connection) connection _ refl) AsBefore refl refl)
   goes_step number _ (Opens doing wanted pool is tries runs) =
       Stepped number (one_step setting m number _ is.client doing (Some (next_number m)) (Opened (next_number m)) (with_new m pool).pool (m.links ++ new_link ∷ []) is.here is.does refl
+      ((tries_may number (next_number m) doing wanted pool is tries).0, some_none (Some (next_number m)) (next_number m) _ refl)
       (subst (λ (lists : List (List Sent)). Grows (sent_lists m.links) lists) (sym (map-append (λ (link : Link). link.sent) m.links (new_link ∷ []))) OneMore) refl refl)
-  goes_step number _ (Fails doing wanted pool is tries down) = Stepped number (one_step setting m number _ is.client doing doing.connection TryFailed pool m.links is.here is.does refl AsBefore refl refl)
+  goes_step number _ (Fails doing wanted pool is tries down) =
+      Stepped number (one_step setting m number _ is.client doing doing.connection TryFailed pool m.links is.here is.does refl
+      ((tries_may number 0 doing wanted pool is tries).1, λ none. tried_silent doing.talk m.tick) AsBefore refl refl)
   goes_step number _ (Takes doing connection link reply left is on down) =
       let taken : Link = takes (Took reply.frame link.is_open) reply left link in
       Stepped number (unless_step setting m number (takes_one setting m number doing connection link reply left) link.ended link.is_open is.client doing doing.connection (Took reply.frame link.is_open) m.pool
-      (with_link m.links connection taken) is.here is.does refl (grown (with_link m.links connection taken) (with_same m.links connection link taken on.there refl)) refl refl)
+      (with_link m.links connection taken) is.here is.does refl (may_so doing wants.Frame (Took reply.frame link.is_open) is.wants refl, some_none doing.connection connection _ on.has)
+      (grown (with_link m.links connection taken) (with_same m.links connection link taken on.there refl)) refl refl)
   goes_step number _ (Loses doing connection link is on none closed) =
-      Stepped number (one_step setting m number _ is.client doing None (Gone (unwrap_or link.ended 0)) m.pool m.links is.here is.does refl AsBefore refl refl)
+      Stepped number (one_step setting m number _ is.client doing None (Gone (unwrap_or link.ended 0)) m.pool m.links is.here is.does refl
+      (may_so doing wants.Frame (Gone (unwrap_or link.ended 0)) is.wants refl, λ never. refl) AsBefore refl refl)
 
   fallen_same : (links : List Link) → sent_lists (map (fallen_link m.event) links) ≡ sent_lists links
   fallen_same links = mapped_same (fallen_link m.event) links (λ link. (fallen_said m.event link).sent)

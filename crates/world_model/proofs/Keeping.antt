@@ -110,10 +110,10 @@ abbrev pub Counts : Account → Type 0
 Counts account = account.reason ≡ None → length account.since_purge + recorded_from (map shown_call account.shown) ≡ length account.shown
 
 -- of what is shown, recorded and told against a replay
-record IsSame (a b : Account) : Type 0 where
-  shown : b.shown ≡ a.shown
-  since : b.since_purge ≡ a.since_purge
-  reason : b.reason ≡ a.reason
+pub record IsSame (a b : Account) : Type 0 where
+  pub shown : b.shown ≡ a.shown
+  pub since : b.since_purge ≡ a.since_purge
+  pub reason : b.reason ≡ a.reason
 
 same_counts : (a b : Account) → IsSame a b → Counts a → Counts b
 same_counts a b same counts none =
@@ -129,7 +129,7 @@ reply_same : (terms : Terms) (a : Account) (answers : List Answer) (ltxid : _) (
 reply_same terms a answers ltxid None = record { shown = refl; since = refl; reason = refl }
 reply_same terms a answers ltxid (Some shown) = record { shown = refl; since = refl; reason = refl }
 
-hears_same : (terms : Terms) (a : Account) (input : Input) (now : ℕ) (shown : Option Shown) → IsSame a (hears terms a input now shown)
+pub hears_same : (terms : Terms) (a : Account) (input : Input) (now : ℕ) (shown : Option Shown) → IsSame a (hears terms a input now shown)
 hears_same terms a Start now shown = record { shown = refl; since = refl; reason = refl }
 hears_same terms a Waiting now shown = record { shown = refl; since = refl; reason = refl }
 hears_same terms a (Lent connection ltxid) now shown = record { shown = refl; since = refl; reason = refl }
@@ -149,7 +149,7 @@ second_none : {A : Type 0} (one other : Option A) → option_or one other ≡ No
 second_none None other is = is
 second_none (Some x) other is = absurd (let none : ⊥ = cc in none)
 
-begins_same : (a : Account) (begun : Bool) → IsSame a (begins a begun)
+pub begins_same : (a : Account) (begun : Bool) → IsSame a (begins a begun)
 begins_same a true = record { shown = refl; since = refl; reason = refl }
 begins_same a false = record { shown = refl; since = refl; reason = refl }
 

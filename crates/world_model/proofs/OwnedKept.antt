@@ -12,8 +12,8 @@ use Rattle.client_model.specs.declared.input.Input.{Input}
 use Rattle.client_model.specs.declared.input.Input.TheVariants.{Start, Waiting, Lent, Opened, TryFailed, Took, Gone}
 use Rattle.world_model.specs.Settings.{Setting}
 use Rattle.world_model.specs.Acting.{sent_by, owner_at}
-use Rattle.world_model.specs.Clients.{Step, Client, step_at}
-use Rattle.world_model.specs.Conversing.{AllTalk, Talks, connected, connection_after}
+use Rattle.world_model.specs.Clients.{Step, Client}
+use Rattle.world_model.specs.Conversing.{AllTalk, connected, connection_after}
 use Rattle.world_model.specs.Frames.{Owner, Sent}
 use Rattle.world_model.specs.KeptLaws.{IsKept}
 use Rattle.world_model.specs.Links.{Link}
@@ -25,11 +25,11 @@ use Rattle.world_model.specs.Traced.{Course, courses_of_clients}
 use Rattle.world_model.specs.Words.{brought, held_in}
 use Rattle.world_model.proofs.AllLists.{append_all, weaker_all}
 use Rattle.world_model.proofs.ClientSteps.{HasStepped, Grows, AsBefore, OneMore, MayStep, Still, Closed, Stepped, happens_step}
-use Rattle.world_model.proofs.CoursesGrow.{HasMore, more_after, some_step, some_mine, or_left}
+use Rattle.world_model.proofs.CoursesGrow.{HasMore, some_step, some_mine, or_left}
 use Rattle.world_model.proofs.Happened.{Followed, follow_happens, at_event}
 use Rattle.world_model.proofs.SameSelf.{owner_self}
 use Rattle.world_model.proofs.SentLists.{sent_lists, spoken_at, spoken}
-use Rattle.world_model.proofs.TalksKept.{talks_at, does_talk}
+use Rattle.world_model.proofs.StepFacts.{first_step, step_owner, before_talks, behind_first}
 use Rattle.world_model.proofs.Tests.{eq_to}
 
 -- HELD --------------------------------------------------------------------------------------------
@@ -166,25 +166,15 @@ module _ (setting : Setting) (m : Machine) (talks : AllTalk setting.terms m.clie
   abbrev new_courses : List Course
   new_courses = courses_of_clients setting 1 n.clients
 
-  owner_is : owner_at m number ≡ record { client = number; place = length step.client.past }
-  owner_is = ap (λ (found : Option Client). record { client = number; place = option_map_or (λ (one : Client). length one.past) found 0 }) step.here
-
-  before_talks : Talks setting.terms false step.before
-  before_talks = does_talk setting.terms m.event m.tick step.client.now step.client.next step.before step.does (talks_at setting.terms m.clients number step.client talks step.here).1
-
-  abbrev first_step : Step
-  first_step = step_at setting.terms m.event m.tick (record step.before { connection = step.connection }) step.input
-
-  first_more : HasMore (step.before.steps ++ first_step ∷ []) step.after.steps
-  first_more = more_after setting _ step.after _ step.held step.goes_on
-
   -- the connection on which it speaks was held
   speaks_held : (connection : ℕ) → step.connection ≡ Some connection → was_held connection step.after.steps ≡ true
   speaks_held connection is =
-      let first : List Step = step.before.steps ++ first_step ∷ [] in
+      let last : Step = first_step setting m talks number n step in
+      let first : List Step = step.before.steps ++ last ∷ [] in
+      let first_more : HasMore first step.after.steps = behind_first setting m talks number n step in
       let left : connection_after first ≡ Some connection =
-      fold-append (λ (had : Option ℕ) (one : Step). connected had one.done.input) None step.before.steps (first_step ∷ [])
-      ∙ (ap (λ (had : Option ℕ). connected had step.input) before_talks.has ∙ (step.connects ∙ is)) in
+      fold-append (λ (had : Option ℕ) (one : Step). connected had one.done.input) None step.before.steps (last ∷ [])
+      ∙ (ap (λ (had : Option ℕ). connected had step.input) (before_talks setting m talks number n step).has ∙ (step.connects ∙ is)) in
       subst (λ (steps : List Step). was_held connection steps ≡ true) (sym first_more.are)
       (held_more connection first first_more.more (left_held None connection first (λ one never same. let none : ⊥ = cc in none) left))
 
@@ -194,7 +184,7 @@ module _ (setting : Setting) (m : Machine) (talks : AllTalk setting.terms m.clie
   now_held : (connection : ℕ) → step.connection ≡ Some connection → is_held_by new_courses connection (owner_at m number) ≡ true
   now_held connection is =
       let own : Owner = record { client = number; place = length step.client.past } in
-      subst (λ (owner : Owner). is_held_by new_courses connection owner ≡ true) (sym owner_is)
+      subst (λ (owner : Owner). is_held_by new_courses connection owner ≡ true) (sym (step_owner setting m talks number n step))
       (some_mine setting (holds_it connection own) (holds_more connection own) m number n step (and_from (same_owner own own) (was_held connection step.after.steps) (owner_self own) (speaks_held connection is)))
 
   stepped_owned : owned_rightly old_courses 1 m.links ≡ true → owned_rightly new_courses 1 n.links ≡ true
