@@ -6,3 +6,5 @@ mod Working
 mod Steps
 mod StartRows
 mod Reports
+mod RowsKept
+mod PartsWritten

@@ -10,3 +10,4 @@ pub mod ReportText
 pub mod Run
 pub mod Start
 pub mod Statuses
+pub mod Tables

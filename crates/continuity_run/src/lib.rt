@@ -14,10 +14,10 @@ mod writing;
 pub use memory::{MemSink, MemSource};
 pub use outside::{Failed, Sink, Source};
 pub use report::{
-    Report, ReportEntries, ReportTable, ReportTables, RequestReport, ShownCall, ShownCalls,
+    Ran, Report, ReportEntries, ReportTable, ReportTables, RequestReport, ShownCall, ShownCalls,
     Transcript, Transcripts,
 };
 pub use run::run_document;
 pub use top::{Status, continuity};
 pub use whole::{ReadError, read_to_limit, write_whole};
-pub use writing::{report_bytes, report_value};
+pub use writing::report_bytes;

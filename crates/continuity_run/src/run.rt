@@ -9,9 +9,9 @@ ghost use Rattle.continuity_run.specs.Progress.{run_seen, shape_now, IsAlone, Ha
 ghost use Rattle.continuity_run.specs.Run.{run_of, start_run, identifier as identifier_def};
 
 use crate::report::{
-    Report, ReportEntries, RequestReport, ShownCall, ShownCalls, Transcript, Transcripts,
+    Ran, ReportEntries, RequestReport, ShownCall, ShownCalls, Transcript, Transcripts,
 };
-use crate::start::{start_of, tables_at};
+use crate::start::start_of;
 use outage_schedule::{Client, Document, Request};
 use std::alloc::Global;
 use stmt_meaning::ends_refused;
@@ -259,9 +259,9 @@ fn transcripts_of(
     Ok(transcripts)
 }
 
-/// The report of a document. A call costs the rows of the tables that it reads whole, and for each row
-/// that it reads or writes by its key the logarithm of their number.
-pub fn run_document(alloc: Global, document: Document) -> Result<Report, NoMemory>
+/// The run of a document, which its report is written from. A call costs the rows of the tables that it reads
+/// whole, and for each row that it reads or writes by its key the logarithm of their number.
+pub fn run_document(alloc: Global, document: Document) -> Result<Ran, NoMemory>
     requires document { IsDocument document }
     requires plain { IsTrue (is_plain document) }
     ensures { IfOk result (Headline document) }
@@ -274,20 +274,16 @@ pub fn run_document(alloc: Global, document: Document) -> Result<Report, NoMemor
     let tables = start_of(alloc, tables)?;
     let calls = calls_of(clients.as_slice());
     let progress = run_calls(alloc, tables, calls)?;
-    let tables = tables_at(alloc, &progress.tables)?;
     let Progress {
-        tables: _tables,
+        tables,
         transaction: _transaction,
         settings: _settings,
         began: _began,
         entries,
         shown,
     } = progress;
-    Ok(Report {
-        clients: transcripts_of(alloc, clients.as_slice(), shown)?,
-        entries,
-        tables,
-    })
+    let transcripts = transcripts_of(alloc, clients.as_slice(), shown)?;
+    Ok(Ran::new(transcripts, entries, tables))
 }
 
 /// Puts the item last in a list without a limit.

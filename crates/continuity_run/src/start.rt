@@ -1,14 +1,12 @@
-//! What a run begins with, and the tables that it ends with.
+//! What a run begins with.
 ghost use Rattle.std.specs.Prelude.{◌≡◌, ◌++◌, ◌≤◌, IfOk, OnOk, IsTrue, map, length};
 ghost use Rattle.std.specs.List.{list_all};
 ghost use Rattle.std.specs.Str.{bytes_eq};
 ghost use Rattle.table_store.specs.Given.{plain};
 ghost use Rattle.doc_reader.specs.Keeping.{is_table, schema_in};
 ghost use Rattle.json_form.specs.Arrays.{have_distinct_keys};
-ghost use Rattle.continuity_run.specs.Headline.{table_at as table_at_def};
 ghost use Rattle.continuity_run.specs.Start.{plain_row, rows_of, start_of as start_def};
 
-use crate::report::{ReportTable, ReportTables};
 use outage_schedule::{DocRows, DocTable, DocTables};
 use std::alloc::Global;
 use svc_values::{Name, NoMemory, Schema, Schemas, TryCopy};
@@ -59,24 +57,4 @@ pub fn start_of(alloc: Global, tables: DocTables) -> Result<Tables, NoMemory>
 {
     let (schemas, rows) = gathered(alloc, tables)?;
     Tables::new(alloc, Schemas::from_vec(schemas), rows)
-}
-
-fn table_at(alloc: Global, tables: &Tables, name: &Name) -> Result<ReportTable, NoMemory>
-    ensures { IfOk result (λ one. one ≡ table_at_def tables.now.rows name.now) }
-{
-    Ok(ReportTable {
-        name: name.copy(alloc)?,
-        rows: DocRows::from_vec(tables.rows(name)?),
-    })
-}
-
-/// The rows of each table, in the order of the declarations. Linear in the rows.
-pub fn tables_at(alloc: Global, tables: &Tables) -> Result<ReportTables, NoMemory>
-    ensures { IfOk result (λ all. all ≡ map (λ schema. table_at_def tables.now.rows schema.name) tables.now.schemas) }
-{
-    let mut all = Vec::new(alloc);
-    for schema in tables.schemas().as_slice() {
-        all.push(table_at(alloc, tables, &schema.name)?)?;
-    }
-    Ok(ReportTables::from_vec(all))
 }

@@ -68,18 +68,18 @@ fn report_text(alloc: Global, document: Document) -> Result<Vec<u8>, NoMemory>
     requires plain { IsTrue (is_plain_def document) }
     ensures { IfOk result (λ text. IsReported document text.items) }
 {
-    let report = run_document(alloc, document)?;
-    let text = report_bytes(alloc, &report)?;
+    let ran = run_document(alloc, document)?;
+    let text = report_bytes(alloc, &ran)?;
     Ok(text)
 }
 
-/// The document that the bytes are, if it is one that is run.
-fn plain_document(alloc: Global, bytes: &[u8]) -> Result<Document, DocFault>
-    ensures read { Gives result (run_at bytes.now) }
+/// The document that the bytes are, if it is one that is run. The bytes are given up.
+fn plain_document(alloc: Global, bytes: Vec<u8>) -> Result<Document, DocFault>
+    ensures read { Gives result (run_at bytes.items) }
     ensures document { IfOk result IsDocument }
     ensures plain { IfOk result (λ document. IsTrue (is_plain_def document)) }
 {
-    let document = read_document(alloc, bytes)?;
+    let document = read_document(alloc, bytes.as_slice())?;
     if !is_plain(&document) {
         return Err(DocFault::here(alloc, DocCode::NotBuilt));
     }
@@ -87,9 +87,9 @@ fn plain_document(alloc: Global, bytes: &[u8]) -> Result<Document, DocFault>
 }
 
 /// The text of the report of the document that the bytes are.
-fn answer(alloc: Global, bytes: &[u8]) -> Result<Vec<u8>, DocFault>
-    ensures answered { IfOk result (λ text. IsAnswer bytes.now text.items) }
-    ensures refused { IfErr result (λ e. Fails e (run_at bytes.now)) }
+fn answer(alloc: Global, bytes: Vec<u8>) -> Result<Vec<u8>, DocFault>
+    ensures answered { IfOk result (λ text. IsAnswer bytes.items text.items) }
+    ensures refused { IfErr result (λ e. Fails e (run_at bytes.items)) }
 {
     let document = plain_document(alloc, bytes)?;
     match report_text(alloc, document) {
@@ -106,11 +106,11 @@ fn read_input<S: Source>(alloc: Global, source: &mut S) -> Result<Vec<u8>, ReadE
 }
 
 /// Judges the bytes, and writes the report.
-fn respond<K: Sink>(alloc: Global, bytes: &[u8], sink: &mut K) -> Status
-    ensures done { result ≡ Status.Done → Writes bytes.now (K.held sink.old) (K.held sink.new) }
-    ensures cut { result ≡ Status.Write → WritesFront bytes.now (K.held sink.old) (K.held sink.new) }
+fn respond<K: Sink>(alloc: Global, bytes: Vec<u8>, sink: &mut K) -> Status
+    ensures done { result ≡ Status.Done → Writes bytes.items (K.held sink.old) (K.held sink.new) }
+    ensures cut { result ≡ Status.Write → WritesFront bytes.items (K.held sink.old) (K.held sink.new) }
     ensures write { result ≡ Status.Write → Rose (K.faults sink.old) (K.faults sink.new) }
-    ensures document { IfDocument result (λ fault. run_at bytes.now ≡ Err fault) }
+    ensures document { IfDocument result (λ fault. run_at bytes.items ≡ Err fault) }
     ensures untouched { IsBefore result → sink.new ≡ sink.old }
     ensures others { IsReply result }
 {
@@ -161,5 +161,5 @@ pub fn continuity<S: Source, K: Sink>(
         Err(ReadError::NoMemory) => return Status::NoMemory,
         Err(ReadError::Failed) => return Status::Read,
     };
-    respond(alloc, bytes.as_slice(), sink)
+    respond(alloc, bytes, sink)
 }

@@ -1,10 +1,10 @@
 //! Writing of reports as JSON.
 
 mod answer;
-mod array;
 mod call;
 mod report;
 mod statement;
+mod table;
 mod value;
 
-pub use report::{report_bytes, report_value};
+pub use report::report_bytes;

@@ -9,3 +9,4 @@ pub mod Readings
 pub mod TakenOut
 pub mod Utf8
 pub mod WrittenItems
+pub mod WrittenTokens

@@ -2,6 +2,8 @@
 use Rattle.json_form.proofs.TakenOut.{has_after, required_after, optional_after, part_after}
 -- items without a float, and one more behind them without one
 pub use Rattle.json_form.proofs.NoFloats.{none_with_item}
+-- the tokens of an array, item by item
+pub use Rattle.json_form.proofs.WrittenTokens.{each_written, array_written}
 -- what a reading did that gave a value, one step after the other
 pub use Rattle.json_form.proofs.Readings.{after, given, ok_is, within_ok, passed, part_read, optional_keeps, new_key}
 -- the items of an array that was read: how many, and what they keep to

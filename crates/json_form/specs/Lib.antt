@@ -4,5 +4,6 @@ pub mod Faults
 pub mod Objects
 pub mod Pointers
 pub mod Texts
+pub mod Tokens
 pub mod Values
 pub mod Writing

@@ -11,6 +11,7 @@ mod parts;
 mod pointer;
 mod reader;
 mod step;
+mod text;
 mod word;
 mod written;
 
@@ -24,5 +25,6 @@ pub use parts::{Parts, fixed};
 pub use pointer::Pointer;
 pub use reader::{Flag, Integer, Reader, Whole};
 pub use step::{within, within_item};
+pub use text::{TextWriter, Writer};
 pub use word::{chosen, head_from, text_from, word_from};
-pub use written::{ArrayWriter, Mover, ObjectWriter, Writer, Written};
+pub use written::{ArrayWriter, Mover, ObjectWriter, Written};

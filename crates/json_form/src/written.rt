@@ -14,17 +14,6 @@ pub struct Written {
     pub ghost no_float: { has_float (view value) ≡ false },
 }
 
-/// Writes a `T` as a JSON value. The writer is a unit struct, or holds a setting.
-pub trait Writer<T> {
-    ghost use Rattle.serde_json.specs.Data.{Data};
-
-    ghost writes: { Self → T → Data };
-
-    /// What the item is written as.
-    fn write(&self, alloc: Global, item: &T) -> Result<Written, AllocError>
-        ensures { IfOk result (λ w. view w.value ≡ writes self.now item.now) };
-}
-
 /// Writes a `T` as a JSON value and gives the `T` up, so that its texts are moved and nothing is held
 /// twice. The mover is a unit struct, or holds a setting.
 pub trait Mover<T> {
@@ -112,21 +101,6 @@ impl Written {
             items.push(one)?;
         }
         Ok(items.written())
-    }
-
-    /// The array of what each item is written as. The cost is that of the items.
-    pub fn array_of<T, W: Writer<T>>(
-        alloc: Global,
-        items: &[T],
-        writer: &W,
-    ) -> Result<Written, AllocError>
-        ensures { IfOk result (λ w. view w.value ≡ list_by (W.Writer.writes writer.now) items.now) }
-    {
-        let mut values = ArrayWriter::new(alloc);
-        for item in items {
-            values.push(writer.write(alloc, item)?)?;
-        }
-        Ok(values.written())
     }
 
     /// The array of what each item is written as. Each item is given up before the next one is written.

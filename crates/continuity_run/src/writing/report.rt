@@ -1,44 +1,64 @@
-//! Writers of entries, of what was shown, and of the report.
-ghost use Rattle.std.specs.Prelude.{◌≡◌, IfOk};
-ghost use Rattle.serde_json.specs.View.{view};
+//! Writer of reports.
+ghost use Rattle.std.specs.Prelude.{◌≡◌, ◌++◌, IfOk, OnOk};
+ghost use Rattle.std.specs.List.{flat_map};
 ghost use Rattle.serde_json.specs.Written.{compact_text};
+ghost use Rattle.json_form.specs.Tokens.{tokens_of};
 ghost use Rattle.json_form.specs.Writing.{list_by};
-ghost use Rattle.continuity_run.specs.ReportText.{identifier_text, setting_text, piece_text, entry_text, shown_text, request_text, table_text, report_of};
+ghost use Rattle.continuity_run.specs.ReportText.{identifier_text, setting_text, piece_text, entry_text, shown_text, request_text, report_of};
 
-use crate::report::{Report, ReportTable, RequestReport, ShownCall, Transcript};
+use crate::report::{Ran, RequestReport, ShownCall, Transcript};
 use crate::writing::answer::{AnswerWriter, DrawWriter};
-use crate::writing::array::ArrayWriter;
 use crate::writing::call::CallWriter;
-use crate::writing::value::{RowWriter, ValueWriter};
-use json_form::{ObjectWriter, Writer, Written};
+use crate::writing::table::tables_written;
+use crate::writing::value::ValueWriter;
+use json_form::{TextWriter, Writer};
 use std::alloc::{AllocError, Global};
 use svc_values::{Entry, Ltxid, Name, Piece, Settings, Value};
 
-fn identifier_written(alloc: Global, x: &Ltxid) -> Result<Written, AllocError>
-    ensures { IfOk result (λ w. view w.value ≡ identifier_text x.now) }
+fn identifier_written(x: &Ltxid, out: &mut TextWriter) -> Result<(), AllocError>
+    ensures { OnOk result (out.new ≡ out.old ++ tokens_of (identifier_text x.now)) }
 {
-    let incarnation = Written::whole(x.incarnation);
-    let session = Written::whole(x.session);
-    let number = Written::whole(x.number);
-    Written::array(alloc, [incarnation, session, number])
+    out.begin_array()?;
+    out.whole(x.incarnation)?;
+    out.whole(x.session)?;
+    out.whole(x.number)?;
+    out.end_array()
 }
 
-fn setting_written(alloc: Global, name: &Name, value: &Value) -> Result<Written, AllocError>
-    ensures { IfOk result (λ w. view w.value ≡ setting_text (name.now, value.now)) }
+fn setting_written(
+    alloc: Global,
+    name: &Name,
+    value: &Value,
+    out: &mut TextWriter,
+) -> Result<(), AllocError>
+    ensures { OnOk result (out.new ≡ out.old ++ tokens_of (setting_text (name.now, value.now))) }
 {
-    let name = Written::text(alloc, name.as_str())?;
-    let value = ValueWriter.write(alloc, value)?;
-    Written::array(alloc, [name, value])
+    out.begin_array()?;
+    out.text(name.as_str())?;
+    ValueWriter.write(alloc, value, out)?;
+    out.end_array()
 }
 
-fn settings_written(alloc: Global, settings: &Settings) -> Result<Written, AllocError>
-    ensures { IfOk result (λ w. view w.value ≡ list_by setting_text settings.now) }
+/// Each setting, with no bracket around them.
+fn each_setting(alloc: Global, settings: &Settings, out: &mut TextWriter) -> Result<(), AllocError>
+    ensures { OnOk result (out.new ≡ out.old ++ flat_map (λ pair. tokens_of (setting_text pair)) settings.now) }
 {
-    let mut pairs = ArrayWriter::new(alloc);
     for (name, value) in settings.as_map() {
-        pairs.push(setting_written(alloc, name, value)?)?;
+        setting_written(alloc, name, value, out)?;
     }
-    Ok(pairs.written())
+    Ok(())
+}
+
+fn settings_written(
+    alloc: Global,
+    settings: &Settings,
+    out: &mut TextWriter,
+) -> Result<(), AllocError>
+    ensures { OnOk result (out.new ≡ out.old ++ tokens_of (list_by setting_text settings.now)) }
+{
+    out.begin_array()?;
+    each_setting(alloc, settings, out)?;
+    out.end_array()
 }
 
 /// Writes a call with its answers and draws.
@@ -48,11 +68,12 @@ impl Writer<Piece> for PieceWriter {
     ghost writes = { λ s. piece_text };
 
     #[tactic(auto, unfolding(crate::specs::ReportText::piece_text))]
-    fn write(&self, alloc: Global, item: &Piece) -> Result<Written, AllocError> {
-        let call = CallWriter.write(alloc, &item.call)?;
-        let answers = Written::array_of(alloc, item.answers.as_slice(), &AnswerWriter)?;
-        let draws = Written::array_of(alloc, item.draws.as_slice(), &DrawWriter)?;
-        Written::array(alloc, [call, answers, draws])
+    fn write(&self, alloc: Global, item: &Piece, out: &mut TextWriter) -> Result<(), AllocError> {
+        out.begin_array()?;
+        CallWriter.write(alloc, &item.call, out)?;
+        out.array_of(alloc, item.answers.as_slice(), &AnswerWriter)?;
+        out.array_of(alloc, item.draws.as_slice(), &DrawWriter)?;
+        out.end_array()
     }
 }
 
@@ -63,16 +84,17 @@ impl Writer<Entry> for EntryWriter {
     ghost writes = { λ s. entry_text };
 
     #[tactic(auto, unfolding(crate::specs::ReportText::entry_text))]
-    fn write(&self, alloc: Global, item: &Entry) -> Result<Written, AllocError> {
-        let ltxid = identifier_written(alloc, &item.ltxid)?;
-        let pieces = Written::array_of(alloc, item.pieces.as_slice(), &PieceWriter)?;
-        let settings = settings_written(alloc, &item.settings)?;
-        let mut object = ObjectWriter::new(alloc);
-        object.put(alloc, "completed", Written::flag(item.completed))?;
-        object.put(alloc, "ltxid", ltxid)?;
-        object.put(alloc, "pieces", pieces)?;
-        object.put(alloc, "settings", settings)?;
-        Ok(object.written())
+    fn write(&self, alloc: Global, item: &Entry, out: &mut TextWriter) -> Result<(), AllocError> {
+        out.begin_object()?;
+        out.name("completed")?;
+        out.flag(item.completed)?;
+        out.name("ltxid")?;
+        identifier_written(&item.ltxid, out)?;
+        out.name("pieces")?;
+        out.array_of(alloc, item.pieces.as_slice(), &PieceWriter)?;
+        out.name("settings")?;
+        settings_written(alloc, &item.settings, out)?;
+        out.end_object()
     }
 }
 
@@ -83,11 +105,17 @@ impl Writer<ShownCall> for ShownWriter {
     ghost writes = { λ s. shown_text };
 
     #[tactic(auto, unfolding(crate::specs::ReportText::shown_text))]
-    fn write(&self, alloc: Global, item: &ShownCall) -> Result<Written, AllocError> {
-        let answers = Written::array_of(alloc, item.answers.as_slice(), &AnswerWriter)?;
-        let draws = Written::array_of(alloc, item.draws.as_slice(), &DrawWriter)?;
-        let ltxid = identifier_written(alloc, &item.ltxid)?;
-        Written::array(alloc, [answers, draws, ltxid])
+    fn write(
+        &self,
+        alloc: Global,
+        item: &ShownCall,
+        out: &mut TextWriter,
+    ) -> Result<(), AllocError> {
+        out.begin_array()?;
+        out.array_of(alloc, item.answers.as_slice(), &AnswerWriter)?;
+        out.array_of(alloc, item.draws.as_slice(), &DrawWriter)?;
+        identifier_written(&item.ltxid, out)?;
+        out.end_array()
     }
 }
 
@@ -98,12 +126,18 @@ impl Writer<RequestReport> for RequestWriter {
     ghost writes = { λ s. request_text };
 
     #[tactic(auto, unfolding(crate::specs::ReportText::request_text))]
-    fn write(&self, alloc: Global, item: &RequestReport) -> Result<Written, AllocError> {
-        let calls = Written::array_of(alloc, item.calls.as_slice(), &ShownWriter)?;
-        let mut object = ObjectWriter::new(alloc);
-        object.put(alloc, "calls", calls)?;
-        object.put(alloc, "failed", Written::null())?;
-        Ok(object.written())
+    fn write(
+        &self,
+        alloc: Global,
+        item: &RequestReport,
+        out: &mut TextWriter,
+    ) -> Result<(), AllocError> {
+        out.begin_object()?;
+        out.name("calls")?;
+        out.array_of(alloc, item.calls.as_slice(), &ShownWriter)?;
+        out.name("failed")?;
+        out.null()?;
+        out.end_object()
     }
 }
 
@@ -113,44 +147,36 @@ struct TranscriptWriter;
 impl Writer<Transcript> for TranscriptWriter {
     ghost writes = { λ s. list_by request_text };
 
-    fn write(&self, alloc: Global, item: &Transcript) -> Result<Written, AllocError> {
-        Written::array_of(alloc, item.as_slice(), &RequestWriter)
+    fn write(
+        &self,
+        alloc: Global,
+        item: &Transcript,
+        out: &mut TextWriter,
+    ) -> Result<(), AllocError> {
+        out.array_of(alloc, item.as_slice(), &RequestWriter)
     }
 }
 
-/// Writes a table's name and its rows.
-struct TableWriter;
-
-impl Writer<ReportTable> for TableWriter {
-    ghost writes = { λ s. table_text };
-
-    #[tactic(auto, unfolding(crate::specs::ReportText::table_text))]
-    fn write(&self, alloc: Global, item: &ReportTable) -> Result<Written, AllocError> {
-        let name = Written::text(alloc, item.name.as_str())?;
-        let rows = Written::array_of(alloc, item.rows.as_slice(), &RowWriter)?;
-        Written::array(alloc, [name, rows])
-    }
-}
-
-/// The report as a JSON value. The cost is linear in its size.
 #[tactic(auto, unfolding(crate::specs::ReportText::report_of))]
-pub fn report_value(alloc: Global, report: &Report) -> Result<Written, AllocError>
-    ensures { IfOk result (λ w. view w.value ≡ report_of report.now) }
+fn report_written(alloc: Global, ran: &Ran, out: &mut TextWriter) -> Result<(), AllocError>
+    ensures { OnOk result (out.new ≡ out.old ++ tokens_of (report_of ran.now)) }
 {
-    let clients = Written::array_of(alloc, report.clients.as_slice(), &TranscriptWriter)?;
-    let entries = Written::array_of(alloc, report.entries.as_slice(), &EntryWriter)?;
-    let tables = Written::array_of(alloc, report.tables.as_slice(), &TableWriter)?;
-    let mut object = ObjectWriter::new(alloc);
-    object.put(alloc, "clients", clients)?;
-    object.put(alloc, "entries", entries)?;
-    object.put(alloc, "tables", tables)?;
-    Ok(object.written())
+    out.begin_object()?;
+    out.name("clients")?;
+    out.array_of(alloc, ran.clients(), &TranscriptWriter)?;
+    out.name("entries")?;
+    out.array_of(alloc, ran.entries(), &EntryWriter)?;
+    out.name("tables")?;
+    tables_written(alloc, ran.tables(), out)?;
+    out.end_object()
 }
 
-/// The report as compact JSON (RFC 8259). The cost is linear in its length.
-pub fn report_bytes(alloc: Global, report: &Report) -> Result<Vec<u8>, AllocError>
-    ensures { IfOk result (λ text. text.items ≡ compact_text (report_of report.now)) }
+/// The report as compact JSON (RFC 8259), written from the run as it stands: no row and no call is copied.
+/// The cost is linear in its length.
+pub fn report_bytes(alloc: Global, ran: &Ran) -> Result<Vec<u8>, AllocError>
+    ensures { IfOk result (λ text. text.items ≡ compact_text (report_of ran.now)) }
 {
-    let value = report_value(alloc, report)?;
-    value.to_bytes(alloc)
+    let mut out = TextWriter::new(alloc);
+    report_written(alloc, ran, &mut out)?;
+    Ok(out.into_bytes())
 }

@@ -1,11 +1,12 @@
 //! Writer of statements, in the form of the document.
-ghost use Rattle.std.specs.Prelude.{◌≡◌, IfOk, ◌∷◌, []};
-ghost use Rattle.serde_json.specs.View.{view};
+ghost use Rattle.std.specs.Prelude.{◌≡◌, ◌++◌, ◌∷◌, [], OnOk};
+ghost use Rattle.json.specs.Token.{begin_array, string};
+ghost use Rattle.json_form.specs.Tokens.{tokens_of};
 ghost use Rattle.json_form.specs.Writing.{list, text};
 ghost use Rattle.continuity_run.specs.CallText.{operand_text, test_word as test_word_def, change_word as change_word_def, changing as changing_def, statement_text};
 
-use crate::writing::value::OperandWriter;
-use json_form::{Writer, Written};
+use crate::writing::value::{OperandWriter, begin_word};
+use json_form::{TextWriter, Writer};
 use std::alloc::{AllocError, Global};
 use svc_values::{Change, Name, Operand, Operands, Statement, Test};
 
@@ -36,14 +37,26 @@ fn changing(change: &Change) -> &Operand
     }
 }
 
-#[tactic(auto, unfolding(crate::specs::CallText::statement_text))]
-fn insert_written(alloc: Global, table: &Name, values: &Operands) -> Result<Written, AllocError>
-    ensures { IfOk result (λ w. view w.value ≡ statement_text (Statement.Insert table.now values.now)) }
+/// Begins an array of a statement's word and the table that it names.
+fn begin_statement(out: &mut TextWriter, word: &str, table: &Name) -> Result<(), AllocError>
+    ensures { OnOk result (out.new ≡ out.old ++ begin_array ∷ string word.now ∷ string table.now ∷ []) }
 {
-    let word = Written::text(alloc, "insert")?;
-    let table = Written::text(alloc, table.as_str())?;
-    let values = Written::array_of(alloc, values.as_slice(), &OperandWriter)?;
-    Written::array(alloc, [word, table, values])
+    begin_word(out, word)?;
+    out.text(table.as_str())
+}
+
+#[tactic(auto, unfolding(crate::specs::CallText::statement_text))]
+fn insert_written(
+    alloc: Global,
+    table: &Name,
+    values: &Operands,
+    out: &mut TextWriter,
+) -> Result<(), AllocError>
+    ensures { OnOk result (out.new ≡ out.old ++ tokens_of (statement_text (Statement.Insert table.now values.now))) }
+{
+    begin_statement(out, "insert", table)?;
+    out.array_of(alloc, values.as_slice(), &OperandWriter)?;
+    out.end_array()
 }
 
 #[tactic(auto, unfolding(crate::specs::CallText::statement_text))]
@@ -53,17 +66,17 @@ fn update_written(
     key: &Operand,
     column: &Name,
     change: &Change,
-) -> Result<Written, AllocError>
-    ensures { IfOk result (λ w. view w.value
-        ≡ statement_text (Statement.Update table.now key.now column.now change.now)) }
+    out: &mut TextWriter,
+) -> Result<(), AllocError>
+    ensures { OnOk result (out.new ≡ out.old
+        ++ tokens_of (statement_text (Statement.Update table.now key.now column.now change.now))) }
 {
-    let word = Written::text(alloc, "update")?;
-    let table = Written::text(alloc, table.as_str())?;
-    let key = OperandWriter.write(alloc, key)?;
-    let column = Written::text(alloc, column.as_str())?;
-    let changes = Written::text(alloc, change_word(change))?;
-    let operand = OperandWriter.write(alloc, changing(change))?;
-    Written::array(alloc, [word, table, key, column, changes, operand])
+    begin_statement(out, "update", table)?;
+    OperandWriter.write(alloc, key, out)?;
+    out.text(column.as_str())?;
+    out.text(change_word(change))?;
+    OperandWriter.write(alloc, changing(change), out)?;
+    out.end_array()
 }
 
 #[tactic(auto, unfolding(crate::specs::CallText::statement_text))]
@@ -73,16 +86,16 @@ fn select_written(
     column: &Name,
     test: Test,
     operand: &Operand,
-) -> Result<Written, AllocError>
-    ensures { IfOk result (λ w. view w.value
-        ≡ statement_text (Statement.Select table.now column.now test operand.now)) }
+    out: &mut TextWriter,
+) -> Result<(), AllocError>
+    ensures { OnOk result (out.new ≡ out.old
+        ++ tokens_of (statement_text (Statement.Select table.now column.now test operand.now))) }
 {
-    let word = Written::text(alloc, "select")?;
-    let table = Written::text(alloc, table.as_str())?;
-    let column = Written::text(alloc, column.as_str())?;
-    let compared = Written::text(alloc, test_word(test))?;
-    let operand = OperandWriter.write(alloc, operand)?;
-    Written::array(alloc, [word, table, column, compared, operand])
+    begin_statement(out, "select", table)?;
+    out.text(column.as_str())?;
+    out.text(test_word(test))?;
+    OperandWriter.write(alloc, operand, out)?;
+    out.end_array()
 }
 
 /// A statement on the row of a key.
@@ -91,34 +104,40 @@ fn keyed_written(
     word: &str,
     table: &Name,
     key: &Operand,
-) -> Result<Written, AllocError>
-    ensures { IfOk result (λ w. view w.value
-        ≡ list (text word.now ∷ text table.now ∷ operand_text key.now ∷ [])) }
+    out: &mut TextWriter,
+) -> Result<(), AllocError>
+    ensures { OnOk result (out.new ≡ out.old
+        ++ tokens_of (list (text word.now ∷ text table.now ∷ operand_text key.now ∷ []))) }
 {
-    let word = Written::text(alloc, word)?;
-    let table = Written::text(alloc, table.as_str())?;
-    let key = OperandWriter.write(alloc, key)?;
-    Written::array(alloc, [word, table, key])
+    begin_statement(out, word, table)?;
+    OperandWriter.write(alloc, key, out)?;
+    out.end_array()
 }
 
 #[tactic(auto, unfolding(crate::specs::CallText::statement_text))]
-fn count_written(alloc: Global, table: &Name) -> Result<Written, AllocError>
-    ensures { IfOk result (λ w. view w.value ≡ statement_text (Statement.Count table.now)) }
+fn count_written(table: &Name, out: &mut TextWriter) -> Result<(), AllocError>
+    ensures { OnOk result (out.new ≡ out.old ++ tokens_of (statement_text (Statement.Count table.now))) }
 {
-    let word = Written::text(alloc, "count")?;
-    let table = Written::text(alloc, table.as_str())?;
-    Written::array(alloc, [word, table])
+    begin_statement(out, "count", table)?;
+    out.end_array()
 }
 
 #[tactic(auto, unfolding(crate::specs::CallText::statement_text))]
-fn sum_written(alloc: Global, table: &Name, column: &Name) -> Result<Written, AllocError>
-    ensures { IfOk result (λ w. view w.value
-        ≡ statement_text (Statement.Sum table.now column.now)) }
+fn sum_written(table: &Name, column: &Name, out: &mut TextWriter) -> Result<(), AllocError>
+    ensures { OnOk result (out.new ≡ out.old ++ tokens_of (statement_text (Statement.Sum table.now column.now))) }
 {
-    let word = Written::text(alloc, "sum")?;
-    let table = Written::text(alloc, table.as_str())?;
-    let column = Written::text(alloc, column.as_str())?;
-    Written::array(alloc, [word, table, column])
+    begin_statement(out, "sum", table)?;
+    out.text(column.as_str())?;
+    out.end_array()
+}
+
+#[tactic(auto, unfolding(crate::specs::CallText::statement_text))]
+fn show_written(alloc: Global, operand: &Operand, out: &mut TextWriter) -> Result<(), AllocError>
+    ensures { OnOk result (out.new ≡ out.old ++ tokens_of (statement_text (Statement.Show operand.now))) }
+{
+    begin_word(out, "show")?;
+    OperandWriter.write(alloc, operand, out)?;
+    out.end_array()
 }
 
 /// Writes a statement in the form of the document.
@@ -128,30 +147,31 @@ impl Writer<Statement> for StatementWriter {
     ghost writes = { λ s. statement_text };
 
     #[tactic(auto, unfolding(crate::specs::CallText::statement_text))]
-    fn write(&self, alloc: Global, item: &Statement) -> Result<Written, AllocError> {
+    fn write(
+        &self,
+        alloc: Global,
+        item: &Statement,
+        out: &mut TextWriter,
+    ) -> Result<(), AllocError> {
         match item {
-            Statement::Insert { table, values } => insert_written(alloc, table, values),
+            Statement::Insert { table, values } => insert_written(alloc, table, values, out),
             Statement::Update {
                 table,
                 key,
                 column,
                 change,
-            } => update_written(alloc, table, key, column, change),
-            Statement::Delete { table, key } => keyed_written(alloc, "delete", table, key),
-            Statement::Get { table, key } => keyed_written(alloc, "get", table, key),
+            } => update_written(alloc, table, key, column, change, out),
+            Statement::Delete { table, key } => keyed_written(alloc, "delete", table, key, out),
+            Statement::Get { table, key } => keyed_written(alloc, "get", table, key, out),
             Statement::Select {
                 table,
                 column,
                 test,
                 operand,
-            } => select_written(alloc, table, column, *test, operand),
-            Statement::Count { table } => count_written(alloc, table),
-            Statement::Sum { table, column } => sum_written(alloc, table, column),
-            Statement::Show { operand } => {
-                let word = Written::text(alloc, "show")?;
-                let operand = OperandWriter.write(alloc, operand)?;
-                Written::array(alloc, [word, operand])
-            }
+            } => select_written(alloc, table, column, *test, operand, out),
+            Statement::Count { table } => count_written(table, out),
+            Statement::Sum { table, column } => sum_written(table, column, out),
+            Statement::Show { operand } => show_written(alloc, operand, out),
         }
     }
 }

@@ -5,7 +5,9 @@ use Rattle.svc_values.specs.declared.schema.Schema.{Schema}
 use Rattle.table_store.specs.Stored.{Stored}
 use Rattle.doc_reader.specs.Keeping.{schema_in}
 use Rattle.continuity_run.specs.Plain.{is_plain_call}
-use Rattle.continuity_run.specs.Headline.{calls_of, transcripts_of, table_at}
+use Rattle.continuity_run.specs.declared.report.Report.{Report}
+use Rattle.continuity_run.specs.Headline.{Headline, calls_of, transcripts_of, table_at}
+use Rattle.continuity_run.specs.Tables.{tables_in}
 use Rattle.continuity_run.specs.Progress.{run_seen}
 use Rattle.continuity_run.specs.Run.{run_of, start_run}
 use Rattle.continuity_run.specs.Start.{shape_of, start_of}
@@ -25,7 +27,7 @@ returns c =
     let begun = subst (λ (tables : Stored). run_of (record { schemas = tables.schemas; sequences = [] }) (start_run tables.rows) c.calls_of-calls.result.now ≡ Some after) c.in_ok-tables.ensures c.in_ok-progress.ensures.ran in
     let done = subst (λ (calls : List Call). run_of (shape_of document.tables) (start_run (start_of document.tables)) calls ≡ Some after) script begun in
     let declared : progress.tables.schemas ≡ map schema_in document.tables = c.in_ok-progress.ensures.declared ∙ ap (λ (tables : Stored). tables.schemas) c.in_ok-tables.ensures in
-    headline document after done
-    (record { clients = c.in_ok-transcripts_of.field-0; entries = progress.entries; tables = c.in_ok-tables-2.tables })
-    (c.in_ok-transcripts_of.ensures ∙ ap (λ clients. transcripts_of clients progress.shown) c.as_slice-2.ensures) refl
-    (c.in_ok-tables-2.ensures ∙ ap (map (λ (schema : Schema). table_at progress.tables.rows schema.name)) declared ∙ tables_shown progress.tables.rows document.tables)
+    let ran : Report = record { clients = c.in_ok-transcripts.transcripts; entries = progress.entries; tables = tables_in progress.tables } in
+    subst (Headline document) (sym c.new.ensures) (headline document after done ran
+    (c.in_ok-transcripts.ensures ∙ ap (λ clients. transcripts_of clients progress.shown) c.as_slice-2.ensures) refl
+    (ap (map (λ (schema : Schema). table_at progress.tables.rows schema.name)) declared ∙ tables_shown progress.tables.rows document.tables))
