@@ -76,11 +76,11 @@ fallen_reads grants disk end (Some core) held notes pick up fall =
       ),
     )
 
-few_crashes : (grants : Grants) (disk : DiskState) (core : Option Core) (held : Held) (notes : Notes) → IsSound grants disk core held notes → notes.crashes ≤ notes.calls
+pub few_crashes : (grants : Grants) (disk : DiskState) (core : Option Core) (held : Held) (notes : Notes) → IsSound grants disk core held notes → notes.crashes ≤ notes.calls
 few_crashes grants disk None held notes down = down.crashes
 few_crashes grants disk (Some core) held notes up = up.crashes
 
-counted : (grants : Grants) (disk : DiskState) (core : Option Core) (held : Held) (notes : Notes) → IsSound grants disk core held notes → disk.faults ≤ 2 ^ 64 - 1
+pub counted : (grants : Grants) (disk : DiskState) (core : Option Core) (held : Held) (notes : Notes) → IsSound grants disk core held notes → disk.faults ≤ 2 ^ 64 - 1
 counted grants disk None held notes down = down.faults
 counted grants disk (Some core) held notes up = up.faults
 
@@ -100,7 +100,7 @@ falls_soundly old end pick sound fall =
 
 -- ---- the plain server
 
-abbrev off : Server → Server
+abbrev pub off : Server → Server
 off server = record { power = Off; core = server.core; sessions = []; count = 0 }
 
 pub falls : (start : Base) (history : List Happened) (server : Server) → Runs start history server → Runs start history (off server)

@@ -5,5 +5,6 @@ mod GoingOn
 mod Halted
 mod Opened
 mod Reaching
+mod Read
 mod Reopening
 mod Standing

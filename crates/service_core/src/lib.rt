@@ -3,6 +3,7 @@
 
 mod connections;
 mod crash;
+mod looking;
 mod notes;
 mod one;
 mod opening;

@@ -1,0 +1,34 @@
+use Rattle.std.proofs.Common.{◌∙◌, sym, ap, subst}
+use Rattle.std.specs.Prelude.{Err}
+use Rattle.server_model.specs.ServiceCalls.{Looked, StoppedLook}
+use Rattle.service_calls.specs.Kept.{Goes}
+use Rattle.service_core.specs.Held.{Held}
+use Rattle.service_core.specs.Seeing.{SeesIn, called}
+use Rattle.service_core.specs.Sound.{IsDown}
+use Rattle.service_core.specs.Within.{Within}
+use Rattle.service_core.proofs.Read.{answered_same, looked_from, looks, is_lost, lost_from, loses_soundly, loses}
+use Rattle.service_core.proofs.one.OneService.read_journal.Goals as goal
+
+pub returns-in-Ok-clause-looked : goal.returns-in-Ok-clause-looked
+returns-in-Ok-clause-looked g c =
+    let old : Within = record { grants = c.self.inside.grants; disk = g.D.Disk.state c.self.inside.disk; core = c.self.inside.core; held = c.self.inside.held; notes = c.self.inside.notes } in
+    let new = g.D.Disk.state c.read.new.disk in
+    let live = ap (λ (w : Within). w.notes.is_spent) c.self.view_is ∙ c.requires.live in
+    subst (λ (w : Within). Goes (SeesIn w) (SeesIn (looked_from old new)) Looked) {x = old} c.self.view_is
+    (looks old new (answered_same c.in-Ok.journal _ old.disk new c.in-Ok.ensures.only_reads) live (c.self.invariant live))
+
+pub invariant_of-self-in-Err-Stopped : goal.invariant_of-self-in-Err-Stopped
+invariant_of-self-in-Err-Stopped g c live =
+    let old : Within = record { grants = c.self.inside.grants; disk = g.D.Disk.state c.self.inside.disk; core = c.self.inside.core; held = c.self.inside.held; notes = c.self.inside.notes } in
+    let new = g.D.Disk.state c.read.new.disk in
+    let lost = is_lost _ old.disk new (ap Err c.in-Err-Stopped.field-0-is) c.in-Err-Stopped.ensures.only_reads (g.met.D.Disk.reads_now c.read.new.disk) in
+    subst (λ (h : Held). IsDown new h (called old.notes)) (sym c.clear.ensures) (loses_soundly old new (c.self.invariant live) lost)
+
+pub returns-in-Err-Stopped-clause-looked : goal.returns-in-Err-Stopped-clause-looked
+returns-in-Err-Stopped-clause-looked g c =
+    let old : Within = record { grants = c.self.inside.grants; disk = g.D.Disk.state c.self.inside.disk; core = c.self.inside.core; held = c.self.inside.held; notes = c.self.inside.notes } in
+    let new = g.D.Disk.state c.read.new.disk in
+    let lost = is_lost _ old.disk new (ap Err c.in-Err-Stopped.field-0-is) c.in-Err-Stopped.ensures.only_reads (g.met.D.Disk.reads_now c.read.new.disk) in
+    let live = ap (λ (w : Within). w.notes.is_spent) c.self.view_is ∙ c.requires.live in
+    subst (λ (w : Within). Goes (SeesIn w) (SeesIn (record (lost_from old new) { held = c.clear.new.self })) StoppedLook) {x = old} c.self.view_is
+    (subst (λ (h : Held). Goes (SeesIn old) (SeesIn (record (lost_from old new) { held = h })) StoppedLook) (sym c.clear.ensures) (loses old new live (c.self.invariant live) lost))
