@@ -15,3 +15,4 @@ pub mod Stops
 pub mod Questions
 pub mod Storing
 pub mod Outsiders
+pub mod StoppedUps

@@ -4,3 +4,4 @@ pub mod Underway
 pub mod Making
 pub mod Answering
 pub mod InOrder
+pub mod Stopping

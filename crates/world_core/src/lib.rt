@@ -7,6 +7,7 @@ mod connection;
 mod connections;
 mod ground;
 mod outside;
+mod stopped_opening;
 mod traffic;
 
 pub use connection::Connection;
