@@ -9,10 +9,10 @@ pub mod Opening
 pub mod Places
 pub mod Draining
 pub mod Written
+pub mod Stops
+pub mod Storing
 pub mod Serving
 pub mod ServedFrames
-pub mod Stops
 pub mod Questions
-pub mod Storing
 pub mod Outsiders
 pub mod StoppedUps

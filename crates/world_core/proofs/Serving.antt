@@ -1,7 +1,8 @@
 -- A frame that is served in order, at the machine and at the service.
-use Rattle.std.proofs.Common.{◌≡◌, ℕ, zero, suc, ◌+◌, ◌==◌, Bool, true, false, List, [], ◌∷◌, ◌++◌, Option, Some, None, refl, sym, ap, ◌∙◌, subst, eq-eqb, inl, inr}
+use Rattle.std.proofs.Common.{◌≡◌, ◌≤◌, arith, ℕ, zero, suc, ◌+◌, ◌==◌, Bool, true, false, List, [], ◌∷◌, ◌++◌, Option, Some, None, refl, sym, ap, ◌∙◌, subst, eq-eqb, inl, inr}
 use Rattle.std.proofs.lemmas.Bool.Decides.{eqb_tells}
 use Rattle.std.proofs.lemmas.List.{append-nil}
+use Rattle.std.proofs.lemmas.List.Elements.{All-nil, All-cons}
 use Rattle.std.specs.Prelude.{◌⊎◌, ◌&&◌, not, cond, slice_set, option_and_then, if◌then◌else◌}
 use Rattle.std.specs.Option.{option_map_or}
 use Rattle.svc_values.specs.declared.entry.SessionId.{SessionId}
@@ -12,15 +13,17 @@ use Rattle.outage_schedule.specs.declared.event.Event.TheVariants as event
 use Rattle.outage_schedule.specs.declared.note.Note.TheVariants as note
 use Rattle.outage_schedule.specs.declared.item.Item.{Item}
 use Rattle.outage_schedule.specs.declared.item.Served.{Served}
+use Rattle.server_model.specs.Laws.{stops_last}
 use Rattle.server_model.specs.Outcomes.{Telling, telling_of}
 use Rattle.server_model.specs.Runs.{Served as ServedFrame}
 use Rattle.server_model.specs.Seen.{Connections, Seen, IsHistory, with_connection, without_connection}
-use Rattle.server_model.specs.ServiceCalls.{SessionOf}
+use Rattle.server_model.specs.ServiceCalls.{IsOf, SessionOf}
 use Rattle.world_model.specs.Frames.{Sent}
 use Rattle.world_model.specs.Links.{Link, link_at, with_link, changed, ends}
 use Rattle.world_model.specs.Machines.{Server, Machine}
 use Rattle.world_model.specs.Noting.{only_if, name_of, same_name}
 use Rattle.world_model.specs.Serving.{Front, first_of, front_of, front_at, is_item_of, is_served_by, serves, follow_serve, is_last, is_blocked, is_commit, commits_after, after_front, handled, reply_of, after_served, server_after, pool_after}
+use Rattle.world_model.specs.Basic.{living_now}
 use Rattle.world_model.specs.Traced.{Traced}
 use Rattle.world_model.specs.Walking.{follow}
 use Rattle.world_model.specs.ServiceDid.{front_served}
@@ -33,6 +36,8 @@ use Rattle.world_core.specs.Underway.{IsUnderway, answered_link}
 use Rattle.world_core.specs.Making.{IsReady, IsAt}
 use Rattle.world_core.proofs.Coupling.{View, view, living_in, living_view, begun}
 use Rattle.world_core.proofs.Opening.{any_server}
+use Rattle.world_core.proofs.Stops.{stops_behind}
+use Rattle.world_core.proofs.Storing.{others_counted, came_of, living_is_now}
 use Rattle.world_core.proofs.Reaping.{link_same, link_other}
 use Rattle.world_core.proofs.Written.{names_same, reads, Which, ServedBy, served_by, stays_up}
 
@@ -170,10 +175,10 @@ has_there old new session (Some (Some other)) commits apart others has = others 
 pub some_link : (a b : Link) → ◌≡◌ {A = Option Link} (Some a) (Some b) → a ≡ b
 some_link a b e = cc
 
-stored_behind : (old new : Seen) (t : Traced) (number : ℕ) (front : Front) (served : Served) (reply : Option Down) (after : Link) → Coupled old t → IsAnswered old number served.session front.link.commits front.first.frame reply new
+stored_behind : (old new : Seen) (t : Traced) (number : ℕ) (front : Front) (served : Served) (reply : Option Down) (after : Link) → ((other : SessionId) → (other ≡ served.session → ⊥) → entries_in new.state.store.entries other ≡ entries_in old.state.store.entries other) → Coupled old t → IsAnswered old number served.session front.link.commits front.first.frame reply new
     → is_commit served.item ≡ commits_in reply → link_at t.machine.links number ≡ Some front.link → view after ≡ view_behind front served
     → (other : ℕ) (link : Link) → link_at (with_link t.machine.links number after) other ≡ Some link → HasStored new.state.store.entries (living_of (Some link)) link.commits
-stored_behind old new t number front served reply after coupled answered commits there looks other link found = by (eqb_tells other number)
+stored_behind old new t number front served reply after others coupled answered commits there looks other link found = by (eqb_tells other number)
   where
     by : (((other == number) ≡ true) × (other ≡ number)) ⊎ (((other == number) ≡ false) × (other ≡ number → ⊥)) → HasStored new.state.store.entries (living_of (Some link)) link.commits
     by (inl (told, same)) =
@@ -182,7 +187,7 @@ stored_behind old new t number front served reply after coupled answered commits
         subst (λ v. HasStored new.state.store.entries (living_in (Some v)) v.commits) (sym looks ∙ ap view is) (has_here new served.session (is_last served.item) (commits_after front.link served.item) counted)
     by (inr (told, apart)) =
         let at = sym (link_other t.machine.links number other after apart) ∙ found in
-        has_there old new served.session (living_of (Some link)) link.commits (λ same. answered.apart other apart (coupled.living other ∙ ap living_of at ∙ same)) answered.others (coupled.stored other link at)
+        has_there old new served.session (living_of (Some link)) link.commits (λ same. answered.apart other apart (coupled.living other ∙ ap living_of at ∙ same)) others (coupled.stored other link at)
 
 -- the state behind the frame
 abbrev traced_behind : Traced → Machine → Seen → Traced
@@ -196,6 +201,31 @@ GoesTo sees_later seen t number frame served after =
 
 all_true : (a b c d : Bool) → a ≡ true → b ≡ true → c ≡ true → d ≡ true → (a && ((b && c) && d)) ≡ true
 all_true a b c d p q r s = rw (p, q, r, s) refl
+
+-- it is of this incarnation
+same_least : (a b : ℕ) → b ≡ a → a ≤ b
+same_least a b same = omega (arith, same)
+
+pub session_from : (seen : Seen) (t : Traced) (number : ℕ) (front : Front) (session : SessionId) (sessions : ℕ) → Coupled seen t → seen.state.is_up ≡ true → living_now t ≡ true → front_at t.machine.links number ≡ Some front → SessionOf seen number session sessions
+    → seen.state.store.incarnation ≤ session.incarnation
+session_from seen t number front session sessions coupled up now there (inl (named, count)) =
+    let at = front_there t.machine.links number front there in
+    let living : seen.state.living number ≡ Some front.link.session = coupled.living number ∙ ap living_of at.0 ∙ ap (λ b. if b then Some front.link.session else None) at.1 in
+    same_least seen.state.store.incarnation session.incarnation (living_is_now t now number front.link session at.0 at.1 (some_known front.link.session (Some session) (sym living ∙ named)) ∙ (coupled.server.opened up).0)
+session_from seen t number front session sessions coupled up now there (inr (unnamed, next, count)) = same_least seen.state.store.incarnation session.incarnation (ap (λ (s : SessionId). s.incarnation) next)
+
+-- nothing was stopped
+pub answered_last : (session : SessionId) (now : ℕ) (frame : Up) (reply : Option Down) → stops_last (ServedFrame session now frame (telling_of reply) ∷ []) ≡ true
+answered_last session now frame None = refl
+answered_last session now frame (Some told) = refl
+
+-- no other session has stored anything
+frame_others : AreExact → (old new : Seen) (number now : ℕ) (frame : Up) (reply : Option Down) (did : ServedWith old number now frame reply new) → (other : SessionId) → (other ≡ did.session → ⊥) → entries_in new.state.store.entries other ≡ entries_in old.state.store.entries other
+frame_others exact old new number now frame reply did other apart =
+    let one = ServedFrame did.session now frame (telling_of reply) in
+    let gains = did.adds.gains in
+    ap (λ e. entries_in e other) gains.entries
+    ∙ others_counted exact did.session other old.state.store.entries gains.more_entries (came_of did.session (one ∷ []) gains.more_entries (All-cons (IsOf did.session) one [] refl (All-nil (IsOf did.session))) gains.own) apart
 
 -- the session that serves it, and what is written down of it
 pub served_so : AreExact → (seen new : Seen) (t : Traced) (number : ℕ) (front : Front) (reply : Option Down) → Coupled seen t → front_at t.machine.links number ≡ Some front → ServesInOrder seen t number front
@@ -219,6 +249,8 @@ serves_front sees_later seen new t number front reply after exact coupled there 
     let served = item_now t.machine front session reply in
     let answered = ordered.answered reply new history did in
     let at = front_there t.machine.links number front there in
+    let from_here = session_from seen t number front session new.state.sessions coupled (sym coupled.server.is_up ∙ ordered.is_up) ordered.now there did.of_connection in
+    let others = frame_others exact seen new number t.machine.tick frame reply did in
     let read = reads exact session number front.link.commits frame reply answered.answers in
     let by = served_so exact seen new t number front reply coupled there ordered history did in
     let link = handled m.event front served in
@@ -233,10 +265,10 @@ serves_front sees_later seen new t number front reply after exact coupled there 
     let coupled_later : Coupled new later = record {
       history = history;
       sound = rw did.keeps.start coupled.sound;
-      stops = answered.stops;
+      stops = ap stops_last did.history ∙ stops_behind seen (ServedFrame session t.machine.tick frame (telling_of reply) ∷ []) coupled.sound coupled.history (sym coupled.server.is_up ∙ ordered.is_up) coupled.stops (answered_last session t.machine.tick frame reply) (from_here, tt);
       server = server_behind t.machine.server seen new number t.machine.tick frame reply served.item coupled.server ordered.is_up did (did.is_up ∙ read.is_up) by.sessions_are;
       living = living_behind seen new t.machine.links number front served link coupled.living (λ other. did.living other ∙ ap (λ (living : Connections). living other) (read.living seen.state.living)) at.0 looks;
-      stored = stored_behind seen new t number front served reply link coupled answered read.commits_so at.0 looks;
+      stored = stored_behind seen new t number front served reply link others coupled answered read.commits_so at.0 looks;
       entries = refl;
       blocked = refl;
       image = rw did.keeps.start coupled.image;

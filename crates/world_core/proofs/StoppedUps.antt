@@ -21,6 +21,7 @@ use Rattle.world_core.specs.Making.{IsReady, MakesWhere}
 use Rattle.world_core.specs.Stopping.{BegunOpening, HasFallen}
 use Rattle.world_core.proofs.Coupling.{moved, begun, one_alone, stays_coupled, none_came, none_asked}
 use Rattle.world_core.proofs.Opening.{any_server}
+use Rattle.world_core.proofs.Storing.{both, all_at}
 
 -- the server is up
 pub crashes_no_opening : (sees : Seen → Type 0) (before after : Traffic) (calls pick : ℕ) → ((seen : Seen) → sees seen → seen.state.is_up ≡ true) → ((m : Machine) → IsUnderway before m → IsUnderway after (begun m))
@@ -38,19 +39,7 @@ crashes_no_opening sees before after calls pick up goes seen t is fallen =
       ),
     )
 
-both : (a b : Bool) → (a && b) ≡ true → (a ≡ true) × (b ≡ true)
-both true b e = (refl, e)
-both false b e = absurd (let nothing : ⊥ = cc in nothing)
-
 -- NO SESSION LIVES --------------------------------------------------------------------------------
-
-all_at : (test : Link → Bool) (links : List Link) (index : ℕ) (link : Link) → list_all test links ≡ true → slice_get links index ≡ Some link → test link ≡ true
-all_at test [] index link all there = absurd (let nothing : ⊥ = cc in nothing)
-all_at test (one ∷ links) zero link all there = ap test (sym (same_link one link there)) ∙ (both (test one) (list_all test links) all).0
-  where
-    same_link : (a b : Link) → ◌≡◌ {A = Option Link} (Some a) (Some b) → a ≡ b
-    same_link a b e = cc
-all_at test (one ∷ links) (suc index) link all there = all_at test links index link (both (test one) (list_all test links) all).1 there
 
 gone : (link : Link) (living : Bool) → not living ≡ true → (if living then Some link.session else None) ≡ None
 gone link true e = absurd (let nothing : ⊥ = cc in nothing)

@@ -2,7 +2,8 @@
 use Rattle.std.proofs.Common.{◌≡◌, ℕ, zero, suc, ◌+◌, ◌==◌, Bool, true, false, List, [], ◌∷◌, ◌++◌, Option, Some, None, refl, sym, ap, ◌∙◌, arith}
 use Rattle.std.specs.Prelude.{◌&&◌, ◌||◌, All, cond, filter_map, nat_lt, nat_le, slice_get, if◌then◌else◌}
 use Rattle.std.specs.List.{list_all, cons_option}
-use Rattle.std.proofs.lemmas.Bool.{lt-leb}
+use Rattle.std.specs.Option.{option_map_or}
+use Rattle.std.proofs.lemmas.Bool.{lt-leb, eqb-true}
 use Rattle.std.proofs.lemmas.List.Sums.{sum_by-cons, sum_by-append}
 use Rattle.std.proofs.lemmas.List.Elements.{All-head, All-tail, All-contains}
 use Rattle.svc_values.specs.declared.entry.Entry.{Entry}
@@ -15,10 +16,11 @@ use Rattle.server_model.specs.Laws.{CommitsAs}
 use Rattle.server_model.specs.Outcomes.{Silent, Says, Stopped}
 use Rattle.server_model.specs.Runs.{Happened, Served, Asked}
 use Rattle.server_model.specs.ServiceCalls.{CameFrom, IsOf}
-use Rattle.world_model.specs.Basic.{sessions_of, is_made, are_made}
+use Rattle.world_model.specs.Basic.{sessions_of, is_made, are_made, living_now}
 use Rattle.world_model.specs.Coupled.{entries_in, living_of}
 use Rattle.world_model.specs.Links.{Link, link_at}
 use Rattle.world_model.specs.Machines.{next_session}
+use Rattle.world_model.specs.Parts.{implies}
 use Rattle.world_model.specs.Traced.{Traced}
 
 -- COUNTED -----------------------------------------------------------------------------------------
@@ -83,7 +85,7 @@ came_of session happened (entry ∷ more) all came =
 
 -- THE NEXT SESSION --------------------------------------------------------------------------------
 
-both : (a b : Bool) → (a && b) ≡ true → (a ≡ true) × (b ≡ true)
+pub both : (a b : Bool) → (a && b) ≡ true → (a ≡ true) × (b ≡ true)
 both true b e = (refl, e)
 both false b e = absurd (let nothing : ⊥ = cc in nothing)
 
@@ -138,3 +140,27 @@ next_apart t made number link there living =
     let is : is_made t session ≡ true = passes (is_made t) t.machine.links number link session (both (list_all (is_made t) (sessions_of t)) (list_all (is_made t) t.outside) made).0 there (living_session link link.is_living session living) in
     let clash : true ≡ false = sym is ∙ unmade t in
     cc
+
+-- SESSIONS THAT LIVE ------------------------------------------------------------------------------
+
+pub all_at : (test : Link → Bool) (links : List Link) (index : ℕ) (link : Link) → list_all test links ≡ true → slice_get links index ≡ Some link → test link ≡ true
+all_at test [] index link all there = absurd (let nothing : ⊥ = cc in nothing)
+all_at test (one ∷ links) zero link all there = ap test (sym (same_link one link there)) ∙ (both (test one) (list_all test links) all).0
+all_at test (one ∷ links) (suc index) link all there = all_at test links index link (both (test one) (list_all test links) all).1 there
+
+all_there : (test : Link → Bool) (links : List Link) (number : ℕ) (link : Link) → list_all test links ≡ true → link_at links number ≡ Some link → test link ≡ true
+all_there test links zero link all there = absurd (let nothing : ⊥ = cc in nothing)
+all_there test links (suc index) link all there = all_at test links index link all there
+
+-- the session of a connection that lives is of this incarnation
+abbrev is_now : ℕ → Link → Bool
+is_now incarnation link = option_map_or (λ session. implies link.is_living (session.incarnation == incarnation)) link.session true
+
+now_by : (incarnation : ℕ) (living : Bool) (known : Option SessionId) (session : SessionId) → living ≡ true → known ≡ Some session → option_map_or (λ one. implies living (one.incarnation == incarnation)) known true ≡ true → session.incarnation ≡ incarnation
+now_by incarnation living None session lives is now = absurd (let nothing : ⊥ = cc in nothing)
+now_by incarnation false (Some one) session lives is now = absurd (let nothing : ⊥ = cc in nothing)
+now_by incarnation true (Some one) session lives is now = ap (λ (s : SessionId). s.incarnation) (sym (some_named one session is)) ∙ eqb-true one.incarnation incarnation now
+
+pub living_is_now : (t : Traced) → living_now t ≡ true → (number : ℕ) (link : Link) (session : SessionId) → link_at t.machine.links number ≡ Some link → link.is_living ≡ true → link.session ≡ Some session → session.incarnation ≡ t.machine.server.incarnation
+living_is_now t now number link session there lives is =
+    now_by t.machine.server.incarnation link.is_living link.session session lives is (all_there (is_now t.machine.server.incarnation) t.machine.links number link now there)

@@ -1,5 +1,5 @@
 -- A frame that is served in order, as the plain server serves it.
-use Rattle.std.specs.Prelude.{◌≡◌, ◌+◌, ℕ, Bool, true, false, cond, List, Option, Some, None, IfSome, is_none}
+use Rattle.std.specs.Prelude.{◌≡◌, ◌+◌, ℕ, Bool, true, false, cond, IsTrue, List, Option, Some, None, IfSome, is_none}
 use Rattle.svc_values.specs.declared.answer.Answer.{Answer}
 use Rattle.svc_values.specs.declared.call.Call.{Call}
 use Rattle.svc_values.specs.declared.draw.Draw.{Draw}
@@ -13,12 +13,12 @@ use Rattle.svc_values.specs.declared.frame.Down.TheVariants as down
 use Rattle.svc_values.specs.Endings.{ends_committed}
 use Rattle.canon_bytes.specs.DownBytes.{IsMadeDown}
 use Rattle.outage_schedule.specs.declared.note.AskResult.{AskResult}
-use Rattle.server_model.specs.Laws.{stops_last}
 use Rattle.server_model.specs.Outcomes.{telling_of}
 use Rattle.server_model.specs.Seen.{Store, Seen, IsHistory}
 use Rattle.server_model.specs.ServiceCalls.{ServedOne}
 use Rattle.world_model.specs.Serving.{Front, front_at, identifier, outcome_frame}
 use Rattle.world_model.specs.Traced.{Traced}
+use Rattle.world_model.specs.Basic.{living_now}
 use Rattle.world_model.specs.Coupled.{entries_in}
 
 -- What a session that has answered so many commits answers to a frame: an identifier that comes with it has the number of them
@@ -50,20 +50,19 @@ abbrev pub ServedWith : Seen → ℕ → ℕ → Up → Option Down → Seen →
 ServedWith old number now frame reply new = ServedOne old number now frame (telling_of reply) no_store new
 
 -- A frame on the connection of this number was answered as the plain server answers one in order. Behind it the store has as many
--- entries of the session as it has answered commits, this one included, and no more of any other.
+-- entries of the session as it has answered commits, this one included.
 pub record IsAnswered (old : Seen) (number : ℕ) (session : SessionId) (commits : ℕ) (frame : Up) (reply : Option Down) (new : Seen) : Type 0 where
   pub answers : Answers session commits frame reply
   pub made : IfSome reply IsMadeDown
   pub counted : entries_in new.state.store.entries session ≡ commits + cond (commits_in reply) 1 0
-  pub others : (other : SessionId) → (other ≡ session → ⊥) → entries_in new.state.store.entries other ≡ entries_in old.state.store.entries other
   -- no other connection has the session
   pub apart : (other : ℕ) → (other ≡ number → ⊥) → old.state.living other ≡ Some (Some session) → ⊥
-  pub stops : stops_last new.history ≡ true
 
--- Where a frame may be served on the connection of this number, the server is up, the frame is Connect exactly where its session has
--- no name yet, and it is answered in order.
+-- Where a frame may be served on the connection of this number, the server is up, the sessions that live are of its incarnation, the
+-- frame is Connect exactly where its session has no name yet, and it is answered in order.
 pub record ServesInOrder (seen : Seen) (t : Traced) (number : ℕ) (front : Front) : Type 0 where
   pub is_up : t.machine.server.is_up ≡ true
+  pub now : IsTrue (living_now t)
   pub is_first : is_none front.link.session ≡ is_connect front.first.frame
   pub answered : (reply : Option Down) (new : Seen) → IsHistory new → (served : ServedWith seen number t.machine.tick front.first.frame reply new)
       → IsAnswered seen number served.session front.link.commits front.first.frame reply new
