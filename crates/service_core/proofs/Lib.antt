@@ -3,6 +3,7 @@ mod Falling
 mod Faulty
 mod GoingOn
 mod Halted
+mod Made
 mod Opened
 mod Reaching
 mod Read

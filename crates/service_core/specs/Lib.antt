@@ -3,4 +3,5 @@ pub mod InnerOpening
 pub mod Opening
 pub mod Seeing
 pub mod Sound
+pub mod Starting
 pub mod Within

@@ -4,6 +4,7 @@
 mod connections;
 mod crash;
 mod looking;
+mod making;
 mod notes;
 mod one;
 mod opening;

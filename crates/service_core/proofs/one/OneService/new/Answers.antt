@@ -1,0 +1,21 @@
+use Rattle.std.proofs.Common.{sym, subst}
+use Rattle.server_model.specs.Seen.{IsNew}
+use Rattle.service_core.specs.Held.{Held}
+use Rattle.service_core.specs.Seeing.{SeesIn}
+use Rattle.service_core.specs.Sound.{IsDown}
+use Rattle.service_core.specs.Starting.{first_notes, made_on, base_of, seen_new}
+use Rattle.service_core.specs.Within.{Within}
+use Rattle.service_core.proofs.Made.{made_soundly, made_seen, made_new}
+use Rattle.service_core.proofs.one.OneService.new.Goals as goal
+
+pub invariant_of-result : goal.invariant_of-result
+invariant_of-result g c live =
+    let disk = g.D.Disk.state c.args.disk in
+    subst (λ (h : Held). IsDown disk h first_notes) (sym c.new.ensures) (made_soundly disk c.args.grants c.requires (g.met.D.Disk.reads_now c.args.disk))
+
+pub returns-clause-seen : goal.returns-clause-seen
+returns-clause-seen g c journal reads =
+    let disk = g.D.Disk.state c.args.disk in
+    let start = base_of journal c.args.grants in
+    subst (λ (h : Held). let made : Within = record (made_on disk c.args.grants) { held = h } in SeesIn made (seen_new made start) × IsNew (seen_new made start)) (sym c.new.ensures)
+    (made_seen disk c.args.grants journal c.requires (g.met.D.Disk.reads_now c.args.disk) reads, made_new disk c.args.grants journal c.requires reads)

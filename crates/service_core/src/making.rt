@@ -1,0 +1,42 @@
+//! A service as it is made.
+ghost use Rattle.std.specs.Prelude.{◌≡◌, Ok};
+ghost use Rattle.commit_log.specs.declared.journal.Journal.{Journal};
+ghost use Rattle.commit_log.specs.Journals.{journal_of};
+ghost use Rattle.server_model.specs.Seen.{IsNew};
+ghost use Rattle.service_core.specs.Seeing.{SeesIn};
+ghost use Rattle.service_core.specs.Starting.{CanBegin, base_of, made_on, seen_new};
+
+use crate::connections::Connections;
+use crate::notes::Notes;
+use crate::one::OneService;
+use disk_model::{Disk, StopDisk};
+use mutable_values::Grants;
+use std::alloc::Global;
+
+impl<D: StopDisk> OneService<D> {
+    /// A service on the store of this disk, which grants these kinds of draws. It is down, and no call
+    /// was made on it. It takes no memory.
+    pub fn new(alloc: Global, disk: D, grants: Grants) -> Self
+        requires { CanBegin (D.state disk) }
+        ensures made { result ≡ made_on (D.state disk) grants }
+        ensures seen { (journal : Journal) → journal_of (D.state disk).now.seen ≡ Ok journal → SeesIn result (seen_new result (base_of journal grants)) × IsNew (seen_new result (base_of journal grants)) }
+    {
+        OneService {
+            disk,
+            grants,
+            core: None,
+            held: Connections::new(alloc),
+            notes: Notes {
+                is_settled: true,
+                is_opened: false,
+                sessions: 0,
+                kept: None,
+                crashes: 0,
+                last_pick: None,
+                last_stop: None,
+                calls: 0,
+                is_spent: false,
+            },
+        }
+    }
+}
