@@ -1,6 +1,8 @@
 -- Fronts of lists: of longer lists, shortened, continued, filtered.
-use Rattle.std.proofs.Common.{◌≡◌, refl, sym, ap, subst, ◌∙◌, Bool, true, false, ℕ, ◌-◌, cond, length, append_assoc, List, [], ◌∷◌, ◌++◌, map, if◌then◌else◌, arith}
+use Rattle.std.proofs.Common.{◌≡◌, refl, sym, ap, subst, ◌∙◌, Bool, true, false, ℕ, ◌-◌, cond, length, append_assoc, List, [], ◌∷◌, ◌++◌, map, Option, Some, if◌then◌else◌, arith}
 use Rattle.std.specs.Prelude.{nat_le, filter}
+use Rattle.std.specs.List.{last_or}
+use Rattle.std.specs.Option.{option_map_or}
 use Rattle.std.proofs.lemmas.Bool.{and_parts, and_from}
 use Rattle.std.proofs.lemmas.List.{append-nil, map-append}
 use Rattle.world_model.specs.Frames.{whole_front}
@@ -96,3 +98,31 @@ front_filter same test respects (x ∷ xs) [] is = absurd (let none : ⊥ = cc i
 front_filter same test respects (x ∷ xs) (z ∷ zs) is =
     let parts = and_parts (same x z) (is_front same xs zs) is in
     filtered_one same x z (filter test xs) (filter test zs) (test x) (test z) (respects x z parts.0) parts.0 (front_filter same test respects xs zs parts.1)
+
+-- THE LAST ONE ------------------------------------------------------------------------------------
+
+-- where the last one passes the test it is the last that does
+pub last_kept : {A : Type 0} (test : A → Bool) (a b : Option A) (xs : List A) → (option_map_or test a false ≡ true → b ≡ a) → option_map_or test (last_or a xs) false ≡ true → last_or b (filter test xs) ≡ last_or a xs
+last_kept test a b [] same is = same is
+last_kept {A} test a b (one ∷ others) same is = by (test one) (λ now. last_kept test (Some one) (Some one) others (λ here. refl) now) (λ other now. last_kept test (Some one) b others other now) refl
+  where
+    by : (kept : Bool) → (option_map_or test (last_or (Some one) others) false ≡ true → last_or (Some one) (filter test others) ≡ last_or (Some one) others)
+        → ((test one ≡ true → b ≡ Some one) → option_map_or test (last_or (Some one) others) false ≡ true → last_or b (filter test others) ≡ last_or (Some one) others) → test one ≡ kept
+        → last_or b (cond kept (one ∷ filter test others) (filter test others)) ≡ last_or (Some one) others
+    by true with it kept = with is
+    by false with it kept = it (λ here. absurd (let none : ⊥ = cc in none)) is
+
+pub last_pushed : {A : Type 0} (a : Option A) (xs : List A) (x : A) → last_or a (xs ++ x ∷ []) ≡ Some x
+last_pushed a [] x = refl
+last_pushed a (y ∷ xs) x = last_pushed (Some y) xs x
+
+-- of two lists of one length of which one begins with the other the last ones are alike
+pub last_alike : {A : Type 0} (same : A → A → Bool) (a b : Option A) (xs zs : List A) (x : A) → is_front same xs zs ≡ true → length xs ≡ length zs → ((y : A) → a ≡ Some y → (z : A) × ((b ≡ Some z) × (same y z ≡ true))) → last_or a xs ≡ Some x
+    → (z : A) × ((last_or b zs ≡ Some z) × (same x z ≡ true))
+last_alike same a b [] [] x front long alike is = alike x is
+last_alike same a b [] (z ∷ zs) x front long alike is = absurd (let none : ⊥ = cc in none)
+last_alike same a b (y ∷ xs) [] x front long alike is = absurd (let none : ⊥ = cc in none)
+last_alike {A} same a b (y ∷ xs) (z ∷ zs) x front long alike is =
+    let parts = and_parts (same y z) (is_front same xs zs) front in
+    let rest : length xs ≡ length zs = cc in
+    last_alike same (Some y) (Some z) xs zs x parts.1 rest (λ w here. let equal : y ≡ w = cc in (z, (refl, subst (λ (v : A). same v z ≡ true) equal parts.0))) is

@@ -1,5 +1,5 @@
 -- The reply to a repeated call brings the identifier that is held: what is out commits nothing.
-use Rattle.std.proofs.Common.{◌≡◌, refl, sym, ap, subst, ◌∙◌, Bool, true, false, ℕ, ◌+◌, ◌≤◌, ◌&&◌, cond, length, List, [], ◌∷◌, filter, Option, Some, None, ◌⊎◌, inl, inr, arith, if◌then◌else◌}
+use Rattle.std.proofs.Common.{◌≡◌, refl, sym, ap, subst, ◌∙◌, Bool, true, false, ℕ, ◌+◌, ◌≤◌, ◌&&◌, length, List, ◌∷◌, Option, Some, None, ◌⊎◌, inl, inr, arith, if◌then◌else◌}
 use Rattle.std.specs.Prelude.{◌==◌, ◌||◌, not, nat_le, is_some}
 use Rattle.std.specs.List.{list_any, last_or}
 use Rattle.std.specs.Option.{option_map_or}
@@ -31,6 +31,7 @@ use Rattle.world_model.specs.Sames.{same_up, same_sent, same_owners, owned_by}
 use Rattle.world_model.specs.Traced.{Traced}
 use Rattle.world_model.proofs.Tests.{eq_from, le_from, same_session_is}
 use Rattle.world_model.proofs.AllLinks.{at_link}
+use Rattle.world_model.proofs.FrontLists.{last_kept}
 use Rattle.world_model.proofs.GoesBy.{by_its}
 use Rattle.world_model.proofs.Held.{held_now, doing_course}
 use Rattle.world_model.proofs.LinkLives.{counts_commits}
@@ -40,17 +41,6 @@ use Rattle.world_model.proofs.RepliesRise.{number_in, next_number}
 use Rattle.world_model.proofs.SentLinks.{awaits}
 
 -- THE FRAME THAT IS OUT ---------------------------------------------------------------------------
-
--- where the last frame is answered it is the last answered one
-last_answered : (a b : Option Sent) (sent : List Sent) → (option_map_or is_rep a false ≡ true → b ≡ a) → option_map_or is_rep (last_or a sent) false ≡ true → last_or b (filter is_rep sent) ≡ last_or a sent
-last_answered a b [] same is = same is
-last_answered a b (one ∷ others) same is = by (is_rep one) (λ now. last_answered (Some one) (Some one) others (λ here. refl) now) (λ other now. last_answered (Some one) b others other now) refl
-  where
-    by : (rep : Bool) → (option_map_or is_rep (last_or (Some one) others) false ≡ true → last_or (Some one) (filter is_rep others) ≡ last_or (Some one) others)
-        → ((is_rep one ≡ true → b ≡ Some one) → option_map_or is_rep (last_or (Some one) others) false ≡ true → last_or b (filter is_rep others) ≡ last_or (Some one) others) → is_rep one ≡ rep
-        → last_or b (cond rep (one ∷ filter is_rep others) (filter is_rep others)) ≡ last_or (Some one) others
-    by true with it rep = with is
-    by false with it rep = it (λ here. absurd (let none : ⊥ = cc in none)) is
 
 abbrev is_marked : Up → Bool
 is_marked (up.Call true kept call) = true
@@ -91,7 +81,7 @@ out_marked owner state link out = by (last_or None link.sent) refl (and_parts (i
     by (Some sent) is here =
         let one = and_parts (is_answered sent.frame) (owned_by owner sent && is_awaited (Replaying state) sent) here in
         let two = and_parts (owned_by owner sent) (is_awaited (Replaying state) sent) one.1 in
-        (sent, (last_answered None None link.sent (λ never. refl) (ap (λ (last : Option Sent). option_map_or is_rep last false) is ∙ one.0) ∙ is, call_marked (index_of state) sent sent.frame two.1))
+        (sent, (last_kept is_rep None None link.sent (λ never. refl) (ap (λ (last : Option Sent). option_map_or is_rep last false) is ∙ one.0) ∙ is, call_marked (index_of state) sent sent.frame two.1))
 
 -- so the session committed no more than is held
 made_none : (sent : Sent) (found : Option Handled) → is_marked sent.frame ≡ true → option_map_or (λ one. made_entry one.served.item && (is_commit_call one.sent && option_map_or (same_sent one.sent) (Some sent) false)) found false ≡ true → ⊥
@@ -124,7 +114,7 @@ not_ahead t link sent out marked ahead near =
         absurd (made_none sent (last_or None (served_reps link)) marked
         (subst (λ (frame : Option Sent). option_map_or (λ one. made_entry one.served.item && (is_commit_call one.sent && option_map_or (same_sent one.sent) frame false)) (last_or None (served_reps link)) false ≡ true) out made))
 
-counted_few : (number commits : ℕ) (stopped : Bool) → ((number == commits) || ((number == commits + 1) && stopped)) ≡ true → commits ≤ number
+pub counted_few : (number commits : ℕ) (stopped : Bool) → ((number == commits) || ((number == commits + 1) && stopped)) ≡ true → commits ≤ number
 counted_few number commits stopped is = by (or_cases (number == commits) ((number == commits + 1) && stopped) is)
   where
     by : ((number == commits) ≡ true) ⊎ (((number == commits + 1) && stopped) ≡ true) → commits ≤ number
@@ -133,7 +123,7 @@ counted_few number commits stopped is = by (or_cases (number == commits) ((numbe
 
 -- THE IDENTIFIER ----------------------------------------------------------------------------------
 
-told_same : (told held : Option Ltxid) → same_held told held ≡ true → number_in told ≡ number_in held
+pub told_same : (told held : Option Ltxid) → same_held told held ≡ true → number_in told ≡ number_in held
 told_same None None same = refl
 told_same (Some a) (Some b) same = ap (λ (x : Ltxid). x.number) ((same_ltxid_decides a b).0 same)
 told_same None (Some b) same = absurd (let none : ⊥ = cc in none)

@@ -39,7 +39,7 @@ given_right keeps base (Some image) = read_right keeps base image (journal_of im
 
 -- EACH EVENT --------------------------------------------------------------------------------------
 
-numbered_now : (before after : Seen) (old new : Traced) → Coupled before old → Coupled after new → after.start ≡ before.start → numbered_after [] old.entries ≡ true → numbered_after [] new.entries ≡ true
+pub numbered_now : (before after : Seen) (old new : Traced) → Coupled before old → Coupled after new → after.start ≡ before.start → numbered_after [] old.entries ≡ true → numbered_after [] new.entries ≡ true
 numbered_now before after old new was now same here =
     let earlier : StoresRight before = service_stores before was.sound was.history in
     let later : StoresRight after = service_stores after now.sound now.history in

@@ -20,7 +20,7 @@ fold_more : (held : Option Ltxid) (taken : List Reply) (reply : Reply) → fold 
 fold_more held [] reply = refl
 fold_more held (one ∷ taken) reply = fold_more (told_in held one) taken reply
 
-told_alive : (frame : Down) (alive : Bool) → told_by (Took frame alive) ≡ told_by (Took frame true)
+pub told_alive : (frame : Down) (alive : Bool) → told_by (Took frame alive) ≡ told_by (Took frame true)
 told_alive (down.Hello x) alive = refl
 told_alive (down.Reply answers draws x) alive = refl
 told_alive (down.OutcomeIs committed completed) alive = refl

@@ -46,7 +46,7 @@ rises_in high low (reply ∷ replies) = nat_le low (number_by low reply.frame) &
 number_same : (x y : Ltxid) → same_ltxid x y ≡ true → x.number ≡ y.number
 number_same x y same = grind (arith, nat_tests)
 
-by_same : (low : ℕ) (a b : Down) → same_down a b ≡ true → number_by low a ≡ number_by low b
+pub by_same : (low : ℕ) (a b : Down) → same_down a b ≡ true → number_by low a ≡ number_by low b
 by_same low (down.Hello x) (down.Hello y) same = number_same x y same
 by_same low (down.Reply a d x) (down.Reply b e y) same = number_same x y (and_parts (same_draws d e) (same_ltxid x y) (and_parts (same_answers a b) (same_draws d e && same_ltxid x y) same).1).1
 by_same low (down.OutcomeIs a b) (down.OutcomeIs c d) same = refl
@@ -71,13 +71,13 @@ front_rises high low (x ∷ xs) (y ∷ ys) is here =
 -- WHAT WAS SERVED ---------------------------------------------------------------------------------
 
 -- the number in a frame, if one is there, is this one
-abbrev has_number : ℕ → Down → Bool
+abbrev pub has_number : ℕ → Down → Bool
 has_number commits frame = option_map_or (λ x. x.number == commits) (told_by (Took frame true)) true
 
-abbrev opt_number : ℕ → Option Down → Bool
+abbrev pub opt_number : ℕ → Option Down → Bool
 opt_number commits reply = option_map_or (has_number commits) reply true
 
-same_number : (commits : ℕ) (a b : Down) → same_down a b ≡ true → has_number commits b ≡ true → has_number commits a ≡ true
+pub same_number : (commits : ℕ) (a b : Down) → same_down a b ≡ true → has_number commits b ≡ true → has_number commits a ≡ true
 same_number commits (down.Hello x) (down.Hello y) same is = eq_to x.number commits (number_same x y same ∙ eq_from y.number commits is)
 same_number commits (down.Reply a d x) (down.Reply b e y) same is =
     eq_to x.number commits (number_same x y (and_parts (same_draws d e) (same_ltxid x y) (and_parts (same_answers a b) (same_draws d e && same_ltxid x y) same).1).1 ∙ eq_from y.number commits is)
@@ -110,7 +110,7 @@ none_number : (commits : ℕ) (reply : Option Down) → is_none reply ≡ true �
 none_number commits None is = refl
 none_number commits (Some a) is = absurd (let none : ⊥ = cc in none)
 
-handled_number : (commits : ℕ) (one : Handled) → is_handled commits one ≡ true → opt_number commits one.reply ≡ true
+pub handled_number : (commits : ℕ) (one : Handled) → is_handled commits one ≡ true → opt_number commits one.reply ≡ true
 handled_number commits one is =
     by (or_cases (is_item_of one.sent.frame one.served.item && same_replies one.reply (reply_of one.served.session commits one.served.item)) (is_crashed_item one.sent.frame one.served.item && is_none one.reply) is)
   where
@@ -162,7 +162,7 @@ served_rises high low commits (one ∷ others) below most here =
 
 -- WHAT IS TAKEN NEXT ------------------------------------------------------------------------------
 
-told_number : (held : Option Ltxid) (reply : Reply) → number_by (number_in held) reply.frame ≡ number_in (told_in held reply)
+pub told_number : (held : Option Ltxid) (reply : Reply) → number_by (number_in held) reply.frame ≡ number_in (told_in held reply)
 told_number held reply = by (told_by (Took reply.frame true))
   where
     by : (found : Option Ltxid) → option_map_or (λ x. x.number) found (number_in held) ≡ number_in (option_or found held)

@@ -152,7 +152,7 @@ differs_from a b is same = by (a == b) is (eq_to a b (sym same))
     by false is here = let none : ⊥ = cc in none
 
 -- those of other numbers pass still where one is changed
-still_pass : (test : Link → Bool) (change : Link → Link) (links : List Link) (number : ℕ) (numbers : List ℕ) → all_with (differ number) numbers ≡ true → list_all (passes_at test links) numbers ≡ true
+pub still_pass : (test : Link → Bool) (change : Link → Link) (links : List Link) (number : ℕ) (numbers : List ℕ) → all_with (differ number) numbers ≡ true → list_all (passes_at test links) numbers ≡ true
     → list_all (passes_at test (changed change links number)) numbers ≡ true
 still_pass test change links number [] apart all = refl
 still_pass test change links number (other ∷ numbers) apart all =

@@ -21,7 +21,7 @@ use Rattle.world_model.proofs.LinkOrder.{same_reps, same_some, replied}
 -- REPLIES -----------------------------------------------------------------------------------------
 
 -- a reply is to an answered frame
-reply_rep : (commits : ℕ) (one : Handled) → is_handled commits one ≡ true → is_some one.reply ≡ true → is_rep one.sent ≡ true
+pub reply_rep : (commits : ℕ) (one : Handled) → is_handled commits one ≡ true → is_some one.reply ≡ true → is_rep one.sent ≡ true
 reply_rep commits one is some =
     by (or_cases (is_item_of one.sent.frame one.served.item && same_replies one.reply (reply_of one.served.session commits one.served.item)) (is_crashed_item one.sent.frame one.served.item && is_none one.reply) is)
   where
@@ -46,7 +46,7 @@ few_one one (Some frame) true rest reps follows few =
 few_one one (Some frame) false rest reps follows few = absurd (let never : false ≡ true = follows refl in let none : ⊥ = cc in none)
 
 -- no more replies than answered frames that were served
-few_replies : (commits : ℕ) (served : List Handled) → handled_from commits served ≡ true → length (filter_map reply_to served) ≤ length (filter (λ one. is_rep one.sent) served)
+pub few_replies : (commits : ℕ) (served : List Handled) → handled_from commits served ≡ true → length (filter_map reply_to served) ≤ length (filter (λ one. is_rep one.sent) served)
 few_replies commits [] here = le_refl 0
 few_replies commits (one ∷ others) here =
     let now : ℕ = counted_with commits one.served.item in
@@ -55,14 +55,14 @@ few_replies commits (one ∷ others) here =
 
 -- LENGTHS -----------------------------------------------------------------------------------------
 
-front_long : {A : Type 0} (same : A → A → Bool) (xs ys : List A) → is_front same xs ys ≡ true → length xs ≤ length ys
+pub front_long : {A : Type 0} (same : A → A → Bool) (xs ys : List A) → is_front same xs ys ≡ true → length xs ≤ length ys
 front_long same [] ys is = let none : 0 ≤ length ys = omega arith in none
 front_long same (x ∷ xs) [] is = absurd (let none : ⊥ = cc in none)
 front_long same (x ∷ xs) (y ∷ ys) is =
     let rest : length xs ≤ length ys = front_long same xs ys (and_parts (same x y) (is_front same xs ys) is).1 in
     let more : length (x ∷ xs) ≤ length (y ∷ ys) = omega arith in more
 
-reps_sent : (served : List Handled) → length (filter (λ one. is_rep one.sent) served) ≡ length (filter is_rep (map (λ one. one.sent) served))
+pub reps_sent : (served : List Handled) → length (filter (λ one. is_rep one.sent) served) ≡ length (filter is_rep (map (λ one. one.sent) served))
 reps_sent [] = refl
 reps_sent (one ∷ others) = by (is_rep one.sent) (reps_sent others)
   where

@@ -1,7 +1,14 @@
 -- What of the invariant is kept: it holds of the start, and of the state behind each event if the whole invariant held before.
-use Rattle.std.specs.Prelude.{◌≡◌, Bool, IsTrue, List}
+use Rattle.std.specs.Prelude.{◌≡◌, ℕ, Bool, false, IsTrue, List}
 use Rattle.svc_values.specs.declared.draw.Draw.{Draw}
+use Rattle.svc_values.specs.declared.call.Call.{Call}
+use Rattle.svc_values.specs.declared.frame.Up.TheVariants as up
+use Rattle.svc_values.specs.Calls.{has_commit}
+use Rattle.server_model.specs.Core.{Core}
+use Rattle.server_model.specs.Outcomes.{Telling}
 use Rattle.server_model.specs.Seen.{Seen}
+use Rattle.server_model.specs.Serve.{Serve}
+use Rattle.server_model.specs.Sessions.{Sess}
 use Rattle.outage_schedule.specs.declared.document.Document.{Document}
 use Rattle.outage_schedule.specs.declared.event.Event.{Event}
 use Rattle.outage_schedule.specs.declared.note.Note.{Note}
@@ -70,3 +77,9 @@ abbrev pub TalksAreKept : Type 0
 TalksAreKept =
     (granted : Draw → Bool) (before after : Seen) (old new : Traced) (event : Event) (note : Note) (items left : List Served)
     → OneEvent before old event note items left after new → Invariant granted old → AllTalk new.setting.terms new.machine.clients
+
+-- A call without a commit stores no entry. (A premise of some of the laws, on the plain server.)
+abbrev pub StoresByCommit : Type 0
+StoresByCommit =
+    (core : Core) (sess : Sess) (now : ℕ) (replay : Bool) (kept : List Draw) (called : Call) (after : Core) (t : Sess) (told : Telling)
+    → Serve core sess now (up.Call replay kept called) after t told → has_commit called ≡ false → after.entries ≡ core.entries
