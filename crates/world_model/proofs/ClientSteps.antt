@@ -2,6 +2,7 @@
 use Rattle.std.proofs.Common.{◌≡◌, refl, sym, ap, subst, ◌∙◌, Bool, true, false, ℕ, ◌+◌, ◌-◌, fold, List, [], ◌∷◌, ◌++◌, map, Option, Some, None, if◌then◌else◌}
 use Rattle.std.specs.Prelude.{nat_le, unwrap_or, option_and_then}
 use Rattle.std.proofs.lemmas.List.{map-append}
+use Rattle.svc_values.specs.declared.entry.Ltxid.{Ltxid}
 use Rattle.svc_values.specs.declared.frame.Up.{Up}
 use Rattle.outage_schedule.specs.declared.item.Served.{Served}
 use Rattle.pool_core.specs.Slots.{Slots, after_take}
@@ -18,9 +19,10 @@ use Rattle.client_model.specs.Talk.{wants_of, stands, quiet, fails, with_tried, 
 use Rattle.client_model.specs.Terms.{Talk, Queued, Seeking}
 use Rattle.world_model.specs.Settings.{Setting}
 use Rattle.world_model.specs.Frames.{Sent}
-use Rattle.world_model.specs.Links.{Link, new_link, with_link, changed, sends, takes}
+use Rattle.world_model.specs.Links.{Link, new_link, link_at, with_link, changed, sends, takes}
 use Rattle.world_model.specs.Clients.{Doing, Client, client_at, with_client, doing_at, doing_of, heard, step_at, after_hold, after_step}
 use Rattle.world_model.specs.Conversing.{connected}
+use Rattle.world_model.specs.Words.{brought}
 use Rattle.world_model.specs.Machines.{Machine}
 use Rattle.world_model.specs.Matching.{Noted}
 use Rattle.world_model.specs.Acting.{frames_of, call_in, sent_by, owner_at}
@@ -45,6 +47,12 @@ pub data Grows (lists : List (List Sent)) : List (List Sent) → Type 0 where
   AsBefore : Grows lists lists
   OneMore : Grows lists (lists ++ [] ∷ [])
 
+-- a connection that an input brings
+pub data Brings (m : Machine) (lists : List (List Sent)) : Input → Type 0 where
+  NoneNew : (input : Input) → brought input ≡ None → Brings m lists input
+  IdleOne : (connection : ℕ) (ltxid : Ltxid) (link : Link) → link_at m.links connection ≡ Some link → Brings m lists (Lent connection ltxid)
+  NewOne : lists ≡ sent_lists m.links ++ [] ∷ [] → Brings m lists (Opened (next_number m))
+
 -- Of this client: what its request hears on which connection, and where it stands then; and what it sends there.
 pub record HasStepped (setting : Setting) (m : Machine) (number : ℕ) (n : Machine) : Type 0 where
   pub client : Client
@@ -63,6 +71,7 @@ pub record HasStepped (setting : Setting) (m : Machine) (number : ℕ) (n : Mach
   pub pool : Slots
   pub lists : List (List Sent)
   pub grows : Grows (sent_lists m.links) lists
+  pub brings : Brings m lists input
   pub sent_are : sent_lists n.links ≡ spoken lists (unwrap_or connection 0)
       (map (sent_by (owner_at m number) (call_in (heard setting.terms m.event m.tick (record before { connection = connection }) input).talk.phase))
       (frames_of pool (unwrap_or connection 0) (step_at setting.terms m.event m.tick (record before { connection = connection }) input).done.act))
@@ -88,10 +97,10 @@ module _ (setting : Setting) (m : Machine) (number : ℕ) where
   Heard before connection input = (may_come false (wants_of setting.terms before.talk m.tick) input ≡ true) × (connection ≡ None → (ActOf before connection input).send ≡ [])
 
   one_step : (n : Machine) (client : Client) (before : Doing) (connection : Option ℕ) (input : Input) (pool : Slots) (links : List Link) → client_at m.clients number ≡ Some client
-      → doing_of setting.terms m.event m.tick client ≡ Some before → connected before.connection input ≡ connection → Heard before connection input → Grows (sent_lists m.links) (sent_lists links)
+      → doing_of setting.terms m.event m.tick client ≡ Some before → connected before.connection input ≡ connection → Heard before connection input → Grows (sent_lists m.links) (sent_lists links) → Brings m (sent_lists links) input
       → n.clients ≡ after_step setting m.clients number (FirstOf before connection input) (ActOf before connection input).hold
       → n.links ≡ changed (sends m.event (SaidOf pool before connection input)) links (unwrap_or connection 0) → HasStepped setting m number n
-  one_step n client before connection input pool links here does connects hears grows clients said = record {
+  one_step n client before connection input pool links here does connects hears grows brings clients said = record {
     client = client;
     here = here;
     before = before;
@@ -108,6 +117,7 @@ module _ (setting : Setting) (m : Machine) (number : ℕ) where
     pool = pool;
     lists = sent_lists links;
     grows = grows;
+    brings = brings;
     sent_are = ap sent_lists said
         ∙ changed_more (sends m.event (SaidOf pool before connection input)) (SaidOf pool before connection input) links (unwrap_or connection 0) (sends_more m.event (SaidOf pool before connection input));
   }
@@ -119,11 +129,11 @@ module _ (setting : Setting) (m : Machine) (number : ℕ) where
   lost_links a ended (Some doing) = refl
 
   unless_step : (a : Machine) (ended : Option ℕ) (alive : Bool) (client : Client) (before : Doing) (connection : Option ℕ) (input : Input) (pool : Slots) (links : List Link) → client_at m.clients number ≡ Some client
-      → doing_of setting.terms m.event m.tick client ≡ Some before → connected before.connection input ≡ connection → Heard before connection input → Grows (sent_lists m.links) (sent_lists links)
+      → doing_of setting.terms m.event m.tick client ≡ Some before → connected before.connection input ≡ connection → Heard before connection input → Grows (sent_lists m.links) (sent_lists links) → Brings m (sent_lists links) input
       → a.clients ≡ after_step setting m.clients number (FirstOf before connection input) (ActOf before connection input).hold
       → a.links ≡ changed (sends m.event (SaidOf pool before connection input)) links (unwrap_or connection 0) → HasStepped setting m number (if alive then a else lost_at_once setting a number ended (doing_at a.clients number))
-  unless_step a ended true client before connection input pool links here does connects hears grows clients said = one_step a client before connection input pool links here does connects hears grows clients said
-  unless_step a ended false client before connection input pool links here does connects hears grows clients said = by (ActOf before connection input).hold refl
+  unless_step a ended true client before connection input pool links here does connects hears grows brings clients said = one_step a client before connection input pool links here does connects hears grows brings clients said
+  unless_step a ended false client before connection input pool links here does connects hears grows brings clients said = by (ActOf before connection input).hold refl
     where
       first : Doing
       first = FirstOf before connection input
@@ -140,7 +150,7 @@ module _ (setting : Setting) (m : Machine) (number : ℕ) where
       over : (held : Hold) → (ActOf before connection input).hold ≡ held → (after_hold setting number client first held).now ≡ None → HasStepped setting m number (lost_at_once setting a number ended (doing_at a.clients number))
       over held is none =
           subst (λ (one : Option Doing). HasStepped setting m number (lost_at_once setting a number ended one)) (sym (doing_now held is ∙ none))
-          (one_step a client before connection input pool links here does connects hears grows clients said)
+          (one_step a client before connection input pool links here does connects hears grows brings clients said)
 
       gone : Doing
       gone = heard setting.terms a.event a.tick (record first { connection = None }) (Gone (unwrap_or ended 0))
@@ -168,6 +178,7 @@ module _ (setting : Setting) (m : Machine) (number : ℕ) where
             pool = pool;
             lists = sent_lists links;
             grows = grows;
+            brings = brings;
             sent_are = ap sent_lists said
                 ∙ changed_more (sends m.event (SaidOf pool before connection input)) (SaidOf pool before connection input) links (unwrap_or connection 0) (sends_more m.event (SaidOf pool before connection input));
           }
@@ -213,25 +224,25 @@ module _ (setting : Setting) (m : Machine) where
   goes_step number _ Rests = Still refl refl
   goes_step number _ (Waits doing is answer) =
       Stepped number (one_step setting m number _ is.client doing doing.connection Waiting (after_take m.pool number) m.links is.here is.does refl
-      (may_so doing wants.Slot Waiting is.wants refl, λ none. waited_silent doing.talk (waits_from doing.talk.phase m.tick) m.tick) AsBefore refl refl)
+      (may_so doing wants.Slot Waiting is.wants refl, λ none. waited_silent doing.talk (waits_from doing.talk.phase m.tick) m.tick) AsBefore (NoneNew Waiting refl) refl refl)
   goes_step number _ (Lends doing connection link ltxid is answer there held) =
       Stepped number (one_step setting m number _ is.client doing (Some connection) (Lent connection ltxid) (after_take m.pool number) m.links is.here is.does refl
-      (may_so doing wants.Slot (Lent connection ltxid) is.wants refl, some_none (Some connection) connection _ refl) AsBefore refl refl)
+      (may_so doing wants.Slot (Lent connection ltxid) is.wants refl, some_none (Some connection) connection _ refl) AsBefore (IdleOne connection ltxid link there) refl refl)
   goes_step number _ (Opens doing wanted pool is tries runs) =
       Stepped number (one_step setting m number _ is.client doing (Some (next_number m)) (Opened (next_number m)) (with_new m pool).pool (m.links ++ new_link ∷ []) is.here is.does refl
       ((tries_may number (next_number m) doing wanted pool is tries).0, some_none (Some (next_number m)) (next_number m) _ refl)
-      (subst (λ (lists : List (List Sent)). Grows (sent_lists m.links) lists) (sym (map-append (λ (link : Link). link.sent) m.links (new_link ∷ []))) OneMore) refl refl)
+      (subst (λ (lists : List (List Sent)). Grows (sent_lists m.links) lists) (sym (map-append (λ (link : Link). link.sent) m.links (new_link ∷ []))) OneMore) (NewOne (map-append (λ (link : Link). link.sent) m.links (new_link ∷ []))) refl refl)
   goes_step number _ (Fails doing wanted pool is tries down) =
       Stepped number (one_step setting m number _ is.client doing doing.connection TryFailed pool m.links is.here is.does refl
-      ((tries_may number 0 doing wanted pool is tries).1, λ none. tried_silent doing.talk m.tick) AsBefore refl refl)
+      ((tries_may number 0 doing wanted pool is tries).1, λ none. tried_silent doing.talk m.tick) AsBefore (NoneNew TryFailed refl) refl refl)
   goes_step number _ (Takes doing connection link reply left is on down) =
       let taken : Link = takes (Took reply.frame link.is_open) reply left link in
       Stepped number (unless_step setting m number (takes_one setting m number doing connection link reply left) link.ended link.is_open is.client doing doing.connection (Took reply.frame link.is_open) m.pool
       (with_link m.links connection taken) is.here is.does refl (may_so doing wants.Frame (Took reply.frame link.is_open) is.wants refl, some_none doing.connection connection _ on.has)
-      (grown (with_link m.links connection taken) (with_same m.links connection link taken on.there refl)) refl refl)
+      (grown (with_link m.links connection taken) (with_same m.links connection link taken on.there refl)) (NoneNew (Took reply.frame link.is_open) refl) refl refl)
   goes_step number _ (Loses doing connection link is on none closed) =
       Stepped number (one_step setting m number _ is.client doing None (Gone (unwrap_or link.ended 0)) m.pool m.links is.here is.does refl
-      (may_so doing wants.Frame (Gone (unwrap_or link.ended 0)) is.wants refl, λ never. refl) AsBefore refl refl)
+      (may_so doing wants.Frame (Gone (unwrap_or link.ended 0)) is.wants refl, λ never. refl) AsBefore (NoneNew (Gone (unwrap_or link.ended 0)) refl) refl refl)
 
   fallen_same : (links : List Link) → sent_lists (map (fallen_link m.event) links) ≡ sent_lists links
   fallen_same links = mapped_same (fallen_link m.event) links (λ link. (fallen_said m.event link).sent)

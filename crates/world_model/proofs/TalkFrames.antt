@@ -80,7 +80,7 @@ tried_fits terms talk now = by (nat_le terms.limits.retries (talk.tries + 1))
     by true = refl
     by false = refl
 
-send_fits : (terms : Terms) (talk : Talk) (input : Input) (now : ℕ) → list_all (frame_fits (talk_step terms talk input now).0.phase) (talk_step terms talk input now).1.send ≡ true
+pub send_fits : (terms : Terms) (talk : Talk) (input : Input) (now : ℕ) → list_all (frame_fits (talk_step terms talk input now).0.phase) (talk_step terms talk input now).1.send ≡ true
 send_fits terms talk Start now = refl
 send_fits terms talk Waiting now = waited_fits terms talk (waits_from talk.phase now) now
 send_fits terms talk (Lent connection ltxid) now =

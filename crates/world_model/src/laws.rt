@@ -3,7 +3,7 @@
 ghost use Rattle.world_model.specs.KeptLaws.{IsKept, IsKeptOfCalls, IsOfService, BasicBegins, BasicIsKept, WireBegins, WireIsKept, HoldBegins, HoldIsKept, StoresByCommit, TalksBegin, TalksAreKept};
 ghost use Rattle.world_model.specs.Wire.{sent_fronts, reply_fronts, are_handled, in_grammar, one_out, answered_in_order, up_lives, are_fresh};
 ghost use Rattle.world_model.specs.Ready.{are_ready};
-ghost use Rattle.world_model.specs.Script.{are_conversations, are_kept, are_owned, carry_draws, follow_scripts, report_rightly};
+ghost use Rattle.world_model.specs.Script.{are_conversations, are_kept, all_sent, are_owned, carry_draws, follow_scripts, report_rightly};
 ghost use Rattle.world_model.specs.Hold.{are_had, are_queued, are_held, are_idle, slots_held, are_opened, are_by_held};
 ghost use Rattle.world_model.specs.Number.{are_near, are_counted as are_numbered, are_told, are_served_near, are_ahead, blocks_next, entries_numbered, none_blocked};
 ghost use Rattle.world_model.specs.Basic.{have_risen, kept_ticks, items_rise, items_differ, is_down, are_ended, sessions_differ, are_made, are_counted, are_named, living_now, commits_counted, lives};
@@ -114,6 +114,12 @@ pub fn frames_are_of_holders()
 /// A marked call carries the draws that were shown of its call, and one without the mark carries none.
 pub fn marked_calls_carry_draws()
     ensures { IsKept carry_draws }
+{}
+
+/// What the steps of a request tell of its sendings is what it sent: on each connection that it held, its calls without the mark,
+/// in order, each at its place in the request.
+pub fn sendings_are_sent()
+    ensures { IsKept all_sent }
 {}
 
 /// The k-th request of a client is the one that follows the reports of those before it in the client's script.
