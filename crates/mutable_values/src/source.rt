@@ -121,6 +121,13 @@ impl Source {
         }
     }
 
+    /// The incarnation of this opening.
+    pub fn incarnation(&self) -> u64
+        ensures { result ≡ self.now.incarnation }
+    {
+        self.incarnation
+    }
+
     /// Those of the draws that the service keeps, in order. Linear in the draws, and for each of a
     /// sequence in the number of sequences, of which there are at most 32.
     pub fn granted(&self, alloc: Global, grants: &Grants, draws: &Draws) -> Result<Kept, NoMemory>

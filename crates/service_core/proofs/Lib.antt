@@ -1,6 +1,8 @@
 mod BaseRows
+mod Ending
 mod Falling
 mod Faulty
+mod Gained
 mod GoingOn
 mod Halted
 mod Made
@@ -8,4 +10,9 @@ mod Opened
 mod Reaching
 mod Read
 mod Reopening
+mod Served
+mod Serves
+mod Splits
 mod Standing
+mod Stopping
+mod Taken

@@ -89,7 +89,7 @@ none_more connection old new holds other session at = by (is_eq (nat_cmp connect
     by true is = absurd (let e : ◌≡◌ {A = Option (Option Session)} (Some None) (Some (Some session)) = is in cc)
     by false is = is
 
-one_less : (connection : ℕ) (old new : Held) → Holds connection None old new → HasNoMore old new
+pub one_less : (connection : ℕ) (old new : Held) → Holds connection None old new → HasNoMore old new
 one_less connection old new holds other session at = by (is_eq (nat_cmp connection other)) (sym (holds other) ∙ at)
   where
     by : (own : Bool) → (if own then None else held_at old other) ≡ Some (Some session) → held_at old other ≡ Some (Some session)

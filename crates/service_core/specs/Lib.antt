@@ -4,4 +4,5 @@ pub mod Opening
 pub mod Seeing
 pub mod Sound
 pub mod Starting
+pub mod Taking
 pub mod Within

@@ -8,6 +8,7 @@ mod making;
 mod notes;
 mod one;
 mod opening;
+mod serving;
 mod up;
 
 pub use one::OneService;

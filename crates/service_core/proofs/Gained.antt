@@ -1,0 +1,149 @@
+-- What a store gains in a frame: what the plain server beside it does, in so many records more.
+use Rattle.std.proofs.Common.{◌≡◌, ◌∙◌, ◌+◌, ◌≤◌, ℕ, refl, sym, ap, List, [], ◌∷◌, ◌++◌, length, map, fold, append_assoc, length-append, arith}
+use Rattle.std.proofs.lemmas.List.{length-map}
+use Rattle.std.proofs.lemmas.List.Elements.{All-weaker}
+use Rattle.std.specs.Prelude.{Result, Ok, Err}
+use Rattle.redo_store.specs.Records.{records_of, record_count}
+use Rattle.svc_values.specs.declared.entry.Entry.{Entry}
+use Rattle.svc_values.specs.declared.entry.Ltxid.{Ltxid}
+use Rattle.ltxid_book.specs.Journal.{book_of, committed_of}
+use Rattle.commit_log.specs.declared.journal.Journal.{Journal}
+use Rattle.commit_log.specs.declared.records.Record.{Record}
+use Rattle.commit_log.specs.declared.records.Record.TheVariants as kept
+use Rattle.commit_log.specs.Growth.{HasAdded, with_records, with_payloads}
+use Rattle.commit_log.specs.RecordBytes.{spell_record}
+use Rattle.commit_log.specs.Rules.{SoFar, with_record}
+use Rattle.commit_log.specs.Journals.{journal_of, journal_in, so_far_of, with_gates}
+use Rattle.server_model.specs.Base.{Base}
+use Rattle.server_model.specs.Core.{Core as Plain, book}
+use Rattle.server_model.specs.Laws.{CommitsAs}
+use Rattle.server_model.specs.Runs.{Happened}
+use Rattle.server_model.specs.Seen.{Store, book_in}
+use Rattle.server_model.specs.ServiceCalls.{CameFrom, WasAsked, AsksFor, Gains, Adds}
+use Rattle.server_model.proofs.Offered.{AddsBy}
+use Rattle.server_session.specs.Plain.{IsStored}
+use Rattle.service_calls.specs.Kept.{HaveOneBase}
+use Rattle.service_core.specs.Seeing.{store_in, store_of}
+use Rattle.service_core.proofs.Opened.{store_is}
+
+-- ---- the base
+
+record_base : (journal : Journal) (one : Record) → (with_record journal one).base ≡ journal.base
+record_base journal (kept.Base base) = refl
+record_base journal (kept.Opened incarnation) = refl
+record_base journal (kept.Commit entry) = refl
+record_base journal (kept.Blocked x) = refl
+record_base journal (kept.Reserved reservation) = refl
+record_base journal (kept.Alert line) = refl
+record_base journal (kept.Horizon horizon) = refl
+
+folded_base : (journal : Journal) (records : List Record) → (fold with_record journal records).base ≡ journal.base
+folded_base journal [] = refl
+folded_base journal (one ∷ records) = folded_base (with_record journal one) records ∙ record_base journal one
+
+-- What was added to a journal leaves one with its base.
+pub record Grew (old : List ℕ) (added : List Record) (journal : Journal) (image : List ℕ) : Type 0 where
+  pub later : Journal
+  pub reads : journal_of image ≡ Ok later
+  pub base_is : later.base ≡ journal.base
+
+pub added_grew : (old : List ℕ) (added : List Record) (journal : Journal) (image : List ℕ) → journal_of old ≡ Ok journal → HasAdded old added image → Grew old added journal image
+added_grew old added journal image reads has = record {
+  later = fold with_record journal added;
+  reads = has.journal ∙ ap (with_records added) reads;
+  base_is = folded_base journal added;
+}
+
+pub grew_base : (old : List ℕ) (added : List Record) (journal : Journal) (image : List ℕ) → journal_of old ≡ Ok journal → Grew old added journal image → HaveOneBase old image
+grew_base old added journal image is grew first second reads reads_second =
+    let e : ◌≡◌ {A = Result Journal ℕ} (Ok journal) (Ok first) = sym is ∙ reads in
+    let f : ◌≡◌ {A = Result Journal ℕ} (Ok grew.later) (Ok second) = sym grew.reads ∙ reads_second in
+    let here : journal ≡ first = cc in
+    let there : grew.later ≡ second = cc in
+    ap (λ (j : Journal). j.base) (sym there) ∙ grew.base_is ∙ ap (λ (j : Journal). j.base) here
+
+-- ---- how many records
+
+-- a journal is read from whole records
+record HasRecords (image : List ℕ) : Type 0 where
+  pub payloads : List (List ℕ)
+  pub are : records_of image ≡ Ok payloads
+
+whole : (image : List ℕ) (judging : Result SoFar ℕ) (found : Result (List (List ℕ)) ℕ) (journal : Journal) → records_of image ≡ found → journal_in (with_gates judging found) ≡ Ok journal → HasRecords image
+whole image (Err place) found journal is reads = absurd (let none : ⊥ = cc in none)
+whole image (Ok so_far) (Err place) journal is reads = absurd (let none : ⊥ = cc in none)
+whole image (Ok so_far) (Ok payloads) journal is reads = record { payloads = payloads; are = is }
+
+has_records : (image : List ℕ) (journal : Journal) → journal_of image ≡ Ok journal → HasRecords image
+unfolding so_far_of
+has_records image journal reads = whole image _ (records_of image) journal refl reads
+
+count_more : (old : List ℕ) (added : List Record) (image : List ℕ) (journal : Journal) → journal_of old ≡ Ok journal → HasAdded old added image → record_count (records_of image) ≡ record_count (records_of old) + length added
+count_more old added image journal reads has =
+    let found = has_records old journal reads in
+    let more : record_count (records_of image) ≡ length (found.payloads ++ map spell_record added) = ap record_count has.records ∙ ap (λ (r : Result (List (List ℕ)) ℕ). record_count (with_payloads added r)) found.are in
+    let before : record_count (records_of old) ≡ length found.payloads = ap record_count found.are in
+    omega (arith, more, before, length-append found.payloads (map spell_record added), length-map added spell_record)
+
+records_of_store : (image : List ℕ) (journal : Journal) → journal_of image ≡ Ok journal → (store_of image).records ≡ record_count (records_of image)
+records_of_store image journal reads = ap (λ (s : Store). s.records) (store_is image journal reads)
+
+-- as many records more as were added
+pub records_more : (old : List ℕ) (added : List Record) (image : List ℕ) (journal : Journal) → journal_of old ≡ Ok journal → HasAdded old added image → (store_of image).records ≡ (store_of old).records + length added
+records_more old added image journal reads has =
+    let grew = added_grew old added journal image reads has in
+    records_of_store image grew.later grew.reads ∙ count_more old added image journal reads has ∙ ap (λ n. n + length added) (sym (records_of_store old journal reads))
+
+-- ---- what the store holds
+
+-- what the plain server says of sessions is what the store says
+pub book_stored : (core : Plain) (image : List ℕ) (journal : Journal) → journal_of image ≡ Ok journal → IsStored core journal → book core ≡ book_in (store_of image)
+book_stored core image journal reads is = (λ i. book_of (is.horizon i) (map committed_of (is.entries i)) (is.blocked i)) ∙ ap book_in (sym (store_is image journal reads))
+
+came : (one : Happened) (entry : Entry) → CommitsAs entry one → CameFrom (one ∷ []) entry
+came one entry commits = (one, ((0, omega arith, refl), commits))
+
+asked : (one : Happened) (x : Ltxid) → AsksFor x one → WasAsked (one ∷ []) x
+asked one x asks = (one, ((0, omega arith, refl), asks))
+
+grown : {A : Type 0} (base old new more before after : List A) → base ++ old ≡ before → base ++ new ≡ after → new ≡ old ++ more → after ≡ before ++ more
+grown base old new more before after was is same = sym is ∙ ap (λ l. base ++ l) same ∙ sym (append_assoc base old more) ∙ ap (λ l. l ++ more) was
+
+-- What stays of a plain server's core.
+pub record Stays (core after : Plain) : Type 0 where
+  pub base : after.base ≡ core.base
+  pub incarnation : after.opening.incarnation ≡ core.opening.incarnation
+  pub horizon : after.horizon ≡ core.horizon
+
+module _ (one : Happened) (core after : Plain) (adds : AddsBy one core after) (journal later : Journal) (a b : Store) (n m : ℕ) (a_is : a ≡ store_in (Ok journal) n) (b_is : b ≡ store_in (Ok later) m) (was : IsStored core journal) (is : IsStored after later) (stays : Stays core after) where
+  gains_in : Gains (one ∷ []) a b
+  gains_in = record {
+    incarnation = ap (λ (s : Store). s.incarnation) b_is ∙ sym is.source.incarnation ∙ stays.incarnation ∙ was.source.incarnation ∙ ap (λ (s : Store). s.incarnation) (sym a_is);
+    horizon = ap (λ (s : Store). s.horizon) b_is ∙ sym is.horizon ∙ stays.horizon ∙ was.horizon ∙ ap (λ (s : Store). s.horizon) (sym a_is);
+    more_entries = adds.adds.more_entries;
+    more_blocked = adds.adds.more_blocked;
+    more_alerts = adds.adds.more_alerts;
+    entries =
+        grown core.base.entries core.entries after.entries adds.adds.more_entries a.entries b.entries (was.entries ∙ ap (λ (s : Store). s.entries) (sym a_is))
+        (ap (λ (l : Base). l.entries ++ after.entries) (sym stays.base) ∙ is.entries ∙ ap (λ (s : Store). s.entries) (sym b_is)) adds.adds.entries;
+    blocked =
+        grown core.base.blocked core.blocked after.blocked adds.adds.more_blocked a.blocked b.blocked (was.blocked ∙ ap (λ (s : Store). s.blocked) (sym a_is))
+        (ap (λ (l : Base). l.blocked ++ after.blocked) (sym stays.base) ∙ is.blocked ∙ ap (λ (s : Store). s.blocked) (sym b_is)) adds.adds.blocked;
+    alerts =
+        grown core.base.alerts core.alerts after.alerts adds.adds.more_alerts a.alerts b.alerts (was.alerts ∙ ap (λ (s : Store). s.alerts) (sym a_is))
+        (ap (λ (l : Base). l.alerts ++ after.alerts) (sym stays.base) ∙ is.alerts ∙ ap (λ (s : Store). s.alerts) (sym b_is)) adds.adds.alerts;
+    own = All-weaker (λ (entry : Entry). CommitsAs entry one) (CameFrom (one ∷ [])) (came one) adds.adds.more_entries adds.own;
+    asked = All-weaker (λ (x : Ltxid). AsksFor x one) (WasAsked (one ∷ [])) (asked one) adds.adds.more_blocked adds.asked;
+  }
+
+-- Between two images that plain servers stand beside, of which one came from the other in this.
+pub adds_between : (one : Happened) (most : ℕ) (core after : Plain) (adds : AddsBy one core after) (old image : List ℕ) (records : List Record) (journal later : Journal) → journal_of old ≡ Ok journal → journal_of image ≡ Ok later
+    → IsStored core journal → IsStored after later → Stays core after → HasAdded old records image → length records ≤ most → Adds (one ∷ []) most (store_of old) (store_of image)
+unfolding gains_in
+adds_between one most core after adds old image records journal later reads reads_later was is stays has few =
+    let more = records_more old records image journal reads has in
+    record {
+      gains = gains_in one core after adds journal later (store_of old) (store_of image) _ _ (store_is old journal reads) (store_is image later reads_later) was is stays;
+      few = adds.adds.few;
+      records = (omega (arith, more), omega (arith, more, few));
+    }

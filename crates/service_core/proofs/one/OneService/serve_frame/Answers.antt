@@ -1,0 +1,103 @@
+use Rattle.std.proofs.Common.{◌≡◌, ◌∙◌, ◌+◌, sym, ap, subst}
+use Rattle.std.specs.Prelude.{Option, Some, Err}
+use Rattle.svc_values.specs.Calls.{sequences_in}
+use Rattle.server_model.specs.Outcomes.{Stopped, telling_of}
+use Rattle.server_model.specs.ServiceCalls.{ServedOne}
+use Rattle.server_model.specs.declared.fault.ServeFault.{ServeFault}
+use Rattle.server_session.specs.Serving.{Serves, served_as}
+use Rattle.server_session.specs.declared.shared.Core.{Core}
+use Rattle.service_calls.specs.Kept.{Goes, HaveOneBase}
+use Rattle.service_core.specs.Seeing.{LeavesIn, SeesIn, bytes_in}
+use Rattle.service_core.specs.Sound.{IsSound, IsUp}
+use Rattle.service_core.specs.Within.{Within}
+use Rattle.service_core.proofs.Serves.{serves, serves_on_base, serves_soundly, stops, stops_on_base, stops_soundly, with_served, with_stopped}
+use Rattle.service_core.proofs.Taken.{gone_at, taken_held}
+use Rattle.service_core.proofs.one.OneService.serve_frame.Goals as goal
+
+pub serve-requires-clause-lives : goal.serve-requires-clause-lives
+serve-requires-clause-lives g c =
+    let live = ap (λ (w : Within). w.notes.is_spent) c.self.view_is ∙ c.requires.live in
+    let sound : IsUp c.self.inside.grants (g.D.Disk.state c.self.inside.disk) c.in-Some.core c.self.inside.held c.self.inside.notes = subst (λ (o : Option Core). IsSound c.self.inside.grants (g.D.Disk.state c.self.inside.disk) o c.self.inside.held c.self.inside.notes) (sym c.in-Some.ensures.value) (c.self.invariant live) in
+    let own = taken_held c.self.inside.grants (g.D.Disk.state c.self.inside.disk) c.in-Some.core c.self.inside.held c.self.inside.notes c.args.connection c.take_session-session.result c.take_session-session.new.made sound c.take_session-session.ensures.session_is in
+    own.lives
+
+pub serve-requires-clause-belongs : goal.serve-requires-clause-belongs
+serve-requires-clause-belongs g c =
+    let live = ap (λ (w : Within). w.notes.is_spent) c.self.view_is ∙ c.requires.live in
+    let sound : IsUp c.self.inside.grants (g.D.Disk.state c.self.inside.disk) c.in-Some.core c.self.inside.held c.self.inside.notes = subst (λ (o : Option Core). IsSound c.self.inside.grants (g.D.Disk.state c.self.inside.disk) o c.self.inside.held c.self.inside.notes) (sym c.in-Some.ensures.value) (c.self.invariant live) in
+    let own = taken_held c.self.inside.grants (g.D.Disk.state c.self.inside.disk) c.in-Some.core c.self.inside.held c.self.inside.notes c.args.connection c.take_session-session.result c.take_session-session.new.made sound c.take_session-session.ensures.session_is in
+    own.belongs
+
+pub put_back-requires : goal.put_back-requires
+put_back-requires g c = gone_at c.args.connection c.self.inside.held c.take_session-session.new.held c.take_session-session.ensures.gone
+
+pub invariant_of-self : goal.invariant_of-self
+invariant_of-self g c live =
+    let old : Within = record { grants = c.self.inside.grants; disk = g.D.Disk.state c.self.inside.disk; core = c.self.inside.core; held = c.self.inside.held; notes = c.self.inside.notes } in
+    let end = g.D.Disk.state c.serve.new.disk in
+    let frame = c.args.frame.now in
+    let session = c.take_session-session.result in
+    let taken = c.take_session-session.ensures in
+    let is_up : old.core ≡ Some c.in-Some.core = sym c.in-Some.ensures.value in
+    serves_soundly old c.in-Some.core is_up (c.self.invariant live) c.take_session-session.new.held c.take_session-session.new.made c.args.connection c.args.now frame session c.left-self-inside.result c.left-self-inside.ensures taken end c.serve.new.core c.put_back.new.held c.in-Ok.told c.serve.new.self c.in-Ok-put_back.ensures c.in-Ok.ensures.served
+
+pub returns-in-Ok-put_back-clause-served : goal.returns-in-Ok-put_back-clause-served
+returns-in-Ok-put_back-clause-served g c =
+    let old : Within = record { grants = c.self.inside.grants; disk = g.D.Disk.state c.self.inside.disk; core = c.self.inside.core; held = c.self.inside.held; notes = c.self.inside.notes } in
+    let end = g.D.Disk.state c.serve.new.disk in
+    let frame = c.args.frame.now in
+    let session = c.take_session-session.result in
+    let taken = c.take_session-session.ensures in
+    let is_up : old.core ≡ Some c.in-Some.core = sym c.in-Some.ensures.value in
+    let live = ap (λ (w : Within). w.notes.is_spent) c.self.view_is ∙ c.requires.live in
+    let new = with_served old c.in-Some.core is_up (c.self.invariant live) c.take_session-session.new.held c.take_session-session.new.made c.args.connection c.args.now frame session c.left-self-inside.result c.left-self-inside.ensures taken end c.serve.new.core c.put_back.new.held c.in-Ok.told c.serve.new.self c.in-Ok-put_back.ensures c.in-Ok.ensures.served in
+    subst (λ (w : Within). Goes (SeesIn w) (SeesIn new) (λ before behind. ServedOne before c.args.connection c.args.now frame (telling_of c.in-Ok.told) (LeavesIn new) behind)) {x = old} c.self.view_is
+    (serves old c.in-Some.core is_up (c.self.invariant live) c.take_session-session.new.held c.take_session-session.new.made c.args.connection c.args.now frame session c.left-self-inside.result c.left-self-inside.ensures taken end c.serve.new.core c.put_back.new.held c.in-Ok.told c.serve.new.self c.in-Ok-put_back.ensures c.in-Ok.ensures.served live (λ quiet. (c.in-Ok.ensures.silent quiet).0))
+
+pub returns-in-Ok-put_back-clause-base : goal.returns-in-Ok-put_back-clause-base
+returns-in-Ok-put_back-clause-base g c =
+    let old : Within = record { grants = c.self.inside.grants; disk = g.D.Disk.state c.self.inside.disk; core = c.self.inside.core; held = c.self.inside.held; notes = c.self.inside.notes } in
+    let end = g.D.Disk.state c.serve.new.disk in
+    let frame = c.args.frame.now in
+    let session = c.take_session-session.result in
+    let taken = c.take_session-session.ensures in
+    let is_up : old.core ≡ Some c.in-Some.core = sym c.in-Some.ensures.value in
+    let live = ap (λ (w : Within). w.notes.is_spent) c.self.view_is ∙ c.requires.live in
+    subst (λ (w : Within). HaveOneBase (bytes_in w) end.now.seen) {x = old} c.self.view_is (serves_on_base old c.in-Some.core is_up (c.self.invariant live) c.take_session-session.new.held c.take_session-session.new.made c.args.connection c.args.now frame session c.left-self-inside.result c.left-self-inside.ensures taken end c.serve.new.core c.put_back.new.held c.in-Ok.told c.serve.new.self c.in-Ok-put_back.ensures c.in-Ok.ensures.served)
+
+pub invariant_of-self-in-Err-Stopped : goal.invariant_of-self-in-Err-Stopped
+invariant_of-self-in-Err-Stopped g c live =
+    let old : Within = record { grants = c.self.inside.grants; disk = g.D.Disk.state c.self.inside.disk; core = c.self.inside.core; held = c.self.inside.held; notes = c.self.inside.notes } in
+    let end = g.D.Disk.state c.serve.new.disk in
+    let frame = c.args.frame.now in
+    let session = c.take_session-session.result in
+    let taken = c.take_session-session.ensures in
+    let stopped = subst (λ (f : ServeFault). Serves (served_as frame c.args.now) (1 + sequences_in frame) (Err f) session c.in-Some.core old.disk c.serve.new.self c.serve.new.core end) c.in-Err-Stopped.field-0-is c.in-Err-Stopped.ensures.served in
+    let is_up : old.core ≡ Some c.in-Some.core = sym c.in-Some.ensures.value in
+    stops_soundly old c.in-Some.core is_up (c.self.invariant live) c.take_session-session.new.held c.take_session-session.new.made c.args.connection c.args.now frame session c.left-self-inside.result c.left-self-inside.ensures taken end stopped (g.met.D.Disk.reads_now c.serve.new.disk) c.take.new.self c.take.ensures.after c.clear.new.self c.clear.ensures
+
+pub returns-in-Err-Stopped-clause-served : goal.returns-in-Err-Stopped-clause-served
+returns-in-Err-Stopped-clause-served g c =
+    let old : Within = record { grants = c.self.inside.grants; disk = g.D.Disk.state c.self.inside.disk; core = c.self.inside.core; held = c.self.inside.held; notes = c.self.inside.notes } in
+    let end = g.D.Disk.state c.serve.new.disk in
+    let frame = c.args.frame.now in
+    let session = c.take_session-session.result in
+    let taken = c.take_session-session.ensures in
+    let stopped = subst (λ (f : ServeFault). Serves (served_as frame c.args.now) (1 + sequences_in frame) (Err f) session c.in-Some.core old.disk c.serve.new.self c.serve.new.core end) c.in-Err-Stopped.field-0-is c.in-Err-Stopped.ensures.served in
+    let is_up : old.core ≡ Some c.in-Some.core = sym c.in-Some.ensures.value in
+    let live = ap (λ (w : Within). w.notes.is_spent) c.self.view_is ∙ c.requires.live in
+    let new = with_stopped old c.in-Some.core is_up (c.self.invariant live) c.take_session-session.new.held c.take_session-session.new.made c.args.connection c.args.now frame session c.left-self-inside.result c.left-self-inside.ensures taken end stopped (g.met.D.Disk.reads_now c.serve.new.disk) c.take.new.self c.take.ensures.after c.clear.new.self c.clear.ensures c.take.new.self c.clear.new.self in
+    subst (λ (w : Within). Goes (SeesIn w) (SeesIn new) (λ before behind. ServedOne before c.args.connection c.args.now frame Stopped (LeavesIn new) behind)) {x = old} c.self.view_is
+    (stops old c.in-Some.core is_up (c.self.invariant live) c.take_session-session.new.held c.take_session-session.new.made c.args.connection c.args.now frame session c.left-self-inside.result c.left-self-inside.ensures taken end stopped (g.met.D.Disk.reads_now c.serve.new.disk) c.take.new.self c.take.ensures.after c.clear.new.self c.clear.ensures live (λ quiet. (c.in-Err-Stopped.ensures.silent quiet).1 (ap Err c.in-Err-Stopped.field-0-is)))
+
+pub returns-in-Err-Stopped-clause-base : goal.returns-in-Err-Stopped-clause-base
+returns-in-Err-Stopped-clause-base g c =
+    let old : Within = record { grants = c.self.inside.grants; disk = g.D.Disk.state c.self.inside.disk; core = c.self.inside.core; held = c.self.inside.held; notes = c.self.inside.notes } in
+    let end = g.D.Disk.state c.serve.new.disk in
+    let frame = c.args.frame.now in
+    let session = c.take_session-session.result in
+    let taken = c.take_session-session.ensures in
+    let stopped = subst (λ (f : ServeFault). Serves (served_as frame c.args.now) (1 + sequences_in frame) (Err f) session c.in-Some.core old.disk c.serve.new.self c.serve.new.core end) c.in-Err-Stopped.field-0-is c.in-Err-Stopped.ensures.served in
+    let is_up : old.core ≡ Some c.in-Some.core = sym c.in-Some.ensures.value in
+    let live = ap (λ (w : Within). w.notes.is_spent) c.self.view_is ∙ c.requires.live in
+    subst (λ (w : Within). HaveOneBase (bytes_in w) end.now.seen) {x = old} c.self.view_is (stops_on_base old c.in-Some.core is_up (c.self.invariant live) c.take_session-session.new.held c.take_session-session.new.made c.args.connection c.args.now frame session c.left-self-inside.result c.left-self-inside.ensures taken end stopped (g.met.D.Disk.reads_now c.serve.new.disk) c.take.new.self c.take.ensures.after c.clear.new.self c.clear.ensures)

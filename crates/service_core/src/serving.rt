@@ -1,0 +1,109 @@
+//! A frame, served by its connection's session.
+ghost use Rattle.std.specs.Prelude.{◌≡◌, ◌≢◌, ◌<◌, ◌^◌, None, Some, OnOk, false};
+ghost use Rattle.canon_bytes.specs.UpBytes.{IsMadeUp};
+ghost use Rattle.server_model.specs.Seen.{Seen, Lives};
+ghost use Rattle.server_model.specs.ServiceCalls.{ServedOne};
+ghost use Rattle.service_calls.specs.Answers.{IfTold, NotMemory};
+ghost use Rattle.service_calls.specs.Kept.{Goes, HaveOneBase};
+ghost use Rattle.service_core.specs.Held.{Holds, held_at};
+ghost use Rattle.service_core.specs.Seeing.{LeavesIn, SeesIn, bytes_in, state_in};
+ghost use Rattle.service_core.specs.Taking.{IsTaken, kept_of};
+
+use crate::connections::Connections;
+use crate::one::OneService;
+use disk_model::{Disk, StopDisk};
+use server_model::ServeFault;
+use server_session::{Core, Session};
+use std::alloc::Global;
+use svc_values::{Down, Ltxid, NoMemory, Up};
+
+/// Takes a connection out with its session: the one that it has, or the next, which is made.
+fn take_session(
+    alloc: Global,
+    core: &Core,
+    held: &mut Connections,
+    made: &mut u64,
+    connection: u64,
+) -> Session
+    requires lives { held_at held.old connection ≢ None }
+    requires few { made.old < 2 ^ 63 }
+    ensures { IsTaken core.now held.old made.old connection result held.new made.new }
+{
+    match held.take(connection) {
+        Some(Some(session)) => session,
+        Some(None) => {
+            *made += 1;
+            let ltxid = Ltxid {
+                incarnation: core.source.incarnation(),
+                session: *made,
+                number: 0,
+            };
+            Session::new(alloc, ltxid)
+        }
+        None => unreachable!(),
+    }
+}
+
+/// Puts a session back to its connection, if it lives.
+fn put_back(held: &mut Connections, connection: u64, session: Session) -> Result<(), NoMemory>
+    requires { held_at held.old connection ≡ None }
+    ensures { OnOk result (Holds connection (kept_of session) held.old held.new) }
+{
+    if session.is_live() {
+        held.put(connection, Some(session))?;
+    }
+    Ok(())
+}
+
+impl<D: StopDisk> OneService<D> {
+    /// Serves one frame of a living connection, by its session: the one that it has, or the next.
+    pub(crate) fn serve_frame(
+        &mut self,
+        alloc: Global,
+        connection: u64,
+        frame: &Up,
+        now: u64,
+    ) -> Result<Option<Down>, ServeFault>
+        requires live { self.old.notes.is_spent ≡ false }
+        requires few { self.old.notes.calls < 2 ^ 48 }
+        requires lives { Lives (state_in self.old) connection }
+        requires made { IsMadeUp frame.now }
+        ensures served { IfTold result (λ told. Goes (SeesIn self.old) (SeesIn self.new) (λ old new. ServedOne old connection now frame.now told (LeavesIn self.new) new)) }
+        ensures base { NotMemory result (HaveOneBase (bytes_in self.old) (bytes_in self.new)) }
+    {
+        self.notes.calls += 1;
+        self.notes.kept = self.disk.left();
+        let mut core = match self.core.take() {
+            Some(core) => core,
+            None => unreachable!(),
+        };
+        let mut session = take_session(
+            alloc,
+            &core,
+            &mut self.held,
+            &mut self.notes.sessions,
+            connection,
+        );
+        match session.serve(&mut core, &mut self.disk, frame, now) {
+            Ok(told) => {
+                self.core = Some(core);
+                match put_back(&mut self.held, connection, session) {
+                    Ok(()) => Ok(told),
+                    Err(NoMemory) => {
+                        self.notes.is_spent = true;
+                        Err(ServeFault::NoMemory)
+                    }
+                }
+            }
+            Err(ServeFault::Stopped) => {
+                self.held.clear();
+                self.notes.is_settled = false;
+                Err(ServeFault::Stopped)
+            }
+            Err(ServeFault::NoMemory) => {
+                self.notes.is_spent = true;
+                Err(ServeFault::NoMemory)
+            }
+        }
+    }
+}
