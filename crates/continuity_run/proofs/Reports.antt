@@ -12,6 +12,7 @@ use Rattle.outage_schedule.specs.declared.document.Document.{Document}
 use Rattle.continuity_run.specs.declared.report.ShownCall.{ShownCall}
 use Rattle.svc_values.specs.declared.entry.Entry.{Entry}
 use Rattle.continuity_run.specs.declared.report.Report.{Report}
+use Rattle.continuity_run.specs.Asked.{asked_in, asked_of, transcripts_asked}
 use Rattle.continuity_run.specs.Plain.{is_plain_call, is_plain_request, is_plain_client, is_plain}
 use Rattle.json_form.proofs.Offered.{first_true, second_true}
 use Rattle.svc_values.specs.declared.schema.Schema.{Schema}
@@ -19,7 +20,7 @@ use Rattle.outage_schedule.specs.declared.document.DocTable.{DocTable}
 use Rattle.doc_reader.specs.Keeping.{schema_in}
 use Rattle.continuity_run.specs.Start.{shape_of, start_of}
 use Rattle.continuity_run.specs.Run.{Run, run_of, start_run}
-use Rattle.continuity_run.specs.Headline.{Headline, ShownInTurn, OneEntryEach, calls_of, calls_of_requests, transcripts_of, table_at, writes_of}
+use Rattle.continuity_run.specs.Headline.{Headline, ShownInTurn, OneEntryEach, calls_of, calls_of_requests, transcript_of, transcripts_of, table_at, writes_of}
 use Rattle.continuity_run.proofs.SerialRun.{Good, goes}
 
 plain_requests : (requests : List Request) → list_all is_plain_request requests ≡ true → list_all is_plain_call (calls_of_requests requests) ≡ true
@@ -70,3 +71,12 @@ headline document after done report clients entries tables =
 pub tables_shown : (rows : List PlainRow) (tables : List DocTable) → map (λ (schema : Schema). table_at rows schema.name) (map schema_in tables) ≡ map (λ (table : DocTable). table_at rows table.name) tables
 tables_shown rows [] = refl
 tables_shown rows (table ∷ tables) = ap (λ more. table_at rows table.name ∷ more) (tables_shown rows tables)
+
+-- each client has a report for each of its requests
+pub as_asked : (clients : List Client) (shown : List ShownCall) → transcripts_asked (asked_of clients) shown ≡ transcripts_of clients shown
+as_asked [] shown = refl
+as_asked (client ∷ more) shown = in_asked client.requests
+  where
+    in_asked : (requests : List Request) → transcripts_asked (asked_in requests) shown ≡ transcript_of requests shown ∷ []
+    in_asked [] = refl
+    in_asked (request ∷ rest) = refl

@@ -1,3 +1,4 @@
+pub mod Asked
 pub mod CallText
 pub mod Causes
 pub mod Clauses

@@ -3,8 +3,9 @@ ghost use Rattle.std.specs.Prelude.{◌≡◌, ◌++◌, ◌∷◌, [], IfOk, On
 ghost use Rattle.std.specs.List.{list_all};
 ghost use Rattle.stmt_meaning.specs.Laws.{closed_by};
 ghost use Rattle.doc_reader.specs.Keeping.{IsDocument};
+ghost use Rattle.continuity_run.specs.Asked.{asked_in as asked_in_def, asked_of as asked_of_def, transcripts_asked};
 ghost use Rattle.continuity_run.specs.Plain.{is_plain, is_plain_call, has_literals};
-ghost use Rattle.continuity_run.specs.Headline.{Headline, calls_of as calls_of_def, calls_of_requests as calls_of_requests_def, transcript_of as transcript_def, transcripts_of as transcripts_def};
+ghost use Rattle.continuity_run.specs.Headline.{Headline, calls_of as calls_of_def, calls_of_requests as calls_of_requests_def};
 ghost use Rattle.continuity_run.specs.Progress.{run_seen, shape_now, IsAlone, HasWorked, IsNext, IsNoted, IsCommitted};
 ghost use Rattle.continuity_run.specs.Run.{run_of, start_run, identifier as identifier_def};
 
@@ -12,7 +13,7 @@ use crate::report::{
     Ran, ReportEntries, RequestReport, ShownCall, ShownCalls, Transcript, Transcripts,
 };
 use crate::start::start_of;
-use outage_schedule::{Client, Document, Request};
+use outage_schedule::{Client, Clients, Document, Request, Requests};
 use std::alloc::Global;
 use stmt_meaning::ends_refused;
 use svc_values::{
@@ -32,6 +33,14 @@ pub struct Progress {
     pub began: Settings,
     pub entries: ReportEntries,
     pub shown: ShownCalls,
+}
+
+/// Whether there is a client, and whether it has a request.
+#[derive(Clone, Copy)]
+pub enum Asked {
+    NoClient,
+    NoRequest,
+    Request,
 }
 
 fn start(alloc: Global, tables: Tables) -> Progress
@@ -92,12 +101,12 @@ fn closed(mut answers: Answers, commit: bool) -> Result<Answers, NoMemory>
     Ok(answers)
 }
 
-/// The call with its answers.
-fn piece_of(alloc: Global, call: &Call, answers: &Answers) -> Result<Piece, NoMemory>
-    ensures { IfOk result (λ piece. piece ≡ record { call = call.now; answers = answers.now; draws = [] }) }
+/// The call, which is moved, with its answers.
+fn piece_of(alloc: Global, call: Call, answers: &Answers) -> Result<Piece, NoMemory>
+    ensures { IfOk result (λ piece. piece ≡ record { call = call; answers = answers.now; draws = [] }) }
 {
     Ok(Piece {
-        call: call.copy(alloc)?,
+        call,
         answers: answers.copy(alloc)?,
         draws: Draws::new(alloc),
     })
@@ -117,10 +126,10 @@ fn shown_with(alloc: Global, answers: Answers, commits: u64) -> ShownCall
 fn noted(
     alloc: Global,
     mut progress: Progress,
-    call: &Call,
+    call: Call,
     answers: Answers,
 ) -> Result<Progress, NoMemory>
-    ensures { IfOk result (IsNoted progress call.now answers) }
+    ensures { IfOk result (IsNoted progress call answers) }
 {
     let piece = piece_of(alloc, call, &answers)?;
     let commits = progress.entries.len() as u64;
@@ -134,11 +143,11 @@ fn noted(
 fn committed(
     alloc: Global,
     progress: Progress,
-    call: &Call,
+    call: Call,
     answers: Answers,
 ) -> Result<Progress, NoMemory>
     requires { IsAlone progress.tables progress.transaction }
-    ensures { IfOk result (IsCommitted progress call.now answers) }
+    ensures { IfOk result (IsCommitted progress call answers) }
 {
     let Progress {
         mut tables,
@@ -150,12 +159,13 @@ fn committed(
     } = progress;
     let commits = entries.len() as u64;
     let next = commits.checked_add(1).ok_or(NoMemory)?;
+    let completed = call.is_lone_commit();
     transaction.note(piece_of(alloc, call, &answers)?)?;
     let (pieces, writes) = transaction.into_parts();
     tables.apply(&writes)?;
     let entry = Entry {
         ltxid: identifier(commits),
-        completed: call.is_lone_commit(),
+        completed,
         settings: began,
         pieces,
         writes,
@@ -172,13 +182,13 @@ fn committed(
     })
 }
 
-/// One call more.
-fn step(alloc: Global, mut progress: Progress, call: &Call) -> Result<Progress, NoMemory>
-    requires plain { IsTrue (is_plain_call call.now) }
+/// One call more, which goes into its transaction.
+fn step(alloc: Global, mut progress: Progress, call: Call) -> Result<Progress, NoMemory>
+    requires plain { IsTrue (is_plain_call call) }
     requires alone { IsAlone progress.tables progress.transaction }
-    ensures { IfOk result (IsNext progress call.now) }
+    ensures { IfOk result (IsNext progress call) }
 {
-    let Call::Work { statements, commit } = call else {
+    let Call::Work { statements, commit } = &call else {
         unreachable!();
     };
     let answers = run_statements(
@@ -197,9 +207,9 @@ fn step(alloc: Global, mut progress: Progress, call: &Call) -> Result<Progress, 
 }
 
 /// The calls in order.
-fn run_calls(alloc: Global, tables: Tables, calls: &[Call]) -> Result<Progress, NoMemory>
-    requires { IsTrue (list_all is_plain_call calls.now) }
-    ensures ran { IfOk result (λ after. run_of (record { schemas = tables.schemas; sequences = [] }) (start_run tables.rows) calls.now ≡ Some (run_seen after)) }
+fn run_calls(alloc: Global, tables: Tables, calls: Vec<Call>) -> Result<Progress, NoMemory>
+    requires { IsTrue (list_all is_plain_call calls.items) }
+    ensures ran { IfOk result (λ after. run_of (record { schemas = tables.schemas; sequences = [] }) (start_run tables.rows) calls.items ≡ Some (run_seen after)) }
     ensures declared { IfOk result (λ after. after.tables.schemas ≡ tables.schemas) }
 {
     let mut progress = start(alloc, tables);
@@ -209,54 +219,66 @@ fn run_calls(alloc: Global, tables: Tables, calls: &[Call]) -> Result<Progress, 
     Ok(progress)
 }
 
-fn calls_in(requests: &[Request]) -> &[Call]
-    ensures { result.now ≡ calls_of_requests_def requests.now }
+/// The calls of the only request, if there is one.
+fn calls_in(alloc: Global, requests: Requests) -> Vec<Call>
+    ensures { result.items ≡ calls_of_requests_def requests }
+{
+    match requests.into_vec().into_iter().next() {
+        Some(request) => request.calls.into_vec(),
+        None => Vec::new(alloc),
+    }
+}
+
+/// The calls of the only client's only request, if there is one.
+fn calls_of(alloc: Global, clients: Clients) -> Vec<Call>
+    ensures { result.items ≡ calls_of_def clients }
+{
+    match clients.into_vec().into_iter().next() {
+        Some(client) => calls_in(alloc, client.requests),
+        None => Vec::new(alloc),
+    }
+}
+
+fn asked_in(requests: &[Request]) -> Asked
+    ensures { result ≡ asked_in_def requests.now }
 {
     match requests {
-        [] => &[],
-        [request, ..] => request.calls.as_slice(),
+        [] => Asked::NoRequest,
+        [..] => Asked::Request,
     }
 }
 
-fn calls_of(clients: &[Client]) -> &[Call]
-    ensures { result.now ≡ calls_of_def clients.now }
+/// Which reports the clients are owed.
+fn asked_of(clients: &[Client]) -> Asked
+    ensures { result ≡ asked_of_def clients.now }
 {
     match clients {
-        [] => &[],
-        [client, ..] => calls_in(client.requests.as_slice()),
+        [] => Asked::NoClient,
+        [client, ..] => asked_in(client.requests.as_slice()),
     }
 }
 
-fn transcript_of(
-    alloc: Global,
-    requests: &[Request],
-    shown: ShownCalls,
-) -> Result<Transcript, NoMemory>
-    ensures { IfOk result (λ transcript. transcript ≡ transcript_def requests.now shown) }
-{
-    let mut transcript = Transcript::new(alloc);
-    if !requests.is_empty() {
-        put_last(&mut transcript, RequestReport { calls: shown })?;
-    }
-    Ok(transcript)
-}
-
-fn transcripts_of(
-    alloc: Global,
-    clients: &[Client],
-    shown: ShownCalls,
-) -> Result<Transcripts, NoMemory>
-    ensures { IfOk result (λ transcripts. transcripts ≡ transcripts_def clients.now shown) }
+fn one_transcript(alloc: Global, transcript: Transcript) -> Result<Transcripts, NoMemory>
+    ensures { IfOk result (λ transcripts. transcripts ≡ transcript ∷ []) }
 {
     let mut transcripts = Transcripts::new(alloc);
-    match clients {
-        [] => {}
-        [client, ..] => {
-            let one = transcript_of(alloc, client.requests.as_slice(), shown)?;
-            put_last(&mut transcripts, one)?;
+    put_last(&mut transcripts, transcript)?;
+    Ok(transcripts)
+}
+
+/// The reports that are owed, of which the one of a request has these calls.
+fn transcripts_of(alloc: Global, asked: Asked, shown: ShownCalls) -> Result<Transcripts, NoMemory>
+    ensures { IfOk result (λ transcripts. transcripts ≡ transcripts_asked asked shown) }
+{
+    match asked {
+        Asked::NoClient => Ok(Transcripts::new(alloc)),
+        Asked::NoRequest => one_transcript(alloc, Transcript::new(alloc)),
+        Asked::Request => {
+            let mut transcript = Transcript::new(alloc);
+            put_last(&mut transcript, RequestReport { calls: shown })?;
+            one_transcript(alloc, transcript)
         }
     }
-    Ok(transcripts)
 }
 
 /// The run of a document, which its report is written from. A call costs the rows of the tables that it reads
@@ -272,8 +294,8 @@ pub fn run_document(alloc: Global, document: Document) -> Result<Ran, NoMemory>
         ..
     } = document;
     let tables = start_of(alloc, tables)?;
-    let calls = calls_of(clients.as_slice());
-    let progress = run_calls(alloc, tables, calls)?;
+    let asked = asked_of(clients.as_slice());
+    let progress = run_calls(alloc, tables, calls_of(alloc, clients))?;
     let Progress {
         tables,
         transaction: _transaction,
@@ -282,7 +304,7 @@ pub fn run_document(alloc: Global, document: Document) -> Result<Ran, NoMemory>
         entries,
         shown,
     } = progress;
-    let transcripts = transcripts_of(alloc, clients.as_slice(), shown)?;
+    let transcripts = transcripts_of(alloc, asked, shown)?;
     Ok(Ran::new(transcripts, entries, tables))
 }
 
