@@ -82,7 +82,8 @@ impl NextRequest {
 
     /// The request that comes next, if one is left. It takes no memory.
     pub fn request<'a>(&self, script: &'a [Request]) -> Option<&'a Request>
-        ensures { (reports : List Reported) → IsNext script.now reports self.now → option_copied result ≡ next_of script.now reports }
+        ensures at_place { option_copied result ≡ slice_get script.now self.now.place }
+        ensures next { (reports : List Reported) → IsNext script.now reports self.now → option_copied result ≡ next_of script.now reports }
     {
         request_at(script, self.place)
     }

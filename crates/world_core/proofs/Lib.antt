@@ -1,3 +1,6 @@
+mod Resting
+mod Coursing
+mod Beginning
 pub mod Carrying
 pub mod Linking
 pub mod Standing

@@ -3,6 +3,7 @@
 
 mod answering;
 mod asking;
+mod client;
 mod connection;
 mod connections;
 mod ground;
@@ -10,6 +11,7 @@ mod outside;
 mod stopped_opening;
 mod traffic;
 
+pub use client::{Client, Said};
 pub use connection::Connection;
 pub use connections::Connections;
 pub use ground::Ground;
