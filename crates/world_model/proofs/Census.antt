@@ -55,13 +55,13 @@ made_differs incarnation count session made = grind (arith, nat_tests)
 made_differs_back : (incarnation count : ℕ) (session : SessionId) → made_in incarnation count session ≡ true → same_session (record { incarnation = incarnation; session = count + 1 }) session ≡ false
 made_differs_back incarnation count session made = grind (arith, nat_tests)
 
-made_more : (incarnation count : ℕ) (session : SessionId) → made_in incarnation count session ≡ true → made_in incarnation (count + 1) session ≡ true
+pub made_more : (incarnation count : ℕ) (session : SessionId) → made_in incarnation count session ≡ true → made_in incarnation (count + 1) session ≡ true
 made_more incarnation count session made = grind (arith, nat_tests)
 
 made_next : (incarnation count : ℕ) → made_in incarnation (count + 1) (record { incarnation = incarnation; session = count + 1 }) ≡ true
 made_next incarnation count = grind (arith, nat_tests)
 
-made_before : (incarnation count later : ℕ) (session : SessionId) → incarnation < later → made_in incarnation count session ≡ true → made_in later 0 session ≡ true
+pub made_before : (incarnation count later : ℕ) (session : SessionId) → incarnation < later → made_in incarnation count session ≡ true → made_in later 0 session ≡ true
 made_before incarnation count later session below made = grind (arith, nat_tests)
 
 made_earlier : (incarnation count later : ℕ) (session : SessionId) → incarnation < later → made_in incarnation count session ≡ true → (session.incarnation == later) ≡ false

@@ -112,7 +112,8 @@ module _ (t : Traced) (items : List Served) (more : List Entry) (happened : List
   quiet_none number link session there has (Opened incarnation) done quiet owns = nothing done session
   quiet_none number link session there has (OpeningStopped stopped) done quiet owns = nothing done session
   quiet_none number link session there has Ticked done quiet owns = nothing done session
-  quiet_none number link session there has (RanOutside ran) done quiet owns =
+  quiet_none number link session there has (RanOutside None) done quiet owns = nothing done session
+  quiet_none number link session there has (RanOutside (Some ran)) done quiet owns =
       gains_none happened session more came
       (λ one contains entry commits same.
       made number link session there has (sym same ∙ of_next one entry (All-contains (IsOf (next_session t.machine.server)) happened one done contains) commits))

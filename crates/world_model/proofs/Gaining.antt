@@ -3,7 +3,7 @@ use Rattle.std.proofs.Common.{◌≡◌, ◌≢◌, refl, sym, ap, subst, ◌∙
 use Rattle.std.specs.Prelude.{◌==◌, ◌||◌, not, nat_lt, nat_le, slice_get, All, Contains, ◌⊎◌}
 use Rattle.std.proofs.Common.{inl, inr}
 use Rattle.std.specs.List.{list_all, cons_option}
-use Rattle.std.proofs.lemmas.Bool.{and_parts, and_from, or_cases}
+use Rattle.std.proofs.lemmas.Bool.{and_parts, or_cases}
 use Rattle.std.proofs.lemmas.List.Elements.{All-nil, All-cons, All-head, All-tail, All-contains}
 use Rattle.svc_values.specs.declared.answer.Answer.{Answer}
 use Rattle.svc_values.specs.declared.call.Call.{Call}
@@ -33,6 +33,7 @@ use Rattle.world_model.specs.ServiceDid.{ServiceDid, front_served}
 use Rattle.world_model.specs.Serving.{front_at}
 use Rattle.world_model.specs.Parts.{is_unmarked_frame}
 use Rattle.world_model.specs.Sames.{all_with, each_pair}
+use Rattle.world_model.proofs.Inserted.{as_with}
 use Rattle.world_model.proofs.Kept.{only_is}
 use Rattle.world_model.proofs.Numbered.{entries_cons}
 use Rattle.world_model.proofs.Tests.{same_session_is, session_self, lt_from, le_from}
@@ -82,7 +83,7 @@ AllNext server happened = All (IsOf (next_session server)) happened
 abbrev pub DidOf : Machine → List Served → Noted → List Happened → Type 0
 DidOf m items (ServedOn number frame) happened = happened ≡ front_served m.tick (front_at m.links number) items
 DidOf m items (Crashed number after failover down) happened = happened ≡ (if m.server.is_up then front_served m.tick (front_at m.links number) items else [])
-DidOf m items (RanOutside ran) happened = AllNext m.server happened
+DidOf m items (RanOutside (Some ran)) happened = AllNext m.server happened
 DidOf m items (Asked x told) happened = (one : Happened) → Contains happened one → (entry : Entry) → CommitsAs entry one → ⊥
 DidOf m items _ happened = happened ≡ []
 
@@ -103,9 +104,6 @@ outside_next server now calls runs happened more is are =
     let second : Happened = ServedFrame session now (up.Begin []) Silent in
     subst (All (IsOf session)) (sym is) (All-cons (IsOf session) first (second ∷ more) refl (All-cons (IsOf session) second more refl (runs_next server now calls runs more are)))
 
-none_next : (server : Server) (happened : List Happened) → happened ≡ [] → AllNext server happened
-none_next server happened is = subst (All (IsOf (next_session server))) (sym is) (All-nil (IsOf (next_session server)))
-
 none_asked : (happened : List Happened) → happened ≡ [] → (one : Happened) → Contains happened one → (entry : Entry) → CommitsAs entry one → ⊥
 none_asked happened is one contains entry commits = none_in one (subst (λ (all : List Happened). Contains all one) is contains)
 
@@ -123,7 +121,7 @@ did_kind m (event.Crash connection after pick) (note.Crash named down) items kin
 did_kind m event.Up (note.Up incarnation) items kind happened is done = by_test m items happened true (Opened incarnation) kind is done
 did_kind m (event.UpCrash after pick) (note.UpCrash made) items kind happened is done = by_test m items happened true (OpeningStopped made) kind is done
 did_kind m event.Tick note.Tick items kind happened is done = by_test m items happened true Ticked kind is done
-did_kind m (event.Outside calls) (note.Outside None) items kind happened is done = by_test m items happened true (RanOutside None) kind is (none_next m.server happened done)
+did_kind m (event.Outside calls) (note.Outside None) items kind happened is done = by_test m items happened true (RanOutside None) kind is done
 did_kind m (event.Outside calls) (note.Outside (Some ran)) items kind happened is done = by_test m items happened true (RanOutside (Some ran)) kind is (outside_next m.server m.tick calls _ happened done.0 done.1.0 done.1.1)
 did_kind m (event.Ask x) (note.Ask named None) items kind happened is done = by_test m items happened _ (Asked x None) kind is (none_asked happened done)
 did_kind m (event.Ask x) (note.Ask named (Some told)) items kind happened is done = by_test m items happened _ (Asked x (Some told)) kind is (asked_none happened x _ done)
@@ -186,13 +184,9 @@ links_apart links (suc i) zero one other a b differ here there is at pairs = abs
 links_apart links (suc i) (suc j) one other a b differ here there is at pairs = sessions_apart links i j one other a b (λ same. differ (ap suc same)) here there is at pairs
 
 -- what holds of all sessions holds of a connection's
-all_of : (test : SessionId → Bool) (sessions : List SessionId) → list_all test sessions ≡ true → all_with test sessions ≡ true
-all_of test [] all = refl
-all_of test (one ∷ sessions) all = let parts = and_parts (test one) (list_all test sessions) all in and_from (test one) (all_with test sessions) parts.0 (all_of test sessions parts.1)
-
 pub session_in : (test : SessionId → Bool) (links : List Link) (number : ℕ) (link : Link) (a : SessionId) → link_at links number ≡ Some link → link.session ≡ Some a → list_all test (filter_map (λ one. one.session) links) ≡ true → test a ≡ true
 session_in test links zero link a there is all = absurd (let none : ⊥ = cc in none)
-session_in test links (suc index) link a there is all = all_among test links index link a there is (all_of test (sessions_in links) all)
+session_in test links (suc index) link a there is all = all_among test links index link a there is (as_with test (sessions_in links) all)
 
 -- a session that was made is not the one that is made next
 pub made_before : (server : Server) (session : SessionId) → (nat_lt 0 session.session && (nat_lt session.incarnation server.incarnation || ((session.incarnation == server.incarnation) && nat_le session.session server.sessions))) ≡ true → session ≡ next_session server → ⊥

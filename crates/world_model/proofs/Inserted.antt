@@ -30,7 +30,7 @@ with_inserted test x xs _ (Here rest) all here = and_from (test x) (all_with tes
 with_inserted test x _ _ (There y xs ys more) all here =
     let parts = and_parts (test y) (all_with test xs) all in and_from (test y) (all_with test ys) parts.0 (with_inserted test x xs ys more parts.1 here)
 
-as_with : {A : Type 0} (test : A → Bool) (xs : List A) → list_all test xs ≡ true → all_with test xs ≡ true
+pub as_with : {A : Type 0} (test : A → Bool) (xs : List A) → list_all test xs ≡ true → all_with test xs ≡ true
 as_with test [] all = refl
 as_with test (x ∷ xs) all = let parts = and_parts (test x) (list_all test xs) all in and_from (test x) (all_with test xs) parts.0 (as_with test xs parts.1)
 

@@ -28,7 +28,7 @@ made_none : (t : Traced) (kind : Noted) (test : Bool) (one : Noted) → made_by 
 made_none t kind test one none is = sym (ap (made_by t.machine.server) (sym (only_is test one kind is)) ∙ none)
 
 -- the session that the note tells of is that of its kind
-outside_is : (t : Traced) (event : Event) (note : Note) (kind : Noted) → matched event note ≡ Some kind → session_outside t note ≡ made_by t.machine.server kind
+pub outside_is : (t : Traced) (event : Event) (note : Note) (kind : Noted) → matched event note ≡ Some kind → session_outside t note ≡ made_by t.machine.server kind
 outside_is t (event.Go client) (note.Go named did) kind is = made_none t kind _ (Went client did) refl is
 outside_is t (event.Serve connection) (note.Serve named frame) kind is = made_none t kind _ (ServedOn connection frame) refl is
 outside_is t (event.Cut connection up down) (note.Cut named reached) kind is = made_none t kind _ (CutOff connection up down reached) refl is

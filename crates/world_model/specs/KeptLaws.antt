@@ -1,5 +1,6 @@
 -- What of the invariant is kept: it holds of the start, and of the state behind each event if the whole invariant held before.
-use Rattle.std.specs.Prelude.{◌≡◌, ℕ, Bool, false, IsTrue, List}
+use Rattle.std.specs.Prelude.{◌≡◌, ℕ, Bool, false, nat_lt, IsTrue, List}
+use Rattle.std.specs.List.{list_all}
 use Rattle.svc_values.specs.declared.draw.Draw.{Draw}
 use Rattle.svc_values.specs.declared.call.Call.{Call}
 use Rattle.svc_values.specs.declared.frame.Up.TheVariants as up
@@ -13,6 +14,7 @@ use Rattle.outage_schedule.specs.declared.document.Document.{Document}
 use Rattle.outage_schedule.specs.declared.event.Event.{Event}
 use Rattle.outage_schedule.specs.declared.note.Note.{Note}
 use Rattle.outage_schedule.specs.declared.item.Served.{Served}
+use Rattle.run_clauses.specs.Before.{journal_before}
 use Rattle.world_model.specs.Settings.{setting_of}
 use Rattle.world_model.specs.Traced.{Traced}
 use Rattle.world_model.specs.Ready.{all_have_calls}
@@ -83,3 +85,13 @@ abbrev pub StoresByCommit : Type 0
 StoresByCommit =
     (core : Core) (sess : Sess) (now : ℕ) (replay : Bool) (kept : List Draw) (called : Call) (after : Core) (t : Sess) (told : Telling)
     → Serve core sess now (up.Call replay kept called) after t told → has_commit called ≡ false → after.entries ≡ core.entries
+
+-- no entry of the image is of a session of the number 0, which no server makes
+abbrev pub image_from_one : Document → Bool
+image_from_one document = list_all (λ entry. nat_lt 0 entry.ltxid.session) (journal_before document).entries
+
+-- a test of the state, in runs of documents whose images have no such entry
+pub record IsKeptOfImages (test : Traced → Bool) : Type 0 where
+  pub at_start : (document : Document) → IsTrue (image_from_one document) → IsTrue (test (traced_start document))
+  pub at_event : (granted : Draw → Bool) (before after : Seen) (old new : Traced) (event : Event) (note : Note) (items left : List Served)
+      → OneEvent before old event note items left after new → Invariant granted old → IsTrue (test new)
