@@ -1,4 +1,6 @@
+mod Asks
 mod BaseRows
+mod Blocking
 mod Ending
 mod Falling
 mod Faulty
@@ -16,3 +18,4 @@ mod Splits
 mod Standing
 mod Stopping
 mod Taken
+mod Told

@@ -60,12 +60,12 @@ stopped_by_table store (up.Call replay kept called) = tt
 -- ---- what a crash may leave
 
 -- The image has the old one's records and some of these.
-record HasSome (old : List ℕ) (most : ℕ) (image : List ℕ) : Type 0 where
+pub record HasSome (old : List ℕ) (most : ℕ) (image : List ℕ) : Type 0 where
   pub added : List Record
   pub few : length added ≤ most
   pub has : HasAdded old added image
 
-has_some : (old : List ℕ) (records : List Record) (last : Record) (most : ℕ) (image : List ℕ) → length records + 1 ≤ most → IsLeftOf old records last image → HasSome old most image
+pub has_some : (old : List ℕ) (records : List Record) (last : Record) (most : ℕ) (image : List ℕ) → length records + 1 ≤ most → IsLeftOf old records last image → HasSome old most image
 has_some old records last most image few (inl has) = record { added = records; few = omega (arith, few); has = has }
 has_some old records last most image few (inr has) = record { added = records ++ last ∷ []; few = omega (arith, few, length-append records (last ∷ [])); has = has }
 
