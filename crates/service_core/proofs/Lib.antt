@@ -1,5 +1,6 @@
 mod Asks
 mod BaseRows
+mod Beginning
 mod Blocking
 mod Ending
 mod Falling

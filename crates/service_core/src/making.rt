@@ -2,6 +2,7 @@
 ghost use Rattle.std.specs.Prelude.{◌≡◌, Ok};
 ghost use Rattle.commit_log.specs.declared.journal.Journal.{Journal};
 ghost use Rattle.commit_log.specs.Journals.{journal_of};
+ghost use Rattle.server_model.specs.Base.{IsSound};
 ghost use Rattle.server_model.specs.Seen.{IsNew};
 ghost use Rattle.service_core.specs.Seeing.{SeesIn};
 ghost use Rattle.service_core.specs.Starting.{CanBegin, base_of, made_on, seen_new};
@@ -9,6 +10,7 @@ ghost use Rattle.service_core.specs.Starting.{CanBegin, base_of, made_on, seen_n
 use crate::connections::Connections;
 use crate::notes::Notes;
 use crate::one::OneService;
+use commit_log::laws::keeps_journal;
 use disk_model::{Disk, StopDisk};
 use mutable_values::Grants;
 use std::alloc::Global;
@@ -19,8 +21,10 @@ impl<D: StopDisk> OneService<D> {
     pub fn new(alloc: Global, disk: D, grants: Grants) -> Self
         requires { CanBegin (D.state disk) }
         ensures made { result ≡ made_on (D.state disk) grants }
+        ensures sound { (journal : Journal) → journal_of (D.state disk).now.seen ≡ Ok journal → IsSound (base_of journal grants) }
         ensures seen { (journal : Journal) → journal_of (D.state disk).now.seen ≡ Ok journal → SeesIn result (seen_new result (base_of journal grants)) × IsNew (seen_new result (base_of journal grants)) }
     {
+        keeps_journal();
         OneService {
             disk,
             grants,

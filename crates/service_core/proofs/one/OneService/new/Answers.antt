@@ -5,6 +5,7 @@ use Rattle.service_core.specs.Seeing.{SeesIn}
 use Rattle.service_core.specs.Sound.{IsDown}
 use Rattle.service_core.specs.Starting.{first_notes, made_on, base_of, seen_new}
 use Rattle.service_core.specs.Within.{Within}
+use Rattle.service_core.proofs.Beginning.{base_sound}
 use Rattle.service_core.proofs.Made.{made_soundly, made_seen, made_new}
 use Rattle.service_core.proofs.one.OneService.new.Goals as goal
 
@@ -19,3 +20,6 @@ returns-clause-seen g c journal reads =
     let start = base_of journal c.args.grants in
     subst (λ (h : Held). let made : Within = record (made_on disk c.args.grants) { held = h } in SeesIn made (seen_new made start) × IsNew (seen_new made start)) (sym c.new.ensures)
     (made_seen disk c.args.grants journal c.requires (g.met.D.Disk.reads_now c.args.disk) reads, made_new disk c.args.grants journal c.requires reads)
+
+pub returns-clause-sound : goal.returns-clause-sound
+returns-clause-sound g c journal reads = base_sound (g.D.Disk.state c.args.disk).now.seen journal c.args.grants (c.keeps_journal.ensures.keeps (g.D.Disk.state c.args.disk).now.seen journal reads)
