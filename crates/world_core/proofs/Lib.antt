@@ -19,3 +19,6 @@ pub mod ServedFrames
 pub mod Questions
 pub mod Outsiders
 pub mod StoppedUps
+pub mod LastFrames
+pub mod Lasting
+pub mod Crashes

@@ -31,9 +31,9 @@ use Rattle.world_model.specs.Coupled.{living_of, Coupled}
 use Rattle.world_model.specs.OneEvent.{OneEvent}
 use Rattle.world_core.specs.declared.traffic.Traffic.{Traffic}
 use Rattle.world_core.specs.Answering.{served_item}
-use Rattle.world_core.specs.InOrder.{no_store, ServedWith}
+use Rattle.world_core.specs.InOrder.{no_store, ServedWith, InOrder}
 use Rattle.world_core.specs.Underway.{IsUnderway, FrontOf, answered_link, IsWritten}
-use Rattle.world_core.specs.Making.{IsAt, MakesInOrder, IsInOrder}
+use Rattle.world_core.specs.Making.{IsAt, MakesInOrder}
 use Rattle.world_core.proofs.Serving.{GoesTo, front_there, item_now, served_so, serves_front, with_twice, ends_there}
 use Rattle.world_core.proofs.Readiness.{stays_ready, up_not_down}
 use Rattle.world_core.proofs.Coupling.{moved, begun, one_alone, stays_coupled}
@@ -41,19 +41,19 @@ use Rattle.world_core.proofs.Reaping.{link_same}
 
 -- ON THE GROUND -----------------------------------------------------------------------------------
 
-no_frame : {A : Type 0} (frame : Up) → ◌≡◌ {A = Option Up} None (Some frame) → A
+pub no_frame : {A : Type 0} (frame : Up) → ◌≡◌ {A = Option Up} None (Some frame) → A
 no_frame frame e = absurd (let nothing : ⊥ = cc in nothing)
 
 some_front : (a b : Front) → ◌≡◌ {A = Option Front} (Some a) (Some b) → a ≡ b
 some_front a b e = cc
 
-some_frame : (a b : Up) → ◌≡◌ {A = Option Up} (Some a) (Some b) → a ≡ b
+pub some_frame : (a b : Up) → ◌≡◌ {A = Option Up} (Some a) (Some b) → a ≡ b
 some_frame a b e = cc
 
 abbrev written_as : ℕ → SessionId → Item → Served
 written_as event session one = record { event = event; session = session; item = one }
 
-served_is : (served : Served) (event : ℕ) (session : SessionId) (one : Item) → served.event ≡ event → served.session ≡ session → served.item ≡ one → served ≡ written_as event session one
+pub served_is : (served : Served) (event : ℕ) (session : SessionId) (one : Item) → served.event ≡ event → served.session ≡ session → served.item ≡ one → served ≡ written_as event session one
 served_is served event session one a b c = ap (λ e. written_as e served.session served.item) a ∙ ap (λ s. written_as event s served.item) b ∙ ap (λ i. written_as event session i) c
 
 told_up : (reply : Option Down) → is_up_after (telling_of reply) ≡ true
@@ -65,7 +65,7 @@ none_left : (reply : Option Down) (leaves : Store → Type 0) (Holds : Store →
 none_left None leaves Holds = tt
 none_left (Some told) leaves Holds = tt
 
-served_with : (old new : Seen) (number now : ℕ) (frame : Up) (reply : Option Down) (leaves : Store → Type 0) → ServedOne old number now frame (telling_of reply) leaves new → ServedWith old number now frame reply new
+pub served_with : (old new : Seen) (number now : ℕ) (frame : Up) (reply : Option Down) (leaves : Store → Type 0) → ServedOne old number now frame (telling_of reply) leaves new → ServedWith old number now frame reply new
 served_with old new number now frame reply leaves did = record {
   keeps = did.keeps;
   session = did.session;
@@ -99,7 +99,7 @@ serves_none sees before after number goes seen t is ordered = by (front_at t.mac
     )
     by (Some front) there gives = no_frame front.first.frame gives.0
 
-abbrev taken_off : Machine → ℕ → Front → Machine
+abbrev pub taken_off : Machine → ℕ → Front → Machine
 taken_off m number front = record (begun m) { links = with_link m.links number (record front.link { up = front.later }) }
 
 pub serves_some : (sees sees_later : Seen → Type 0) (leaves : Store → Type 0) (before between after : Traffic) (number : ℕ) (frame : Up) (reply : Option Down) (served : Served) → AreExact
@@ -168,31 +168,22 @@ frame_made m number frame before between is gives = by (front_at m.links number)
         let link = link_stands before.connections.all.items m.links number front.link is.links at.0 in
         subst IsMadeUp (sym (some_frame frame front.first.frame gives.0)) (made_first front.link.up front front.link (front_up m.links number front there) link.1.made)
 
-pub made_there : (sees sees_later : Seen → Type 0) (leaves : Store → Type 0) (before between : Traffic) (number : ℕ) (frame : Up) (reply : Option Down) → IsInOrder sees before number
+pub made_there : (sees sees_later : Seen → Type 0) (leaves : Store → Type 0) (before between : Traffic) (number : ℕ) (frame : Up) (reply : Option Down) (seen : Seen) (t : Traced) → sees seen → IsUnderway before t.machine → InOrder seen t number
     → ((seen : Seen) → sees_later seen → IsHistory seen)
     → Goes sees sees_later (λ old new. ServedOne old number between.tick frame (telling_of reply) leaves new)
     → ((m : Machine) → IsUnderway before m → FrontOf (begun m) number (front_at m.links number) (Some frame) between)
     → IfSome reply IsMadeDown
-made_there sees sees_later leaves before between number frame reply order honest goes takes = by (front_at t.machine.links number) refl (takes t.machine is.underway)
+made_there sees sees_later leaves before between number frame reply seen t sees_it underway ordered honest goes takes = by (front_at t.machine.links number) refl (takes t.machine underway)
   where
-    seen : Seen
-    seen = order.0
-
-    t : Traced
-    t = order.1.0
-
-    is : IsAt sees before seen t
-    is = order.1.1.0
-
     by : (found : Option Front) → front_at t.machine.links number ≡ found → FrontOf (begun t.machine) number found (Some frame) between → IfSome reply IsMadeDown
     by None there gives = no_frame frame (sym gives.0)
     by (Some front) there gives =
         let same : frame ≡ front.first.frame = some_frame frame front.first.frame gives.0 in
-        let gone = goes seen is.seen_so in
+        let gone = goes seen sees_it in
         let new = gone.0 in
         let did : ServedWith seen number t.machine.tick front.first.frame reply new =
         subst (λ f. ServedWith seen number t.machine.tick f reply new) same (subst (λ now. ServedWith seen number now frame reply new) (sym gives.1.tick) (served_with seen new number between.tick frame reply leaves gone.1.1)) in
-        ((order.1.1.1 front there).answered reply new (honest new gone.1.0) did).made
+        ((ordered front there).answered reply new (honest new gone.1.0) did).made
 
 -- WRITTEN DOWN ------------------------------------------------------------------------------------
 

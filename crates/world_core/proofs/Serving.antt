@@ -94,13 +94,13 @@ view_answered event front served reply = view_if event (after_front front served
 
 -- ITS SESSION -------------------------------------------------------------------------------------
 
-some_known : (a b : Option SessionId) → ◌≡◌ {A = Option (Option SessionId)} (Some a) (Some b) → a ≡ b
+pub some_known : (a b : Option SessionId) → ◌≡◌ {A = Option (Option SessionId)} (Some a) (Some b) → a ≡ b
 some_known a b e = cc
 
 abbrev session_after : ℕ → ℕ → SessionId
 session_after incarnation sessions = record { incarnation = incarnation; session = sessions + 1 }
 
-which : (server : Server) (seen : Seen) (known : Option SessionId) (session : SessionId) (number sessions : ℕ) → SameServer server seen → seen.state.is_up ≡ true → seen.state.living number ≡ Some known → SessionOf seen number session sessions
+pub which : (server : Server) (seen : Seen) (known : Option SessionId) (session : SessionId) (number sessions : ℕ) → SameServer server seen → seen.state.is_up ≡ true → seen.state.living number ≡ Some known → SessionOf seen number session sessions
     → Which server known session sessions
 which server seen known session number sessions same up living (inl (named, count)) = inl (some_known known (Some session) (sym living ∙ named), count ∙ sym (same.opened up).1.0)
 which server seen known session number sessions same up living (inr (unnamed, next, count)) =

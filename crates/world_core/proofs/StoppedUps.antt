@@ -1,23 +1,21 @@
 -- An opening that is stopped, or not, and the crash behind it.
-use Rattle.std.proofs.Common.{◌≡◌, ◌≤◌, ℕ, zero, suc, ◌+◌, Bool, true, false, List, [], ◌∷◌, Option, Some, None, refl, sym, ap, ◌∙◌, subst, arith, inl, inr}
-use Rattle.std.specs.Prelude.{◌⊎◌, ◌&&◌, ◌||◌, not, slice_get, if◌then◌else◌}
+use Rattle.std.proofs.Common.{◌≡◌, ◌≤◌, ℕ, zero, suc, ◌+◌, Bool, true, false, List, [], Option, Some, None, refl, sym, ap, ◌∙◌, subst, arith, inl, inr}
+use Rattle.std.specs.Prelude.{◌&&◌, ◌||◌, not, if◌then◌else◌}
 use Rattle.std.specs.List.{list_all}
 use Rattle.std.proofs.lemmas.List.{append-nil}
-use Rattle.svc_values.specs.declared.entry.SessionId.{SessionId}
 use Rattle.outage_schedule.specs.declared.event.Event.TheVariants as event
 use Rattle.outage_schedule.specs.declared.note.Note.TheVariants as note
 use Rattle.server_model.specs.Seen.{Store, Seen, IsHistory}
-use Rattle.server_model.specs.ServiceCalls.{is_failover, Crashed, with_stop, Opened, StoppedOpening, KeepsOpening, SameLists, HasSoFar, Neither, Forgets, Both, OpenedSoFar}
+use Rattle.server_model.specs.ServiceCalls.{is_failover, Crashed, SameLists, HasSoFar, Neither, Forgets, Both}
 use Rattle.service_calls.specs.Kept.{Goes}
-use Rattle.world_model.specs.Basic.{is_down}
-use Rattle.world_model.specs.Coupled.{living_of, HasStored, SameServer, Coupled}
+use Rattle.world_model.specs.Coupled.{living_of, SameServer, Coupled}
 use Rattle.world_model.specs.Links.{Link, link_at}
 use Rattle.world_model.specs.Machines.{Server, Machine}
 use Rattle.world_model.specs.Traced.{Traced}
 use Rattle.world_model.specs.Walking.{follow}
 use Rattle.world_core.specs.declared.traffic.Traffic.{Traffic}
 use Rattle.world_core.specs.Underway.{IsUnderway}
-use Rattle.world_core.specs.Making.{IsReady, MakesWhere}
+use Rattle.world_core.specs.Making.{MakesWhere}
 use Rattle.world_core.specs.Stopping.{BegunOpening, HasFallen}
 use Rattle.world_core.proofs.Coupling.{moved, begun, one_alone, stays_coupled, none_came, none_asked}
 use Rattle.world_core.proofs.Opening.{any_server}

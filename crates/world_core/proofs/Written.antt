@@ -47,7 +47,7 @@ settings_same : AreExact → (settings : List (List ℕ × Value)) → same_sett
 settings_same exact settings =
     each_self same_setting (λ one. both_true (pointwise nat_eq one.0 one.0) (same_value one.1 one.1) (each_self nat_eq number_self one.0) ((exact.values one.1 one.1).1 refl)) settings
 
-bools_same : (b : Bool) → same_bool b b ≡ true
+pub bools_same : (b : Bool) → same_bool b b ≡ true
 bools_same true = refl
 bools_same false = refl
 
@@ -106,7 +106,7 @@ pub record ServedBy (server : Server) (link : Link) (frame : Up) (reply : Option
 first_named : {A : Type 0} (known : Option SessionId) (session : SessionId) → known ≡ Some session → is_none known ≡ true → A
 first_named known session named none = absurd (let same : false ≡ true = sym (ap (λ (k : Option SessionId). is_none k) named) ∙ none in let nothing : ⊥ = cc in nothing)
 
-later_unnamed : {A : Type 0} (known : Option SessionId) → known ≡ None → is_none known ≡ false → A
+pub later_unnamed : {A : Type 0} (known : Option SessionId) → known ≡ None → is_none known ≡ false → A
 later_unnamed known none some = absurd (let same : true ≡ false = sym (ap (λ (k : Option SessionId). is_none k) none) ∙ some in let nothing : ⊥ = cc in nothing)
 
 first_by : AreExact → (server : Server) (link : Link) (commits : ℕ) (session : SessionId) (sessions : ℕ) → Which server link.session session sessions → is_none link.session ≡ true
@@ -114,10 +114,10 @@ first_by : AreExact → (server : Server) (link : Link) (commits : ℕ) (session
 first_by exact server link commits session sessions (inl (named, same)) none = first_named link.session session named none
 first_by exact server link commits session sessions (inr (unnamed, (next, more))) none = record { is_served = (exact.sessions session (next_session server)).1 next; session_is = rw unnamed refl; sessions_are = sym more }
 
-named_session : (known : Option SessionId) (session : SessionId) (reply : Option Down) → known ≡ Some session → session_served known reply ≡ session
+pub named_session : (known : Option SessionId) (session : SessionId) (reply : Option Down) → known ≡ Some session → session_served known reply ≡ session
 named_session known session reply named = rw named refl
 
-same_named : AreExact → (known : Option SessionId) (session : SessionId) → known ≡ Some session → option_map_or (same_session session) known false ≡ true
+pub same_named : AreExact → (known : Option SessionId) (session : SessionId) → known ≡ Some session → option_map_or (same_session session) known false ≡ true
 same_named exact known session named = rw named ((exact.sessions session session).1 refl)
 
 -- a frame of a session that has its name

@@ -16,7 +16,7 @@ use Rattle.world_model.specs.Serving.{Front, front_at, is_blocked, after_front, 
 use Rattle.world_core.specs.declared.connection.Connection.{Connection}
 use Rattle.world_core.specs.declared.traffic.Traffic.{Traffic}
 use Rattle.world_core.specs.Linked.{Stand, connection_at, MaySend}
-use Rattle.world_core.specs.Answering.{session_served, served_item}
+use Rattle.world_core.specs.Answering.{session_served, served_item, crashed_item}
 
 pub record IsUnderway (held : Traffic) (m : Machine) : Type 0 where
   pub event : m.event ≡ held.event
@@ -75,3 +75,10 @@ pub record IsWritten (held : Traffic) (m : Machine) (number : ℕ) (front : Fron
   pub session : served.session ≡ session_served front.link.session reply
   pub item : served.item ≡ served_item frame reply
   pub links : IsUnderway after (record m { links = with_link m.links number (answered_link m.event front served reply); pool = pool_after m.pool number served.item })
+
+-- A frame was stopped before its reply: its item is written down.
+pub record IsStopped (held : Traffic) (m : Machine) (number : ℕ) (front : Front) (frame : Up) (served : Served) (after : Traffic) : Type 0 where
+  pub event : served.event ≡ m.event
+  pub session : served.session ≡ session_served front.link.session None
+  pub item : served.item ≡ crashed_item frame
+  pub links : IsUnderway after (record m { links = with_link m.links number (after_front front served None) })

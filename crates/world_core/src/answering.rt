@@ -2,7 +2,7 @@
 ghost use Rattle.std.specs.Prelude.{◌≡◌, IfOk};
 ghost use Rattle.world_model.specs.Noting.{name_of};
 ghost use Rattle.world_model.specs.Serving.{is_blocked as is_blocked_def, is_last as is_last_def};
-ghost use Rattle.world_core.specs.Answering.{session_served as session_served_def, session_named as session_named_def, result_told as result_told_def, call_item as call_item_def, ordinary_item as ordinary_item_def, served_item as served_item_def, result_of as result_of_def};
+ghost use Rattle.world_core.specs.Answering.{session_served as session_served_def, session_named as session_named_def, result_told as result_told_def, call_item as call_item_def, ordinary_item as ordinary_item_def, served_item as served_item_def, result_of as result_of_def, crashed_item as crashed_item_def};
 
 use ltxid_book::Verdict;
 use outage_schedule::{AskResult, FrameName, Item};
@@ -140,5 +140,19 @@ pub(crate) fn result_of(verdict: Verdict) -> AskResult
         Verdict::ServerAhead { next } => AskResult::ServerAhead { next },
         Verdict::ClientAhead { next } => AskResult::ClientAhead { next },
         Verdict::Forgotten { horizon } => AskResult::Forgotten { horizon },
+    }
+}
+
+/// What a frame that was stopped before its reply is written down as.
+pub(crate) fn crashed_item(frame: Up) -> Item
+    ensures { result ≡ crashed_item_def frame }
+{
+    match frame {
+        Up::Connect => Item::Connect,
+        Up::Begin { settings } => Item::Begin { settings },
+        Up::Call { replay, call, .. } => Item::CrashedCall { replay, call },
+        Up::Outcome { ltxid } => Item::CrashedOutcome { ltxid },
+        Up::End => Item::End,
+        Up::Close => Item::Close,
     }
 }

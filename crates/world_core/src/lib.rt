@@ -6,6 +6,7 @@ mod asking;
 mod client;
 mod connection;
 mod connections;
+mod crashing;
 mod ground;
 mod outside;
 mod stopped_opening;

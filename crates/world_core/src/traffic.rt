@@ -14,9 +14,9 @@ ghost use Rattle.world_model.specs.Cutting.{follow_cut, follow_reap};
 ghost use Rattle.world_model.specs.Crashing.{fallen_link};
 ghost use Rattle.world_model.specs.Outside.{ticked, follow_drain};
 ghost use Rattle.world_core.specs.Linked.{up_frames, connection_at, MaySend};
-ghost use Rattle.world_core.specs.Underway.{AreClosable, all_closed, IsUnderway, Leads, GivesFrontOf, GivesReplyOf, MayRelease, closes_with, IsWritten};
+ghost use Rattle.world_core.specs.Underway.{AreClosable, all_closed, IsUnderway, Leads, GivesFrontOf, GivesReplyOf, MayRelease, closes_with, IsWritten, IsStopped};
 
-use crate::answering::{is_blocked, is_last, served_item, session_served};
+use crate::answering::{crashed_item, is_blocked, is_last, served_item, session_served};
 use crate::connections::Connections;
 use client_model::Hold;
 use outage_schedule::{Reached, Served};
@@ -156,6 +156,21 @@ impl Traffic {
         }
         self.end(number);
         Ok(served)
+    }
+
+    /// Writes down that the frame that was taken off was stopped before its reply.
+    pub fn stop(&mut self, number: u64, frame: Up) -> Result<Served, NoMemory>
+        ensures { IfOk result (λ served. (m : Machine) (front : Front) → link_at m.links number ≡ Some (record front.link { up = front.later }) → IsUnderway self.old m → IsStopped self.old m number front frame served self.new) }
+    {
+        let event = self.event;
+        let session = session_served(self.connections.session(number), &None);
+        let item = crashed_item(frame);
+        self.serve(number, session, is_last(&item), &None)?;
+        Ok(Served {
+            event,
+            session,
+            item,
+        })
     }
 
     /// The event ends a connection, if it is open. One that is idle leaves the pool. Linear in the

@@ -3,6 +3,7 @@ use Rattle.std.specs.Prelude.{ℕ, ◌+◌, ◌*◌, ◌&&◌, ◌||◌, Bool, t
 use Rattle.svc_values.specs.declared.call.Call.TheVariants as call
 use Rattle.svc_values.specs.declared.frame.Up.{Up}
 use Rattle.svc_values.specs.declared.frame.Up.TheVariants as up
+use Rattle.svc_values.specs.Calls.{sequences_in}
 use Rattle.svc_values.specs.Identifiers.{same_ltxid}
 use Rattle.ltxid_book.specs.Journal.{is_blocked}
 use Rattle.pool_core.specs.Slots.{after_gone}
@@ -11,7 +12,6 @@ use Rattle.outage_schedule.specs.declared.item.Item.TheVariants as item
 use Rattle.outage_schedule.specs.declared.item.Served.{Served}
 use Rattle.svc_values.specs.Same.{same_bool, same_call}
 use Rattle.run_clauses.specs.Outcomes.{is_uncommitted}
-use Rattle.world_model.specs.Sequences.{sequences_in}
 use Rattle.world_model.specs.Links.{Link, with_link, ends, open_from}
 use Rattle.world_model.specs.Machines.{Server, Machine}
 use Rattle.world_model.specs.Noting.{only_if}

@@ -30,7 +30,6 @@ pub mod Reports
 pub mod Same
 pub mod Sames
 pub mod Script
-pub mod Sequences
 pub mod ServiceDid
 pub mod Serving
 pub mod Settings

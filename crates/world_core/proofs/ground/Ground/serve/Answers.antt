@@ -22,7 +22,7 @@ serve-requires-clause-made g c =
     frame_made c.requires.in_order.1.0.machine c.args.connection c.in-Some.frame c.args.self.now.traffic c.first_up.new.self is.underway (subst (λ frame. FrontOf (begun m) c.args.connection (front_at m.links c.args.connection) frame c.first_up.new.self) c.in-Some.is (c.in_ok-first.ensures _ (c.begin.ensures.begun m is.underway)))
 
 pub answer-requires : goal.answer-requires
-answer-requires g c = made_there (g.S.Service.sees c.args.self.now.service) (g.S.Service.sees c.serve.new.self) (g.S.Service.leaves c.serve.new.self) c.args.self.now.traffic c.first_up.new.self c.args.connection c.in-Some.frame c.in-Ok.reply c.requires.in_order
+answer-requires g c = made_there (g.S.Service.sees c.args.self.now.service) (g.S.Service.sees c.serve.new.self) (g.S.Service.leaves c.serve.new.self) c.args.self.now.traffic c.first_up.new.self c.args.connection c.in-Some.frame c.in-Ok.reply c.requires.in_order.0 c.requires.in_order.1.0 c.requires.in_order.1.1.0.seen_so c.requires.in_order.1.1.0.underway c.requires.in_order.1.1.1
     (λ seen sees. (g.met.S.Service.honest c.serve.new.self seen sees).history) c.in-Ok.ensures.served (λ m is. subst (λ frame. FrontOf (begun m) c.args.connection (front_at m.links c.args.connection) frame c.first_up.new.self) c.in-Some.is (c.in_ok-first.ensures _ (c.begin.ensures.begun m is)))
 
 pub returns-clause-made : goal.returns-clause-made

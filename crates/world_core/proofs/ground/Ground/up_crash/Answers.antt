@@ -1,5 +1,5 @@
 use Rattle.std.proofs.Common.{sym, ap, ◌∙◌, subst}
-use Rattle.server_model.specs.Seen.{ServiceState, Store}
+use Rattle.server_model.specs.Seen.{ServiceState}
 use Rattle.world_core.specs.Underway.{IsUnderway}
 use Rattle.world_core.proofs.Coupling.{begun}
 use Rattle.world_core.proofs.StoppedUps.{crashes_no_opening, crashes_opening}

@@ -1,0 +1,85 @@
+//! Crashes.
+ghost use Rattle.std.specs.Prelude.{◌≡◌, ◌+◌, ◌<◌, ◌^◌, true, IfOk, option_to_list};
+ghost use Rattle.server_model.specs.ServiceCalls.{MayCrash};
+ghost use Rattle.world_core.specs.Making.{MakesWhere};
+ghost use Rattle.world_core.specs.Stopping.{InOrderUnder, IsLast, LeadsLast};
+
+use crate::ground::Ground;
+use outage_schedule::{Event, Note, Served};
+use service_calls::{ServeFault, Service};
+use std::alloc::Global;
+use svc_values::NoMemory;
+use svc_values::laws::compares_exactly;
+
+impl<S: Service + Drop> Ground<S> {
+    /// Serves the frame that stands first on a connection, if one may be served there, under a stop
+    /// after so many device calls, and then the server falls and leaves the image of this pick. Gives
+    /// the frame's item. Where the server is down nothing happens.
+    pub fn crash(
+        &mut self,
+        alloc: Global,
+        connection: u64,
+        after: u64,
+        pick: u8,
+    ) -> Result<(Note, Option<Served>), NoMemory>
+        requires events { self.old.traffic.event < 2 ^ 48 }
+        requires last { IsLast (S.sees self.old.service) self.old.traffic connection after }
+        requires few { (S.state self.old.service).calls + 2 < 2 ^ 48 }
+        requires may { MayCrash (S.state self.old.service) pick }
+        ensures { IfOk result (λ made. MakesWhere (InOrderUnder connection after) (S.sees self.old.service) self.old.traffic (S.sees self.new.service) self.new.traffic (Event.Crash connection after pick) made.0 (option_to_list made.1)) }
+    {
+        if !self.service.is_up() {
+            self.traffic.begin();
+            let note = Note::Crash {
+                connection,
+                down: true,
+            };
+            return Ok((note, None));
+        }
+        let served = self.serve_last(alloc, connection, after)?;
+        self.service.crash(pick);
+        self.traffic.fall();
+        let note = Note::Crash {
+            connection,
+            down: false,
+        };
+        Ok((note, served))
+    }
+
+    /// Begins the event, and serves the frame that stands first on a connection, if one may be served
+    /// there, under a stop after so many device calls.
+    fn serve_last(
+        &mut self,
+        alloc: Global,
+        connection: u64,
+        after: u64,
+    ) -> Result<Option<Served>, NoMemory>
+        requires events { self.old.traffic.event < 2 ^ 48 }
+        requires last { IsLast (S.sees self.old.service) self.old.traffic connection after }
+        requires few { (S.state self.old.service).calls + 2 < 2 ^ 48 }
+        requires up { (S.state self.old.service).is_up ≡ true }
+        ensures { IfOk result (λ served. LeadsLast (S.sees self.old.service) self.old.traffic (S.sees self.new.service) (S.leaves self.new.service) self.new.traffic connection after (option_to_list served)) }
+    {
+        compares_exactly();
+        self.traffic.begin();
+        self.service.stop_after(Some(after));
+        let first = self.traffic.first_up(connection)?;
+        let Some(frame) = first else {
+            return Ok(None);
+        };
+        match self
+            .service
+            .serve(alloc, connection, &frame, self.traffic.tick)
+        {
+            Ok(reply) => {
+                let served = self.traffic.answer(alloc, connection, frame, &reply)?;
+                Ok(Some(served))
+            }
+            Err(ServeFault::Stopped) => {
+                let served = self.traffic.stop(connection, frame)?;
+                Ok(Some(served))
+            }
+            Err(ServeFault::NoMemory) => Err(NoMemory),
+        }
+    }
+}
