@@ -126,11 +126,11 @@ frame_grown server _ _ Falls session now frame told is = absurd (let none : ⊥ 
 frame_grown server _ _ (Opens below off may) session now frame told is = absurd (let none : ⊥ = cc in none)
 frame_grown server _ _ (StopsOpening below core off may same) session now frame told is = absurd (let none : ⊥ = cc in none)
 
-abbrev frame_in : Happened → Up → Up
+abbrev pub frame_in : Happened → Up → Up
 frame_in (Served session now frame told) other = frame
 frame_in (Asked x told) other = other
 
-abbrev first_frame : List Happened → Up → Up
+abbrev pub first_frame : List Happened → Up → Up
 first_frame [] other = other
 first_frame (one ∷ rest) other = frame_in one other
 

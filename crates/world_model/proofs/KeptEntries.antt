@@ -8,6 +8,7 @@ use Rattle.commit_log.specs.declared.base.Base.{Base}
 use Rattle.commit_log.specs.declared.journal.Journal.{Journal}
 use Rattle.commit_log.specs.Journals.{journal_of}
 use Rattle.commit_log.specs.Keeping.{EachKeeps}
+use Rattle.outage_schedule.specs.declared.document.Document.{Document}
 use Rattle.run_clauses.specs.Before.{base_of, read_journal, given_journal, journal_before}
 use Rattle.run_clauses.specs.EntryEvents.{entries_of}
 use Rattle.server_model.specs.Base as base
@@ -16,7 +17,8 @@ use Rattle.server_model.specs.Laws.{StoresRight}
 use Rattle.server_model.proofs.Offered.{service_stores}
 use Rattle.world_model.specs.Coupled.{Coupled}
 use Rattle.world_model.specs.KeptLaws.{IsKept}
-use Rattle.world_model.specs.Number.{numbered_after, entries_numbered, none_blocked}
+use Rattle.world_model.specs.Number.{numbered_after, blocks_next, entries_numbered, none_blocked}
+use Rattle.world_model.specs.Reached.{traced_start}
 use Rattle.world_model.specs.Traced.{Traced}
 use Rattle.world_model.proofs.Blocks.{all_next, blocks_law}
 use Rattle.world_model.proofs.Numbered.{numbered_on, image_numbered, all_below, none_held}
@@ -63,3 +65,7 @@ unblocked_law keeps = record {
       none_held new.entries new.entries new.blocked (blocks_law after new one.coupled_after)
       (all_below new.entries ((entries_law keeps).at_event granted before after old new event note items left one inv));
 }
+
+-- what the image has blocked
+pub blocks_begin : EachKeeps → (document : Document) → blocks_next (traced_start document) ≡ true
+blocks_begin keeps document = (given_right keeps (base_of document) document.image).next

@@ -145,6 +145,20 @@ module _ (granted : Draw → Bool) (before after : Seen) (old new : Traced) (eve
   right number link there =
       right_from old link (at_link (is_near old) links number link inv.number.near there) (at_link (is_counted old) links number link inv.number.counted there) (at_link (ahead_rightly old) links number link inv.number.ahead there)
 
+  pub happens_one : (number : ℕ) (front : Front) (served : Served) → front_at links number ≡ Some front → items ≡ served ∷ left → serves_at kind ≡ Some number → one.happened ≡ ServedFrame served.session old.machine.tick front.first.frame (front_telling front served) ∷ []
+  happens_one number front served at same serves = cases kind serves did
+    where
+      told_front : one.happened ≡ front_served old.machine.tick (front_at links number) items → one.happened ≡ ServedFrame served.session old.machine.tick front.first.frame (front_telling front served) ∷ []
+      told_front is = is ∙ (ap (λ (f : Option Front). front_served old.machine.tick f items) at ∙ ap (front_served old.machine.tick (Some front)) same)
+
+      cases : (what : Noted) → serves_at what ≡ Some number → DidOf old.machine items what one.happened → one.happened ≡ ServedFrame served.session old.machine.tick front.first.frame (front_telling front served) ∷ []
+      cases (ServedOn other frame) serves is = let equal : other ≡ number = cc in told_front (is ∙ ap (λ (n : ℕ). front_served old.machine.tick (front_at links n) items) equal)
+      cases (Crashed other after_so failover down) serves is =
+          let equal : other ≡ number = cc in
+          let there = front_is links number front at in
+          told_front (is ∙ (ap (λ (test : Bool). if test then front_served old.machine.tick (front_at links other) items else []) (up_by number front.link there.there there.living) ∙ ap (λ (n : ℕ). front_served old.machine.tick (front_at links n) items) equal))
+      cases what serves is = absurd (let none : ⊥ = cc in none)
+
   module _ (numbers : EntryNumbers) (stores : StoresByCommit) where
     -- A FRAME THAT IS SERVED ----------------------------------------------------------------------
 
@@ -309,20 +323,6 @@ module _ (granted : Draw → Bool) (before after : Seen) (old new : Traced) (eve
           (commit, crashed_commit front.first.frame served.item crashed commit, held_now_some facts.1)) m.event
 
     -- EACH CONNECTION -----------------------------------------------------------------------------
-
-    happens_one : (number : ℕ) (front : Front) (served : Served) → front_at links number ≡ Some front → items ≡ served ∷ left → serves_at kind ≡ Some number → one.happened ≡ ServedFrame served.session old.machine.tick front.first.frame (front_telling front served) ∷ []
-    happens_one number front served at same serves = cases kind serves did
-      where
-        told_front : one.happened ≡ front_served old.machine.tick (front_at links number) items → one.happened ≡ ServedFrame served.session old.machine.tick front.first.frame (front_telling front served) ∷ []
-        told_front is = is ∙ (ap (λ (f : Option Front). front_served old.machine.tick f items) at ∙ ap (front_served old.machine.tick (Some front)) same)
-
-        cases : (what : Noted) → serves_at what ≡ Some number → DidOf old.machine items what one.happened → one.happened ≡ ServedFrame served.session old.machine.tick front.first.frame (front_telling front served) ∷ []
-        cases (ServedOn other frame) serves is = let equal : other ≡ number = cc in told_front (is ∙ ap (λ (n : ℕ). front_served old.machine.tick (front_at links n) items) equal)
-        cases (Crashed other after_so failover down) serves is =
-            let equal : other ≡ number = cc in
-            let there = front_is links number front at in
-            told_front (is ∙ (ap (λ (test : Bool). if test then front_served old.machine.tick (front_at links other) items else []) (up_by number front.link there.there there.living) ∙ ap (λ (n : ℕ). front_served old.machine.tick (front_at links n) items) equal))
-        cases what serves is = absurd (let none : ⊥ = cc in none)
 
     turned : (number : ℕ) (link next : Link) → link_at links number ≡ Some link → link_at new.machine.links number ≡ Some next → Turns m items left kind number link next → Right (number_of new.entries next) next
     turned number link _ there here (Stays _) = subst (λ (n : ℕ). Right n link) (sym (number_same number link link there here refl refl refl)) (right number link there)

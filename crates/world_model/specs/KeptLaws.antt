@@ -5,7 +5,9 @@ use Rattle.svc_values.specs.declared.draw.Draw.{Draw}
 use Rattle.svc_values.specs.declared.call.Call.{Call}
 use Rattle.svc_values.specs.declared.frame.Up.TheVariants as up
 use Rattle.svc_values.specs.Calls.{has_commit}
+use Rattle.server_model.specs.Base.{Base}
 use Rattle.server_model.specs.Core.{Core}
+use Rattle.server_model.specs.Runs.{Happened, Server, Runs}
 use Rattle.server_model.specs.Outcomes.{Telling}
 use Rattle.server_model.specs.Seen.{Seen}
 use Rattle.server_model.specs.Serve.{Serve}
@@ -21,6 +23,7 @@ use Rattle.world_model.specs.Ready.{all_have_calls}
 use Rattle.world_model.specs.Basic.{Basic}
 use Rattle.world_model.specs.Wire.{Wire}
 use Rattle.world_model.specs.Hold.{Hold}
+use Rattle.world_model.specs.Number.{Number}
 use Rattle.world_model.specs.Invariant.{Invariant}
 use Rattle.world_model.specs.OneEvent.{OneEvent}
 use Rattle.world_model.specs.Conversing.{AllTalk}
@@ -95,3 +98,16 @@ pub record IsKeptOfImages (test : Traced → Bool) : Type 0 where
   pub at_start : (document : Document) → IsTrue (image_from_one document) → IsTrue (test (traced_start document))
   pub at_event : (granted : Draw → Bool) (before after : Seen) (old new : Traced) (event : Event) (note : Note) (items left : List Served)
       → OneEvent before old event note items left after new → Invariant granted old → IsTrue (test new)
+
+-- A run of the plain server keeps its base. (A premise of some of the laws, too.)
+abbrev pub RunsKeepBase : Type 0
+RunsKeepBase = (base : Base) (history : List Happened) (server : Server) → Runs base history server → server.core.base ≡ base
+
+-- the record of identifiers and entries as a whole
+abbrev pub NumberBegins : Type 0
+NumberBegins = (document : Document) → IsTrue (image_from_one document) → Number (traced_start document)
+
+abbrev pub NumberIsKept : Type 0
+NumberIsKept =
+    (granted : Draw → Bool) (before after : Seen) (old new : Traced) (event : Event) (note : Note) (items left : List Served)
+    → OneEvent before old event note items left after new → Invariant granted old → Number new

@@ -1,11 +1,11 @@
 //! What of the invariant holds of the start and is kept in each event, if the whole invariant held before it. Each law is the
 //! clause of a function with nothing to run.
-ghost use Rattle.world_model.specs.KeptLaws.{IsKept, IsKeptOfCalls, IsOfService, BasicBegins, BasicIsKept, WireBegins, WireIsKept, HoldBegins, HoldIsKept, StoresByCommit, IsKeptOfImages, TalksBegin, TalksAreKept};
+ghost use Rattle.world_model.specs.KeptLaws.{IsKept, IsKeptOfCalls, IsOfService, BasicBegins, BasicIsKept, WireBegins, WireIsKept, HoldBegins, HoldIsKept, StoresByCommit, RunsKeepBase, IsKeptOfImages, NumberBegins, NumberIsKept, TalksBegin, TalksAreKept};
 ghost use Rattle.world_model.specs.Wire.{sent_fronts, reply_fronts, are_handled, in_grammar, one_out, answered_in_order, up_lives, are_fresh};
 ghost use Rattle.world_model.specs.Ready.{are_ready};
 ghost use Rattle.world_model.specs.Script.{are_conversations, are_kept, all_sent, are_owned, carry_draws, follow_scripts, report_rightly};
 ghost use Rattle.world_model.specs.Hold.{are_had, are_queued, are_held, are_idle, slots_held, are_opened, are_by_held};
-ghost use Rattle.world_model.specs.Number.{are_near, are_counted as are_numbered, are_told, are_served_near, are_ahead, blocks_next, entries_numbered, known_so_far, none_blocked};
+ghost use Rattle.world_model.specs.Number.{are_near, are_counted as are_numbered, are_told, are_served_near, are_ahead, blocks_next, entries_numbered, known_so_far, answers_stand, none_blocked};
 ghost use Rattle.world_model.specs.Basic.{have_risen, kept_ticks, items_rise, items_differ, is_down, are_ended, sessions_differ, are_made, are_counted, are_named, living_now, commits_counted, lives};
 
 /// The items of a connection are in the order of their events, which are past. An event has one item.
@@ -216,4 +216,21 @@ pub fn entries_are_known()
     ensures { IsKeptOfImages known_so_far }
 {
     commit_log::laws::keeps_journal();
+}
+
+/// Where a run of the plain server keeps its base: what was answered of an identifier stands. Uncommitted, it is blocked; committed, its
+/// entry is there and says so; and no session is so far from it that the answer was anything else, but that it is forgotten.
+pub fn answers_stay()
+    ensures { RunsKeepBase → IsKept answers_stand }
+{}
+
+/// The record of identifiers and entries as a whole: it holds of the start, where the image has no entry of a session of the number 0,
+/// and behind each event if the whole invariant held before it, where a call without a commit stores nothing and a run of the plain
+/// server keeps its base.
+pub fn number_is_kept()
+    ensures start { NumberBegins }
+    ensures event { StoresByCommit → RunsKeepBase → NumberIsKept }
+{
+    commit_log::laws::keeps_journal();
+    server_model::laws::runs_number();
 }

@@ -1,0 +1,233 @@
+-- Of Number: what was answered of an identifier stands, at the start and behind each event.
+use Rattle.std.proofs.Common.{◌≡◌, refl, sym, ap, subst, ◌∙◌, Bool, true, false, ℕ, ◌+◌, ◌≤◌, ◌&&◌, List, [], ◌∷◌, ◌++◌, map, Option, Some, None, ◌⊎◌, inl, inr, arith}
+use Rattle.std.specs.Prelude.{Contains}
+use Rattle.std.specs.List.{list_all}
+use Rattle.std.specs.Option.{option_map_or}
+use Rattle.std.proofs.lemmas.Bool.{and_parts, and_from}
+use Rattle.std.proofs.lemmas.List.Elements.{Contains-push}
+use Rattle.svc_values.specs.declared.draw.Draw.{Draw}
+use Rattle.svc_values.specs.declared.entry.Entry.{Entry}
+use Rattle.svc_values.specs.declared.entry.Ltxid.{Ltxid}
+use Rattle.svc_values.specs.declared.frame.Up.{Up}
+use Rattle.svc_values.specs.declared.frame.Up.TheVariants as up
+use Rattle.svc_values.specs.declared.frame.Down.{Down}
+use Rattle.svc_values.specs.Identifiers.{same_ltxid, session_of}
+use Rattle.svc_values.specs.Same.{same_bool}
+use Rattle.svc_values.specs.SameLaws.{same_ltxid_decides, same_bool_decides}
+use Rattle.ltxid_book.specs.Journal.{is_blocked, committed_of, book_of}
+use Rattle.ltxid_book.specs.Outcomes.{verdict_of}
+use Rattle.outage_schedule.specs.declared.event.Event.{Event}
+use Rattle.outage_schedule.specs.declared.item.Item.{Item}
+use Rattle.outage_schedule.specs.declared.item.Item.TheVariants as item
+use Rattle.outage_schedule.specs.declared.item.Served.{Served}
+use Rattle.outage_schedule.specs.declared.note.Note.{Note}
+use Rattle.outage_schedule.specs.declared.note.AskResult.{AskResult}
+use Rattle.outage_schedule.specs.declared.note.AskResult.TheVariants as told
+use Rattle.run_clauses.specs.EntryEvents.{entries_of}
+use Rattle.run_clauses.specs.Outcomes.{completed_of}
+use Rattle.run_clauses.specs.Tried.{holds}
+use Rattle.server_model.specs.Base as base
+use Rattle.server_model.specs.Core.{all_entries, all_blocked}
+use Rattle.server_model.specs.Laws.{CommitsAs, LastOf}
+use Rattle.server_model.specs.Outcomes.{Telling, Says, down_of, verdict_on}
+use Rattle.server_model.specs.Runs.{Happened, Served as ServedFrame, Server, Runs}
+use Rattle.server_model.specs.Seen.{Seen}
+use Rattle.server_model.proofs.Offered.{runs_last, blocks_are_stored}
+use Rattle.world_model.specs.Frames.{Handled}
+use Rattle.world_model.specs.Invariant.{Invariant}
+use Rattle.world_model.specs.KeptLaws.{IsKept, RunsKeepBase}
+use Rattle.world_model.specs.Links.{Link, link_at, sends, takes}
+use Rattle.world_model.specs.Number.{numbered_after, stands, answers_stand}
+use Rattle.world_model.specs.OneEvent.{OneEvent}
+use Rattle.world_model.specs.ServiceDid.{item_telling, front_telling}
+use Rattle.world_model.specs.Serving.{Front, front_at, is_of_front, is_ordinary, is_item_of, commits_after, outcome_frame, after_front, handled}
+use Rattle.world_model.specs.Crashing.{is_stopped, is_crashed_item, is_over, fallen_link}
+use Rattle.world_model.specs.Cutting.{cut_link, reaped_link}
+use Rattle.world_model.specs.Traced.{Traced}
+use Rattle.client_model.specs.declared.input.Input.TheVariants.{Took}
+use Rattle.world_model.proofs.AllLinks.{front_is, at_link}
+use Rattle.world_model.proofs.AllLists.{append_all, one_all, weaker_all}
+use Rattle.world_model.proofs.AnswersTold.{stands_still, IsAnswer, move_answer, blocked_holds, not_refused}
+use Rattle.world_model.proofs.AskedNear.{IsNear, asked_near}
+use Rattle.world_model.proofs.Completed.{verdict_committed, verdict_near, told_committed, told_server, told_client}
+use Rattle.world_model.proofs.Ends.{sends_alike, handled_alike, cut_case, fallen_case}
+use Rattle.world_model.proofs.Gaining.{commits_unmarked, one_of, gains_none}
+use Rattle.world_model.proofs.GainedQuiet.{entries_more}
+use Rattle.world_model.proofs.Happened.{Followed, follow_happens, at_event}
+use Rattle.world_model.proofs.Held.{held_now}
+use Rattle.world_model.proofs.KeptEntries.{numbered_now}
+use Rattle.world_model.proofs.NumbersEvent.{happens_one, by as event_by}
+use Rattle.world_model.proofs.GainedQuiet.{serves_at}
+use Rattle.world_model.proofs.NumbersTurn.{by_number}
+use Rattle.world_model.proofs.Turning.{Turns, Stays, IsSaid, IsTaken, IsServed, IsCut, IsReaped, HasFallen, WasStopped, WasServed, ComesFrom, IsNew, IsOld, all_turn}
+
+-- a stopped item tells nothing
+crashed_stands : (t : Traced) (frame : Up) (one : Item) → is_crashed_item frame one ≡ true → stands t one ≡ true
+crashed_stands t (up.Call replay kept called) (item.CrashedCall marked call) is = refl
+crashed_stands t (up.Outcome x) (item.CrashedOutcome asked) is = refl
+crashed_stands t up.Connect one is = absurd (let none : ⊥ = cc in none)
+crashed_stands t (up.Begin settings) one is = absurd (let none : ⊥ = cc in none)
+crashed_stands t up.End one is = absurd (let none : ⊥ = cc in none)
+crashed_stands t up.Close one is = absurd (let none : ⊥ = cc in none)
+crashed_stands t (up.Call replay kept called) one is = absurd (let none : ⊥ = cc in none)
+crashed_stands t (up.Outcome x) one is = absurd (let none : ⊥ = cc in none)
+
+module _ (granted : Draw → Bool) (before after : Seen) (old new : Traced) (event : Event) (note : Note) (items left : List Served) (one : OneEvent before old event note items left after new) (inv : Invariant granted old) (keeps : RunsKeepBase) where
+  abbrev links : List Link
+  links = old.machine.links
+
+  abbrev now_server : Server
+  now_server = one.coupled_after.history.server
+
+  still : numbered_after [] new.entries ≡ true
+  still = numbered_now before after old new one.coupled_before one.coupled_after one.start inv.number.entries
+
+  -- A QUESTION THAT IS ANSWERED -------------------------------------------------------------------
+
+  module _ (number : ℕ) (front : Front) (served : Served) (at : front_at links number ≡ Some front) (x : Ltxid) (frame_is : front.first.frame ≡ up.Outcome x) (result : AskResult)
+      (happens : one.happened ≡ ServedFrame served.session old.machine.tick (up.Outcome x) (Says (outcome_frame result)) ∷ []) where
+    abbrev what : Happened
+    what = ServedFrame served.session old.machine.tick (up.Outcome x) (Says (outcome_frame result))
+
+    later : Runs before.start (before.history ++ what ∷ []) now_server
+    later =
+        subst (λ (b : base.Base). Runs b (before.history ++ what ∷ []) now_server) one.start
+        (subst (λ (all : List Happened). Runs after.start all now_server) (one.history ∙ ap (λ (list : List Happened). before.history ++ list) happens) one.coupled_after.history.runs)
+
+    last : LastOf before.start before.history what now_server
+    last = runs_last before.start before.history what now_server later
+
+    answer : (outcome_frame result ≡ down_of (verdict_on last.before.core x)) × (last.behind.core.entries ≡ last.before.core.entries)
+    answer = by (move_answer last.before last.behind (what ∷ []) last.moves served.session old.machine.tick x (outcome_frame result) refl)
+      where
+        by : IsAnswer last.before.core last.behind.core x (outcome_frame result) → (outcome_frame result ≡ down_of (verdict_on last.before.core x)) × (last.behind.core.entries ≡ last.before.core.entries)
+        by (inl refused) = absurd (not_refused result refused)
+        by (inr told_so) = told_so
+
+    -- its store has the entries of now
+    same_entries : all_entries last.before.core ≡ new.entries
+    same_entries =
+        ap (λ (b : base.Base). b.entries ++ last.before.core.entries) (keeps before.start before.history last.before last.runs)
+        ∙ (ap (λ (all : List Entry). before.start.entries ++ all) (sym (last.same.entries ∙ answer.1))
+        ∙ sym (one.coupled_after.entries ∙ (one.coupled_after.history.entries ∙ ap (λ (b : base.Base). b.entries ++ now_server.core.entries) one.start)))
+
+    -- no entry was gained
+    same_count : entries_of new.entries (session_of x) ≡ entries_of old.entries (session_of x)
+    same_count =
+        let none : entries_of one.more_entries (session_of x) ≡ 0 =
+        gains_none one.happened (session_of x) one.more_entries one.own
+        (λ this contains entry commits same.
+        let equal : what ≡ this = one_of what this (subst (λ (list : List Happened). Contains list this) happens contains) in
+        let plain : false ≡ true = commits_unmarked entry served.session old.machine.tick (up.Outcome x) (Says (outcome_frame result)) (subst (CommitsAs entry) (sym equal) commits) in
+        let never : ⊥ = cc in never) in
+        let sum : entries_of new.entries (session_of x) ≡ entries_of old.entries (session_of x) + entries_of one.more_entries (session_of x) =
+        ap (λ (all : List Entry). entries_of all (session_of x)) one.entries ∙ entries_more old.entries one.more_entries (session_of x) in
+        omega arith
+
+    near : IsNear old x
+    near = let is = front_is links number front at in asked_near granted old inv number front.link front.first front.later x is.there is.up frame_is
+
+    blocked_now : outcome_frame result ≡ outcome_frame told.Uncommitted → holds new.blocked x ≡ true
+    blocked_now same =
+        let contains : Contains (before.history ++ what ∷ []) what = Contains-push before.history what in
+        let tells : ServedFrame served.session old.machine.tick (up.Outcome x) (Says (outcome_frame told.Uncommitted)) ≡ what = ap (λ (f : Down). ServedFrame served.session old.machine.tick (up.Outcome x) (Says f)) (sym same) in
+        let stored : is_blocked (all_blocked now_server.core) x ≡ true =
+        blocks_are_stored before.start (before.history ++ what ∷ []) now_server later x (ServedFrame served.session old.machine.tick (up.Outcome x) (Says (outcome_frame told.Uncommitted)))
+        (subst (λ (h : Happened). Contains (before.history ++ what ∷ []) h) (sym tells) contains) refl in
+        let all : all_blocked now_server.core ≡ new.blocked =
+        ap (λ (b : base.Base). b.blocked ++ now_server.core.blocked) (keeps after.start after.history now_server one.coupled_after.history.runs) ∙ sym (one.coupled_after.blocked ∙ one.coupled_after.history.blocked) in
+        blocked_holds new.blocked x (subst (λ (list : List Ltxid). is_blocked list x ≡ true) all stored)
+
+    completed_now : (completed : Bool) → outcome_frame result ≡ outcome_frame (told.Committed completed) → completed_of new.entries x ≡ Some completed
+    completed_now completed same =
+        let judged = told_committed completed (verdict_on last.before.core x) (sym same ∙ answer.0) in
+        subst (λ (all : List Entry). completed_of all x ≡ Some completed) same_entries
+        (verdict_committed last.before.core.horizon (all_entries last.before.core) (all_blocked last.before.core) x completed judged (subst (λ (all : List Entry). numbered_after [] all ≡ true) (sym same_entries) still))
+
+    least_now : x.number ≤ entries_of (all_entries last.before.core) (session_of x)
+    least_now = let same : entries_of (all_entries last.before.core) (session_of x) ≡ entries_of old.entries (session_of x) = ap (λ (all : List Entry). entries_of all (session_of x)) same_entries ∙ same_count in omega (arith, same, near.least)
+
+    most_now : entries_of (all_entries last.before.core) (session_of x) ≤ x.number + 1
+    most_now = let same : entries_of (all_entries last.before.core) (session_of x) ≡ entries_of old.entries (session_of x) = ap (λ (all : List Entry). entries_of all (session_of x)) same_entries ∙ same_count in omega (arith, same, near.most)
+
+    server_never : (next : ℕ) → outcome_frame result ≡ outcome_frame (told.ServerAhead next) → ⊥
+    server_never next same = verdict_near last.before.core.horizon (all_entries last.before.core) (all_blocked last.before.core) x (told_server next (verdict_on last.before.core x) (sym same ∙ answer.0)) least_now most_now
+
+    client_never : (next : ℕ) → outcome_frame result ≡ outcome_frame (told.ClientAhead next) → ⊥
+    client_never next same = verdict_near last.before.core.horizon (all_entries last.before.core) (all_blocked last.before.core) x (told_client next (verdict_on last.before.core x) (sym same ∙ answer.0)) least_now most_now
+
+    answered : (asked : Ltxid) → same_ltxid asked x ≡ true → (what_told : AskResult) → result ≡ what_told → stands new (item.Outcome asked what_told) ≡ true
+    answered asked same told.Uncommitted is = subst (λ (y : Ltxid). holds new.blocked y ≡ true) (sym ((same_ltxid_decides asked x).0 same)) (blocked_now (ap outcome_frame is))
+    answered asked same (told.Committed completed) is =
+        subst (λ (y : Ltxid). option_map_or (same_bool completed) (completed_of new.entries y) false ≡ true) (sym ((same_ltxid_decides asked x).0 same))
+        (ap (λ (found : Option Bool). option_map_or (same_bool completed) found false) (completed_now completed (ap outcome_frame is)) ∙ (same_bool_decides completed completed).1 refl)
+    answered asked same (told.Forgotten horizon) is = refl
+    answered asked same (told.ServerAhead next) is = absurd (server_never next (ap outcome_frame is))
+    answered asked same (told.ClientAhead next) is = absurd (client_never next (ap outcome_frame is))
+
+  -- EACH ITEM -------------------------------------------------------------------------------------
+
+  item_stands : (number : ℕ) (front : Front) (served : Served) → front_at links number ≡ Some front → one.happened ≡ ServedFrame served.session old.machine.tick front.first.frame (front_telling front served) ∷ []
+      → (frame : Up) (what : Item) → front.first.frame ≡ frame → served.item ≡ what → is_item_of frame what ≡ true → stands new what ≡ true
+  item_stands number front served at happens (up.Outcome x) (item.Outcome asked result) frame_is item_is is =
+      let told_so : one.happened ≡ ServedFrame served.session old.machine.tick (up.Outcome x) (Says (outcome_frame result)) ∷ [] =
+      happens ∙ (ap (λ (f : Up). ServedFrame served.session old.machine.tick f (front_telling front served) ∷ []) frame_is
+      ∙ ap (λ (i : Item). ServedFrame served.session old.machine.tick (up.Outcome x) (item_telling served.session (commits_after front.link served.item) i) ∷ []) item_is) in
+      answered number front served at x frame_is result told_so asked is result refl
+  item_stands number front served at happens up.Connect (item.Outcome asked result) frame_is item_is is = absurd (let none : ⊥ = cc in none)
+  item_stands number front served at happens (up.Begin settings) (item.Outcome asked result) frame_is item_is is = absurd (let none : ⊥ = cc in none)
+  item_stands number front served at happens (up.Call replay kept called) (item.Outcome asked result) frame_is item_is is = absurd (let none : ⊥ = cc in none)
+  item_stands number front served at happens up.End (item.Outcome asked result) frame_is item_is is = absurd (let none : ⊥ = cc in none)
+  item_stands number front served at happens up.Close (item.Outcome asked result) frame_is item_is is = absurd (let none : ⊥ = cc in none)
+  item_stands number front served at happens frame other frame_is item_is is = refl
+
+  abbrev all_stand : List Handled → Bool
+  all_stand list = list_all (λ h. stands new h.served.item) list
+
+  old_stand : (number : ℕ) (link : Link) → link_at links number ≡ Some link → all_stand link.served ≡ true
+  old_stand number link there =
+      weaker_all (λ (h : Handled). stands old h.served.item) (λ (h : Handled). stands new h.served.item) link.served (λ h is. stands_still old new one.more_entries one.more_blocked one.entries one.blocked h.served.item is)
+      (at_link (λ l. list_all (λ h. stands old h.served.item) l.served) links number link inv.number.answers there)
+
+  with_one : (number : ℕ) (link : Link) (this : Handled) → link_at links number ≡ Some link → stands new this.served.item ≡ true → all_stand (link.served ++ this ∷ []) ≡ true
+  with_one number link this there is = append_all (λ (h : Handled). stands new h.served.item) link.served (this ∷ []) (old_stand number link there) (one_all (λ (h : Handled). stands new h.served.item) this is)
+
+  turned : (number : ℕ) (link next : Link) → link_at links number ≡ Some link → Turns (at_event old.machine) items left (event_by granted before after old new event note items left one inv).kind number link next → all_stand next.served ≡ true
+  turned number link _ there (Stays _) = old_stand number link there
+  turned number link _ there (IsSaid frames _ idle) = sends_alike (λ l. all_stand l.served ≡ true) (old.machine.event + 1) frames link (old_stand number link there) (old_stand number link there)
+  turned number link _ there (IsTaken frames reply after_it _ out down) =
+      sends_alike (λ l. all_stand l.served ≡ true) (old.machine.event + 1) frames (takes (Took reply.frame link.is_open) reply after_it link) (old_stand number link there) (old_stand number link there)
+  turned number _ _ there (IsServed frame front served kind_is at ordinary same) =
+      let parts = and_parts (is_of_front (at_event old.machine) front served) (is_item_of front.first.frame served.item) ordinary in
+      let happens = happens_one granted before after old new event note items left one inv number front served at same (ap serves_at kind_is) in
+      let here : stands new served.item ≡ true = item_stands number front served at happens front.first.frame served.item refl refl parts.1 in
+      handled_alike (λ l. all_stand l.served ≡ true) (old.machine.event + 1) front served (λ reply. with_one number front.link _ there here) (λ reply. with_one number front.link _ there here)
+  turned number link _ there (IsCut ups downs _ opens) = cut_case (λ l. all_stand l.served ≡ true) (old.machine.event + 1) ups downs link opens (old_stand number link there)
+  turned number link _ there (IsReaped other reaped _ kind_is) = old_stand number link there
+  turned number link _ there (HasFallen other after_it failover down _ kind_is apart) = fallen_case (λ l. all_stand l.served ≡ true) (old.machine.event + 1) link (λ opens. old_stand number link there) (λ closed. old_stand number link there)
+  turned number _ _ there (WasStopped after_it failover down front served kind_is at stopped same) =
+      let parts = and_parts (is_of_front (at_event old.machine) front served) _ stopped in
+      let here : stands new served.item ≡ true = crashed_stands new front.first.frame served.item (and_parts (is_crashed_item front.first.frame served.item) _ parts.1).0 in
+      fallen_case (λ l. all_stand l.served ≡ true) (old.machine.event + 1) (after_front front served None) (λ opens. with_one number front.link _ there here) (λ closed. with_one number front.link _ there here)
+  turned number _ _ there (WasServed after_it failover down front served kind_is at over same) =
+      let parts = and_parts (is_of_front (at_event old.machine) front served) (is_item_of front.first.frame served.item) (and_parts (is_ordinary (at_event old.machine) front served) _ over).0 in
+      let happens = happens_one granted before after old new event note items left one inv number front served at same (ap serves_at kind_is) in
+      let here : stands new served.item ≡ true = item_stands number front served at happens front.first.frame served.item refl refl parts.1 in
+      let alike : all_stand (handled (old.machine.event + 1) front served).served ≡ true =
+      handled_alike (λ l. all_stand l.served ≡ true) (old.machine.event + 1) front served (λ reply. with_one number front.link _ there here) (λ reply. with_one number front.link _ there here) in
+      fallen_case (λ l. all_stand l.served ≡ true) (old.machine.event + 1) (handled (old.machine.event + 1) front served) (λ opens. alike) (λ closed. alike)
+
+  pub stand_now : (number : ℕ) (next : Link) → link_at new.machine.links number ≡ Some next → all_stand next.served ≡ true
+  stand_now number next here =
+      cases (all_turn old.setting (at_event old.machine) (held_now granted old inv) items left (event_by granted before after old new event note items left one inv).kind new.machine (event_by granted before after old new event note items left one inv).happens number next here)
+    where
+      cases : ComesFrom (at_event old.machine) items left (event_by granted before after old new event note items left one inv).kind number next → all_stand next.served ≡ true
+      cases (IsNew owner same) = ap (λ (l : Link). all_stand l.served) same
+      cases (IsOld link there turn) = turned number link next there turn
+
+pub answers_law : RunsKeepBase → IsKept answers_stand
+answers_law keeps = record {
+  at_start = λ document. refl;
+  at_event = λ granted before after old new event note items left one inv.
+      by_number (λ link. list_all (λ h. stands new h.served.item) link.served) new.machine.links (λ number link here. stand_now granted before after old new event note items left one inv keeps number link here);
+}
