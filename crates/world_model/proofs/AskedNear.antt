@@ -4,7 +4,6 @@ use Rattle.std.specs.Prelude.{◌==◌, not, nat_le, slice_get, is_some}
 use Rattle.std.specs.List.{list_all, list_any}
 use Rattle.std.specs.Option.{option_map_or}
 use Rattle.std.proofs.lemmas.Bool.{and_parts, and_from, or_cases}
-use Rattle.std.proofs.lemmas.Bool.Decides.{nat_tests}
 use Rattle.std.proofs.lemmas.List.Folds.{list_all-append}
 use Rattle.svc_values.specs.declared.draw.Draw.{Draw}
 use Rattle.svc_values.specs.declared.entry.Ltxid.{Ltxid}
@@ -31,7 +30,7 @@ use Rattle.world_model.proofs.GainedQuiet.{number_named}
 use Rattle.world_model.proofs.LinkCounts.{extra_few}
 use Rattle.world_model.proofs.LinkNamed.{is_of_one, held_of, named_held}
 use Rattle.world_model.proofs.Strangers.{same_owner_is}
-use Rattle.world_model.proofs.Tests.{eq_from, le_from, same_session_is}
+use Rattle.world_model.proofs.Tests.{le_from, same_session_is}
 
 -- FRONTS ------------------------------------------------------------------------------------------
 

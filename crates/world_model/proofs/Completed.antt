@@ -1,27 +1,22 @@
 -- What the table says of an identifier: committed, its entry is there and is its session's last; and where it says ahead, its session is not near it.
-use Rattle.std.proofs.Common.{◌≡◌, refl, sym, ap, subst, ◌∙◌, Bool, true, false, ℕ, zero, suc, ◌+◌, ◌<◌, ◌≤◌, ◌&&◌, cond, length, List, [], ◌∷◌, map, filter, Option, Some, None, arith, if◌then◌else◌}
+use Rattle.std.proofs.Common.{◌≡◌, refl, sym, ap, ◌∙◌, Bool, true, false, ℕ, zero, suc, ◌+◌, ◌<◌, ◌≤◌, ◌&&◌, cond, length, List, [], ◌∷◌, map, Option, Some, arith, if◌then◌else◌}
 use Rattle.std.specs.Prelude.{◌==◌, not, nat_lt, find, option_map}
 use Rattle.std.proofs.lemmas.Bool.Decides.{nat_tests}
 use Rattle.svc_values.specs.declared.entry.Entry.{Entry}
 use Rattle.svc_values.specs.declared.entry.Ltxid.{Ltxid}
-use Rattle.svc_values.specs.declared.entry.SessionId.{SessionId}
-use Rattle.svc_values.specs.declared.frame.Down.{Down}
 use Rattle.svc_values.specs.declared.frame.Down.TheVariants as down
 use Rattle.svc_values.specs.declared.frame.Ahead.TheVariants as ahead
-use Rattle.svc_values.specs.Identifiers.{is_of, is_of_session, same_ltxid, session_of}
+use Rattle.svc_values.specs.Identifiers.{is_of_session, same_ltxid, session_of}
 use Rattle.ltxid_book.specs.declared.State.{State}
 use Rattle.ltxid_book.specs.declared.verdict.Verdict.{Verdict}
 use Rattle.ltxid_book.specs.declared.verdict.Verdict.TheVariants as verdict
 use Rattle.ltxid_book.specs.Journal.{Committed, committed_of, commits_of, last_completed, state_of, book_of}
 use Rattle.ltxid_book.specs.Outcomes.{outcome_in, verdict_of}
 use Rattle.ltxid_book.specs.Sessions.{untouched}
-use Rattle.outage_schedule.specs.declared.note.AskResult.{AskResult}
-use Rattle.outage_schedule.specs.declared.note.AskResult.TheVariants as told
 use Rattle.run_clauses.specs.EntryEvents.{entries_of}
 use Rattle.run_clauses.specs.Outcomes.{completed_of}
 use Rattle.server_model.specs.Outcomes.{down_of}
 use Rattle.world_model.specs.Number.{numbered_after}
-use Rattle.world_model.specs.Serving.{outcome_frame}
 use Rattle.world_model.proofs.Blocks.{commits_count}
 use Rattle.world_model.proofs.Numbered.{entries_cons, numbered_parts}
 use Rattle.world_model.proofs.Tests.{eq_from, eq_to, ne_to, same_session_is}

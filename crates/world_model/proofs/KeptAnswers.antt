@@ -1,9 +1,9 @@
 -- Of Number: what was answered of an identifier stands, at the start and behind each event.
-use Rattle.std.proofs.Common.{◌≡◌, refl, sym, ap, subst, ◌∙◌, Bool, true, false, ℕ, ◌+◌, ◌≤◌, ◌&&◌, List, [], ◌∷◌, ◌++◌, map, Option, Some, None, ◌⊎◌, inl, inr, arith}
+use Rattle.std.proofs.Common.{◌≡◌, refl, sym, ap, subst, ◌∙◌, Bool, true, false, ℕ, ◌+◌, ◌≤◌, List, [], ◌∷◌, ◌++◌, Option, Some, None, inl, inr, arith}
 use Rattle.std.specs.Prelude.{Contains}
 use Rattle.std.specs.List.{list_all}
 use Rattle.std.specs.Option.{option_map_or}
-use Rattle.std.proofs.lemmas.Bool.{and_parts, and_from}
+use Rattle.std.proofs.lemmas.Bool.{and_parts}
 use Rattle.std.proofs.lemmas.List.Elements.{Contains-push}
 use Rattle.svc_values.specs.declared.draw.Draw.{Draw}
 use Rattle.svc_values.specs.declared.entry.Entry.{Entry}
@@ -14,8 +14,7 @@ use Rattle.svc_values.specs.declared.frame.Down.{Down}
 use Rattle.svc_values.specs.Identifiers.{same_ltxid, session_of}
 use Rattle.svc_values.specs.Same.{same_bool}
 use Rattle.svc_values.specs.SameLaws.{same_ltxid_decides, same_bool_decides}
-use Rattle.ltxid_book.specs.Journal.{is_blocked, committed_of, book_of}
-use Rattle.ltxid_book.specs.Outcomes.{verdict_of}
+use Rattle.ltxid_book.specs.Journal.{is_blocked}
 use Rattle.outage_schedule.specs.declared.event.Event.{Event}
 use Rattle.outage_schedule.specs.declared.item.Item.{Item}
 use Rattle.outage_schedule.specs.declared.item.Item.TheVariants as item
@@ -29,20 +28,19 @@ use Rattle.run_clauses.specs.Tried.{holds}
 use Rattle.server_model.specs.Base as base
 use Rattle.server_model.specs.Core.{all_entries, all_blocked}
 use Rattle.server_model.specs.Laws.{CommitsAs, LastOf}
-use Rattle.server_model.specs.Outcomes.{Telling, Says, down_of, verdict_on}
+use Rattle.server_model.specs.Outcomes.{Says, down_of, verdict_on}
 use Rattle.server_model.specs.Runs.{Happened, Served as ServedFrame, Server, Runs}
 use Rattle.server_model.specs.Seen.{Seen}
 use Rattle.server_model.proofs.Offered.{runs_last, blocks_are_stored}
 use Rattle.world_model.specs.Frames.{Handled}
 use Rattle.world_model.specs.Invariant.{Invariant}
 use Rattle.world_model.specs.KeptLaws.{IsKept, RunsKeepBase}
-use Rattle.world_model.specs.Links.{Link, link_at, sends, takes}
+use Rattle.world_model.specs.Links.{Link, link_at, takes}
 use Rattle.world_model.specs.Number.{numbered_after, stands, answers_stand}
 use Rattle.world_model.specs.OneEvent.{OneEvent}
 use Rattle.world_model.specs.ServiceDid.{item_telling, front_telling}
 use Rattle.world_model.specs.Serving.{Front, front_at, is_of_front, is_ordinary, is_item_of, commits_after, outcome_frame, after_front, handled}
-use Rattle.world_model.specs.Crashing.{is_stopped, is_crashed_item, is_over, fallen_link}
-use Rattle.world_model.specs.Cutting.{cut_link, reaped_link}
+use Rattle.world_model.specs.Crashing.{is_crashed_item}
 use Rattle.world_model.specs.Traced.{Traced}
 use Rattle.client_model.specs.declared.input.Input.TheVariants.{Took}
 use Rattle.world_model.proofs.AllLinks.{front_is, at_link}
@@ -53,7 +51,7 @@ use Rattle.world_model.proofs.Completed.{verdict_committed, verdict_near, told_c
 use Rattle.world_model.proofs.Ends.{sends_alike, handled_alike, cut_case, fallen_case}
 use Rattle.world_model.proofs.Gaining.{commits_unmarked, one_of, gains_none}
 use Rattle.world_model.proofs.GainedQuiet.{entries_more}
-use Rattle.world_model.proofs.Happened.{Followed, follow_happens, at_event}
+use Rattle.world_model.proofs.Happened.{at_event}
 use Rattle.world_model.proofs.Held.{held_now}
 use Rattle.world_model.proofs.KeptEntries.{numbered_now}
 use Rattle.world_model.proofs.NumbersEvent.{happens_one, by as event_by}
