@@ -16,7 +16,7 @@ use Rattle.server_model.specs.ServiceCalls.{AddsBlock}
 use Rattle.server_session.specs.Plain.{IsStored}
 use Rattle.service_core.specs.Seeing.{store_in, store_of}
 use Rattle.service_core.proofs.Gained.{Stays, records_more}
-use Rattle.service_core.proofs.Opened.{store_is}
+use Rattle.service_core.specs.InnerHonest.{store_is}
 
 -- the core is the same, or has the block
 abbrev pub MayBlock : Ltxid → Plain → Plain → Type 0

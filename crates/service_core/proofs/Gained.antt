@@ -24,7 +24,7 @@ use Rattle.server_model.proofs.Offered.{AddsBy}
 use Rattle.server_session.specs.Plain.{IsStored}
 use Rattle.service_calls.specs.Kept.{HaveOneBase}
 use Rattle.service_core.specs.Seeing.{store_in, store_of}
-use Rattle.service_core.proofs.Opened.{store_is}
+use Rattle.service_core.specs.InnerHonest.{store_is}
 
 -- ---- the base
 

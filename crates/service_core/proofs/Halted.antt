@@ -20,12 +20,13 @@ use Rattle.server_session.specs.Plain.{IsStored}
 use Rattle.service_calls.specs.Kept.{Goes, HaveOneBase}
 use Rattle.service_core.specs.declared.notes.Notes.{Notes}
 use Rattle.service_core.specs.Held.{Held}
+use Rattle.service_core.specs.InnerHonest.{store_is}
 use Rattle.service_core.specs.Within.{Within}
 use Rattle.service_core.specs.Seeing.{store_in, store_of, state_in, Stands, StandsIn, SeesIn, LeavesIn}
 use Rattle.service_core.specs.Sound.{IsDown, IsSound, IsSoundWithin, Reads}
 use Rattle.service_core.proofs.Falling.{one_base}
 use Rattle.service_core.proofs.Faulty.{rises, never_falls, still_counted, still_none_by_less, none_before}
-use Rattle.service_core.proofs.Opened.{down_of, stands_down, store_is, may_forget}
+use Rattle.service_core.proofs.Opened.{down_of, stands_down, may_forget}
 use Rattle.service_core.proofs.Reaching.{Reaches, IsPartOf, reaches, grows_now}
 use Rattle.service_core.proofs.Reopening.{follows}
 use Rattle.service_core.proofs.Standing.{goes_from}

@@ -15,7 +15,7 @@ use Rattle.server_session.specs.Plain.{IsStored}
 use Rattle.service_core.specs.Seeing.{SeesIn}
 use Rattle.service_core.specs.Sound.{IsSoundWithin, Reads}
 use Rattle.service_core.specs.Starting.{CanBegin, first_notes, made_on, base_of, seen_new}
-use Rattle.service_core.proofs.Opened.{store_is}
+use Rattle.service_core.specs.InnerHonest.{store_is}
 
 pub made_soundly : (disk : DiskState) (grants : Grants) → CanBegin disk → MayLeave disk.now disk.now.seen → IsSoundWithin (made_on disk grants)
 made_soundly disk grants can reads_now = record {

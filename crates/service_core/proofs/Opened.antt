@@ -26,6 +26,7 @@ use Rattle.server_session.specs.SeenSession.{SeenSession as Session}
 use Rattle.service_calls.specs.Kept.{Goes}
 use Rattle.service_core.specs.declared.notes.Notes.{Notes}
 use Rattle.service_core.specs.Held.{Held, held_at}
+use Rattle.service_core.specs.InnerHonest.{store_is}
 use Rattle.service_core.specs.Opening.{HasOpened}
 use Rattle.service_core.specs.Within.{Within}
 use Rattle.service_core.specs.Seeing.{store_in, store_of, state_in, Stands, StandsIn, SeesIn}
@@ -54,10 +55,6 @@ stands_down old start history down stands = by old.core down stands
 -- no connection lives where none is held
 none_at : {A : Type 0} (held : Held) (connection : ℕ) (session : Session) → held ≡ [] → held_at held connection ≡ Some (Some session) → A
 none_at held connection session none is = absurd (let e : ◌≡◌ {A = Option (Option Session)} None (Some (Some session)) = ap (λ (h : Held). held_at h connection) (sym none) ∙ is in cc)
-
--- what bytes hold that are those of a journal
-pub store_is : (bytes : List ℕ) (journal : Journal) → journal_of bytes ≡ Ok journal → store_of bytes ≡ store_in (Ok journal) (record_count (records_of bytes))
-store_is bytes journal reads = ap (λ (r : Result Journal ℕ). store_in r (record_count (records_of bytes))) reads
 
 -- what may be forgotten by the state may be by the journal
 pub may_forget : (old : Within) (journal : Journal) (below : ℕ) → journal_of old.disk.now.seen ≡ Ok journal → MayForgetAt (state_in old) below → below ≤ journal.incarnation + 1

@@ -32,7 +32,7 @@ use Rattle.service_core.specs.Sound.{IsHeld, IsUp, unmade}
 use Rattle.service_core.specs.Taking.{IsSessionOf}
 use Rattle.service_core.proofs.Splits.{Between, more_between}
 use Rattle.service_core.proofs.Standing.{one_less, seen_with}
-use Rattle.service_core.proofs.Opened.{store_is}
+use Rattle.service_core.specs.InnerHonest.{store_is}
 
 -- ---- a plain server's core
 

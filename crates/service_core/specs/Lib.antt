@@ -1,4 +1,5 @@
 pub mod Held
+pub mod InnerHonest
 pub mod InnerOpening
 pub mod Opening
 pub mod Seeing

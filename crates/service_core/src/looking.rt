@@ -31,6 +31,7 @@ impl<D: StopDisk> OneService<D> {
                 Err(ServeFault::Stopped)
             }
             Err(LogFault::NoMemory) => {
+                self.core = None;
                 self.notes.is_spent = true;
                 Err(ServeFault::NoMemory)
             }
@@ -55,6 +56,7 @@ impl<D: StopDisk> OneService<D> {
                 Err(ServeFault::Stopped)
             }
             Err(ServeFault::NoMemory) => {
+                self.core = None;
                 self.notes.is_spent = true;
                 Err(ServeFault::NoMemory)
             }

@@ -1,5 +1,5 @@
 //! One service on one store.
-ghost use Rattle.std.specs.Prelude.{◌≡◌, ◌<◌, ◌^◌, None, IfOk, is_some, false};
+ghost use Rattle.std.specs.Prelude.{◌≡◌, ◌<◌, ◌^◌, None, IfOk, is_some, false, true};
 ghost use Rattle.server_model.specs.Seen.{Seen};
 ghost use Rattle.server_model.specs.ServiceCalls.{Connected, Reaped, with_stop};
 ghost use Rattle.service_calls.specs.Kept.{Goes, HaveOneBase};
@@ -22,6 +22,8 @@ pub struct OneService<D: StopDisk> {
     pub(crate) core: Option<Core>,
     pub(crate) held: Connections,
     pub(crate) notes: Notes,
+    // One that found no memory serves no more.
+    ghost spent: { notes.is_spent ≡ true → is_some core ≡ false },
 }
 
 impl<D: StopDisk> Model for OneService<D> {
@@ -43,6 +45,16 @@ impl<D: StopDisk> OneService<D> {
         self.core.is_some()
     }
 
+    /// The incarnation of this opening. Of a service that is down it says nothing.
+    pub(crate) fn opening(&self) -> u64
+        ensures { (state_in self.now).is_up ≡ true → result ≡ (state_in self.now).store.incarnation }
+    {
+        match &self.core {
+            Some(core) => core.source.incarnation(),
+            None => 0,
+        }
+    }
+
     /// Makes a connection, where the service is up.
     pub(crate) fn add(&mut self, connection: u64) -> Result<bool, NoMemory>
         requires live { self.old.notes.is_spent ≡ false }
@@ -58,6 +70,7 @@ impl<D: StopDisk> OneService<D> {
         match self.held.put(connection, None) {
             Ok(()) => Ok(true),
             Err(NoMemory) => {
+                self.core = None;
                 self.notes.is_spent = true;
                 Err(NoMemory)
             }

@@ -85,16 +85,16 @@ impl<D: StopDisk> OneService<D> {
             connection,
         );
         match session.serve(&mut core, &mut self.disk, frame, now) {
-            Ok(told) => {
-                self.core = Some(core);
-                match put_back(&mut self.held, connection, session) {
-                    Ok(()) => Ok(told),
-                    Err(NoMemory) => {
-                        self.notes.is_spent = true;
-                        Err(ServeFault::NoMemory)
-                    }
+            Ok(told) => match put_back(&mut self.held, connection, session) {
+                Ok(()) => {
+                    self.core = Some(core);
+                    Ok(told)
                 }
-            }
+                Err(NoMemory) => {
+                    self.notes.is_spent = true;
+                    Err(ServeFault::NoMemory)
+                }
+            },
             Err(ServeFault::Stopped) => {
                 self.held.clear();
                 self.notes.is_settled = false;

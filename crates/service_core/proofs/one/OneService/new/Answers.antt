@@ -9,8 +9,8 @@ use Rattle.service_core.proofs.Beginning.{base_sound}
 use Rattle.service_core.proofs.Made.{made_soundly, made_seen, made_new}
 use Rattle.service_core.proofs.one.OneService.new.Goals as goal
 
-pub invariant_of-result : goal.invariant_of-result
-invariant_of-result g c live =
+pub invariant_of-result-2 : goal.invariant_of-result-2
+invariant_of-result-2 g c live =
     let disk = g.D.Disk.state c.args.disk in
     subst (λ (h : Held). IsDown disk h first_notes) (sym c.new.ensures) (made_soundly disk c.args.grants c.requires (g.met.D.Disk.reads_now c.args.disk))
 
