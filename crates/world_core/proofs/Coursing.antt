@@ -17,7 +17,7 @@ use Rattle.transcript_core.specs.Following.{IsNext}
 use Rattle.world_model.specs.Clients.{Doing, Step, Past, Client, reports_of, resting, past_of, script_at, step_at, heard, after_hold}
 use Rattle.world_model.specs.Reports.{report_of}
 use Rattle.world_model.specs.Settings.{Setting}
-use Rattle.world_core.specs.Coursing.{Held, done_of, IsNow, IsCourse, IsBeside, IsClient, IsSettled, Closes, Hears}
+use Rattle.world_core.specs.Coursing.{Held, terms_in, done_of, IsNow, IsCourse, IsBeside, IsClient, IsSettled, Closes, Hears}
 use Rattle.world_core.specs.declared.client.Course.{Course}
 use Rattle.world_core.proofs.Resting.{is_kept, step_rests, over_not_gone}
 
@@ -99,15 +99,12 @@ course_heard terms event tick doing input draft connection same is = record {
 -- THE STEP AS A WHOLE -----------------------------------------------------------------------------
 
 module _ (R : Type 0) (rules : R → Rules) where
-  abbrev terms_in : Held R → Terms
-  terms_in held = terms_of (rules held.driver.rule) held.driver.limits held.driver.recorded
-
   abbrev driven_by : Held R → Input → ℕ → Hold → Held R
-  driven_by before input tick hold = record before { driver = record before.driver { talk = (talk_step (terms_in before) before.driver.talk input tick).0; gone_next = is_gone_next input hold } }
+  driven_by before input tick hold = record before { driver = record before.driver { talk = (talk_step (terms_in R rules before) before.driver.talk input tick).0; gone_next = is_gone_next input hold } }
 
   -- the calls in turn: the driver's step, the course taken out, the step noted, and what follows
   pub record Turns (setting : Setting) (number event tick : ℕ) (before between after : Held R) (client : Client) (doing : Doing) (input : Input) (act : Act) (course : Course) (draft : Draft) : Type 0 where
-    pub acts : act ≡ (talk_step (terms_in before) before.driver.talk input tick).1
+    pub acts : act ≡ (talk_step (terms_in R rules before) before.driver.talk input tick).1
     pub drives : between ≡ driven_by before input tick act.hold
     pub ticks : ArePast between.driver.talk tick
     pub there : between.course ≡ Some course
@@ -119,7 +116,7 @@ module _ (R : Type 0) (rules : R → Rules) where
     is_course : IsCourse setting.terms before.driver.talk course doing
     is_course = course_of setting.terms before.driver.talk before.course course client.now doing (sym (ap (λ (h : Held R). h.course) turns.drives) ∙ turns.there) now is.now
 
-    same_step : talk_step (terms_in before) before.driver.talk input tick ≡ talk_step setting.terms doing.talk input tick
+    same_step : talk_step (terms_in R rules before) before.driver.talk input tick ≡ talk_step setting.terms doing.talk input tick
     same_step = ap₂ (λ (terms : Terms) (talk : Talk). talk_step terms talk input tick) is.beside.terms is_course.talk
 
     same_act : act ≡ (step_at setting.terms event tick doing input).done.act
@@ -134,12 +131,12 @@ module _ (R : Type 0) (rules : R → Rules) where
     is_settled : IsSettled between.driver.talk (is_gone_next input act.hold) act.hold
     is_settled =
         subst (λ (t : Talk). IsSettled t (is_gone_next input act.hold) act.hold) (sym (ap (λ (h : Held R). h.driver.talk) turns.drives))
-        (settled_so (terms_in before) before.driver.talk input tick act.hold (ap (λ (a : Act). a.hold) turns.acts))
+        (settled_so (terms_in R rules before) before.driver.talk input tick act.hold (ap (λ (a : Act). a.hold) turns.acts))
 
     is_beside : IsBeside R rules setting number tick (is_gone_next input act.hold) (record between { course = None }) client
     is_beside =
         subst (λ (h : Held R). IsBeside R rules setting number tick (is_gone_next input act.hold) (record h { course = None }) client) (sym turns.drives)
-        (driven R rules setting number tick before is_lost (is_gone_next input act.hold) client (talk_step (terms_in before) before.driver.talk input tick).0 (subst (λ (h : Held R). ArePast h.driver.talk tick) turns.drives turns.ticks) is.beside)
+        (driven R rules setting number tick before is_lost (is_gone_next input act.hold) client (talk_step (terms_in R rules before) before.driver.talk input tick).0 (subst (λ (h : Held R). ArePast h.driver.talk tick) turns.drives turns.ticks) is.beside)
 
     pub turns_so : Hears R rules setting number event tick client doing input act.send act.hold after
     turns_so = record {

@@ -1,3 +1,4 @@
+mod Stepped
 mod Resting
 mod Coursing
 mod Beginning

@@ -10,6 +10,7 @@ use Rattle.client_model.specs.declared.act.Hold.{Hold}
 use Rattle.client_model.specs.declared.act.Hold.TheVariants.{Keep}
 use Rattle.client_model.specs.declared.input.Input.{Input}
 use Rattle.client_model.specs.Conversation.{Done, is_gone_next}
+use Rattle.client_model.specs.Talk.{Step, talk_step}
 use Rattle.client_model.specs.Terms.{Terms, Talk, Idle}
 use Rattle.driver_core.specs.Driving.{Driving, terms_of, ArePast}
 use Rattle.run_clauses.specs.Copies.{next_of}
@@ -26,6 +27,14 @@ pub record Held (R : Type 0) : Type 0 where
   pub next : NextRequest
   pub course : Option Course
   pub past : List RequestReport
+
+-- what its driver goes by
+abbrev pub terms_in : (R : Type 0) → (R → Rules) → Held R → Terms
+terms_in R rules held = terms_of (rules held.driver.rule) held.driver.limits held.driver.recorded
+
+-- the step that its driver takes at an input
+abbrev pub step_of : (R : Type 0) → (R → Rules) → Held R → Input → ℕ → Step
+step_of R rules held input tick = talk_step (terms_in R rules held) held.driver.talk input tick
 
 -- a request has 1 to 1,024 calls, each of which can be sent
 pub record IsFit (request : Request) : Type 0 where
@@ -51,7 +60,7 @@ IsNow _ _ _ _ = ⊥
 -- beside the request in course: the driver goes by the terms of the run, the reports are those of the past requests, and the next
 -- request follows them; `is_lost` where the loss of its connection is the next thing that is heard
 pub record IsBeside (R : Type 0) (rules : R → Rules) (setting : Setting) (number tick : ℕ) (is_lost : Bool) (held : Held R) (client : Client) : Type 0 where
-  pub terms : terms_of (rules held.driver.rule) held.driver.limits held.driver.recorded ≡ setting.terms
+  pub terms : terms_in R rules held ≡ setting.terms
   pub past : held.past ≡ reports_of client.past
   pub following : IsNext (script_at setting number) (reports_of client.past) held.next
   pub next : client.next ≡ next_of (script_at setting number) (reports_of client.past)

@@ -1,3 +1,4 @@
+pub mod Stepping
 pub mod Coursing
 pub mod Carrying
 pub mod Linked

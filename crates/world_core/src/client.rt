@@ -9,7 +9,8 @@ ghost use Rattle.driver_core.specs.Driving.{terms_of, ArePast, HasLtxids};
 ghost use Rattle.transcript_core.specs.Drafts.{IsDraft};
 ghost use Rattle.world_model.specs.Clients.{Doing, Client as Standing, doing_of, resting, past_of, script_at, after_hold};
 ghost use Rattle.world_model.specs.Settings.{Setting};
-ghost use Rattle.world_core.specs.Coursing.{IsFit, done_of, Begins, IsCourse, IsBeside, IsClient, IsSettled, Closes, Hears};
+ghost use Rattle.world_core.specs.Stepping.{connection_in};
+ghost use Rattle.world_core.specs.Coursing.{terms_in, step_of, IsFit, done_of, Begins, IsCourse, IsBeside, IsClient, IsSettled, Closes, Hears};
 
 use client_model::{Act, Hold, Input};
 use driver_core::Driver;
@@ -102,6 +103,16 @@ impl<R: BoundRule + Copy> Client<R> {
         }
     }
 
+    /// The connection of the request in course, and 0 where it has none.
+    pub(crate) fn connection(&self) -> u64
+        ensures { result ≡ connection_in self.now.course }
+    {
+        match &self.course {
+            Some(course) => course.connection.unwrap_or(0),
+            None => 0,
+        }
+    }
+
     /// The request in course, put back.
     fn keep(&mut self, course: Course)
         ensures { self.new ≡ record self.old { course = Some course } }
@@ -111,11 +122,11 @@ impl<R: BoundRule + Copy> Client<R> {
 
     /// One step of the driver.
     fn drive(&mut self, input: &Input, tick: u64) -> Result<Act, NoMemory>
-        requires wanted { IsTrue (may_come self.old.driver.gone_next (wants_of (terms_of (R.rules self.old.driver.rule) self.old.driver.limits self.old.driver.recorded) self.old.driver.talk tick) input.now) }
+        requires wanted { IsTrue (may_come self.old.driver.gone_next (wants_of (terms_in R (λ rule. R.rules rule) self.old) self.old.driver.talk tick) input.now) }
         requires past { ArePast self.old.driver.talk tick }
         requires ltxids { HasLtxids input.now }
-        ensures act { IfOk result (λ act. act ≡ (talk_step (terms_of (R.rules self.old.driver.rule) self.old.driver.limits self.old.driver.recorded) self.old.driver.talk input.now tick).1) }
-        ensures after { IfOk result (λ act. self.new ≡ record self.old { driver = record self.old.driver { talk = (talk_step (terms_of (R.rules self.old.driver.rule) self.old.driver.limits self.old.driver.recorded) self.old.driver.talk input.now tick).0; gone_next = is_gone_next input.now act.hold } }) }
+        ensures act { IfOk result (λ act. act ≡ (talk_step (terms_in R (λ rule. R.rules rule) self.old) self.old.driver.talk input.now tick).1) }
+        ensures after { IfOk result (λ act. self.new ≡ record self.old { driver = record self.old.driver { talk = (talk_step (terms_in R (λ rule. R.rules rule) self.old) self.old.driver.talk input.now tick).0; gone_next = is_gone_next input.now act.hold } }) }
         ensures past { OnOk result (ArePast self.new.driver.talk tick) }
         ensures made { IfOk result (λ act. AllByRecursion IsMadeUp act.send) }
     {
@@ -134,10 +145,11 @@ impl<R: BoundRule + Copy> Client<R> {
     /// the connection. After want of memory the client may only be dropped. Linear in what goes out
     /// and comes in.
     pub fn hear(&mut self, script: &[Request], input: &Input, tick: u64) -> Result<Said, NoMemory>
-        requires wanted { IsTrue (may_come self.old.driver.gone_next (wants_of (terms_of (R.rules self.old.driver.rule) self.old.driver.limits self.old.driver.recorded) self.old.driver.talk tick) input.now) }
+        requires wanted { IsTrue (may_come self.old.driver.gone_next (wants_of (terms_in R (λ rule. R.rules rule) self.old) self.old.driver.talk tick) input.now) }
         requires past { ArePast self.old.driver.talk tick }
         requires ltxids { HasLtxids input.now }
         ensures made { IfOk result (λ said. AllByRecursion IsMadeUp said.send.items) }
+        ensures said { IfOk result (λ said. (said.send.items ≡ (step_of R (λ rule. R.rules rule) self.old input.now tick).1.send) × (said.hold ≡ (step_of R (λ rule. R.rules rule) self.old input.now tick).1.hold)) }
         ensures heard { IfOk result (λ said. (setting : Setting) (number event : ℕ) (is_lost : Bool) (client : Standing) (doing : Doing) → script.now ≡ script_at setting number → client.now ≡ Some doing → IsClient R (λ rule. R.rules rule) setting number tick is_lost self.old client → Hears R (λ rule. R.rules rule) setting number event tick client doing input.now said.send.items said.hold self.new) }
     {
         let Act {

@@ -7,6 +7,7 @@ mod client;
 mod connection;
 mod connections;
 mod crashing;
+mod going;
 mod ground;
 mod outside;
 mod stopped_opening;
