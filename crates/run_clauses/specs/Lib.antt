@@ -11,6 +11,7 @@ pub mod Moments
 pub mod NoClash
 pub mod Once
 pub mod Outcomes
+pub mod Reports
 pub mod Same
 pub mod Serial
 pub mod ServiceBase

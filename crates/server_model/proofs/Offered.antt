@@ -8,7 +8,9 @@ pub use Rattle.server_model.proofs.Services.{service_stores, service_stands}
 pub use Rattle.server_model.proofs.Growth.{serve_grows}
 pub use Rattle.server_model.proofs.Stays.{serve_stays}
 pub use Rattle.server_model.proofs.FromItems.{entry_from_item}
-pub use Rattle.server_model.proofs.Answered.{answers_stand}
+pub use Rattle.server_model.proofs.Answered.{answers_stand, Stored, IfCommitted, serve_stored}
+-- a call without a commit stores no entry, and a run keeps its base
+pub use Rattle.server_model.proofs.StoringCalls.{stores_by_commit, runs_keep_base}
 pub use Rattle.server_model.proofs.ToldBlocked.{blocks_are_stored}
 -- what is told at the moment at which it is told
 pub use Rattle.server_model.proofs.Tells.{tells_next, tells_outcomes, tells_asks, runs_last}

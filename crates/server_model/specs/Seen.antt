@@ -113,9 +113,9 @@ with_connection connection session living other = if other == connection then So
 
 -- ---- what calls keep
 
--- the count of faults has risen, or stands at the end of its type
+-- a fault was counted
 abbrev pub Rose : Seen → Seen → Type 0
-Rose old new = (old.state.faults < new.state.faults) ⊎ (new.state.faults ≡ 2 ^ 64 - 1)
+Rose old new = old.state.faults < new.state.faults
 
 -- what no call but `crash` and `up` changes
 pub record Keeps (old new : Seen) : Type 0 where

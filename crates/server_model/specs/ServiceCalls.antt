@@ -93,10 +93,11 @@ pub record Gains (happened : List Happened) (old new : Store) : Type 0 where
 abbrev pub GrowsBy : ℕ → Store → Store → Type 0
 GrowsBy most old new = (old.records ≤ new.records) × (new.records ≤ old.records + most)
 
--- at most one of them, by at most so many records
+-- at most one of them, which is a record of its own, by at most so many records
 pub record Adds (happened : List Happened) (most : ℕ) (old new : Store) : Type 0 where
   pub gains : Gains happened old new
   pub few : length gains.more_entries + length gains.more_blocked + length gains.more_alerts ≤ 1
+  pub stored : old.records + length gains.more_entries + length gains.more_blocked + length gains.more_alerts ≤ new.records
   pub records : GrowsBy most old new
 
 -- the block of this identifier at most

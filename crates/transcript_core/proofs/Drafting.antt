@@ -24,7 +24,7 @@ use Rattle.client_model.specs.Account as telling
 use Rattle.client_model.specs.Conversation.{Done}
 use Rattle.client_model.specs.Terms.{Terms}
 use Rattle.client_model.specs.Tried.{Trying, trying_of, tries_on, sent_under}
-use Rattle.world_model.specs.Reports.{shown_call, told_outcome, reached, report_of, failure_of}
+use Rattle.run_clauses.specs.Reports.{shown_call, told_outcome, reached, report_of, failure_of}
 use Rattle.transcript_core.specs.Attempts as attempts
 use Rattle.transcript_core.specs.Attempts.{AreAttempts}
 use Rattle.transcript_core.specs.Drafts.{Draft, one_more, told_of, hears, shows, asked_in, sends, notes, drafted, IsOf, IsDraft}

@@ -19,7 +19,7 @@ use Rattle.client_model.specs.Account.{Account, account_of}
 use Rattle.client_model.specs.Conversation.{Done}
 use Rattle.client_model.specs.Terms.{Terms}
 use Rattle.client_model.specs.Tried.{trying_of}
-use Rattle.world_model.specs.Reports.{failure_of, failed_in, shown_call, told_outcome, reached}
+use Rattle.run_clauses.specs.Reports.{failure_of, failed_in, shown_call, told_outcome, reached}
 use Rattle.transcript_core.specs.Attempts.{Attempts, AreAttempts, none_yet, settled, lists_of}
 use Rattle.transcript_core.specs.Attempts as attempts
 

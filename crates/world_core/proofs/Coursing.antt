@@ -15,7 +15,7 @@ use Rattle.driver_core.specs.Driving.{Driving, terms_of, ArePast}
 use Rattle.transcript_core.specs.Drafts.{Draft, IsDraft, done_so}
 use Rattle.transcript_core.specs.Following.{IsNext}
 use Rattle.world_model.specs.Clients.{Doing, Step, Past, Client, reports_of, resting, past_of, script_at, step_at, heard, after_hold}
-use Rattle.world_model.specs.Reports.{report_of}
+use Rattle.run_clauses.specs.Reports.{report_of}
 use Rattle.world_model.specs.Settings.{Setting}
 use Rattle.world_core.specs.Coursing.{Held, terms_in, done_of, IsNow, IsCourse, IsBeside, IsClient, IsSettled, Closes, Hears}
 use Rattle.world_core.specs.declared.client.Course.{Course}

@@ -29,7 +29,7 @@ use Rattle.server_model.specs.Sessions.{Sess}
 use Rattle.server_model.specs.Outcomes.{Telling, Says, Stopped, Outcomes, IsTold, BlockStops, down_of, verdict_on, if_blocks}
 use Rattle.server_model.specs.Serve.{Serve, Connects, Begins, Ends, Closes, Asks, Runs as Serves, Refuses}
 use Rattle.server_model.specs.Runs.{Happened, Served, Asked, Server, Moves, Makes, Answers, Halts, Loses, AnswersAsk, HaltsInAsk, Reaps, Falls, Opens, StopsOpening}
-use Rattle.world_model.specs.Number.{stands}
+use Rattle.world_model.specs.Shown.{stands}
 use Rattle.world_model.specs.Serving.{outcome_frame}
 use Rattle.world_model.specs.Traced.{Traced}
 use Rattle.world_model.proofs.GainedOne.{first_frame}

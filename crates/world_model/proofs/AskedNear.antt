@@ -250,15 +250,15 @@ pub asked_near : (granted : Draw → Bool) (t : Traced) → Invariant granted t 
 asked_near granted t inv number link first later x there ups frame = by first.owner refl (subst (λ (f : Up). asked_owned first.owner f ≡ true) frame owned)
   where
     sent : is_sent_front link ≡ true
-    sent = at_link is_sent_front t.machine.links number link inv.wire.sent there
+    sent = at_link is_sent_front t.machine.links number link inv.orderly.wire.sent there
 
     owned : has_owner first ≡ true
-    owned = first_all has_owner alike_asked link first later ups sent (all_owned New link.sent refl (at_link (λ l. is_right (stage_of l)) t.machine.links number link inv.wire.grammar there))
+    owned = first_all has_owner alike_asked link first later ups sent (all_owned New link.sent refl (at_link (λ l. is_right (stage_of l)) t.machine.links number link inv.orderly.wire.grammar there))
 
     held : option_map_or (is_held_by (courses_of t) number) first.owner true ≡ true
     held =
         first_all (λ s. option_map_or (is_held_by (courses_of t) number) s.owner true) (λ a b same is. alike_owner (λ o. option_map_or (is_held_by (courses_of t) number) o true) a b same is) link first later ups sent
-        (owned_at t number link inv.script.owned there)
+        (owned_at t number link inv.orderly.script.owned there)
 
     asks : (course : Course) → list_all (asks_rightly t course) t.machine.links ≡ true → asks_lost t course first (up.Outcome x) ≡ true
     asks course all =
@@ -269,7 +269,7 @@ asked_near granted t inv number link first later x there ups frame = by first.ow
         → (not mine || list_any (λ n. option_map_or (λ l. option_map_or (same_ltxid x) l.held false) (link_at t.machine.links n) false) (lost_links course)) ≡ true → IsNear t x
     lost course true is mine any =
         let found = any_one (λ n. option_map_or (λ l. option_map_or (same_ltxid x) l.held false) (link_at t.machine.links n) false) (lost_links course) any in
-        found_near t found.0 x inv.basic.named inv.number.near found.1
+        found_near t found.0 x inv.orderly.basic.named inv.orderly.number.near found.1
     lost course false is mine any = absurd (let none : ⊥ = cc in none)
 
     by : (owner : Option Owner) → first.owner ≡ owner → is_some first.owner ≡ true → IsNear t x

@@ -27,7 +27,6 @@ use Rattle.server_model.specs.Seen.{Seen, HasPower}
 use Rattle.server_model.specs.ServiceCalls.{CameFrom}
 use Rattle.server_model.proofs.Offered.{answers_stand, marked_stores_none}
 use Rattle.world_model.specs.Coupled.{Coupled}
-use Rattle.world_model.specs.KeptLaws.{StoresByCommit}
 use Rattle.world_model.specs.Links.{link_at}
 use Rattle.world_model.specs.Number.{numbered_after}
 use Rattle.world_model.specs.Parts.{is_commit_frame, is_unmarked_frame}
@@ -71,7 +70,7 @@ power_on true is_settled server up has = has
 power_on false is_settled server up has = absurd (let none : ⊥ = cc in none)
 
 module _ (before after : Seen) (old new : Traced) (was : Coupled before old) (now : Coupled after new) (begun : after.start ≡ before.start) (numbered : numbered_after [] old.entries ≡ true) (still : numbered_after [] new.entries ≡ true)
-    (numbers : EntryNumbers) (stores : StoresByCommit) (more : List Entry) (entries : new.entries ≡ old.entries ++ more) (happened : List Happened) (came : All (CameFrom happened) more) (history : after.history ≡ before.history ++ happened)
+    (numbers : EntryNumbers) (more : List Entry) (entries : new.entries ≡ old.entries ++ more) (happened : List Happened) (came : All (CameFrom happened) more) (history : after.history ≡ before.history ++ happened)
     (number : ℕ) (front : Front) (served : Served) (there : link_at old.machine.links number ≡ Some front.link) (living : front.link.is_living ≡ true)
     (is : happened ≡ ServedFrame served.session old.machine.tick front.first.frame (front_telling front served) ∷ []) where
   abbrev what : Happened
@@ -137,7 +136,7 @@ module _ (before after : Seen) (old new : Traced) (was : Coupled before old) (no
     plain_none : (replay : Bool) (kept : List Draw) (called : Call) → front.first.frame ≡ up.Call replay kept called → has_commit called ≡ false → entries_of new.entries served.session ≤ count
     plain_none replay kept called same none =
         subst (λ (all : List Entry). entries_of all served.session ≤ count) stored_new
-        (after_none before.start was.sound before.history was.history.server was.history.runs on served.session at_present count under numbers numbered_old stores served.session old.machine.tick replay kept called (front_telling front served) now.history.server
+        (after_none before.start was.sound before.history was.history.server was.history.runs on served.session at_present count under numbers numbered_old served.session old.machine.tick replay kept called (front_telling front served) now.history.server
         (subst (λ (f : Up). Runs before.start (before.history ++ ServedFrame served.session old.machine.tick f (front_telling front served) ∷ []) now.history.server) same later) none)
 
     -- where it gained one, the frame is a commit call without the mark

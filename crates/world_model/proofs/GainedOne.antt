@@ -22,8 +22,7 @@ use Rattle.server_model.specs.Outcomes.{Telling, Silent, Says, Stopped}
 use Rattle.server_model.specs.Serve.{Serve}
 use Rattle.server_model.specs.Runs.{Happened, Served, Asked, Server, Power, On, Turns, Moves, Makes, Answers, Halts, Loses, AnswersAsk, HaltsInAsk, Reaps, Falls, Opens, StopsOpening, Runs}
 use Rattle.server_model.specs.Laws.{Grows, Same, One, CommitsAs, EntryNumbers, AreStoppedBefore}
-use Rattle.server_model.proofs.Offered.{serve_grows, entry_from_item, answers_stand, runs_last, runs_stopped}
-use Rattle.world_model.specs.KeptLaws.{StoresByCommit}
+use Rattle.server_model.proofs.Offered.{serve_grows, entry_from_item, answers_stand, stores_by_commit, runs_last, runs_stopped}
 use Rattle.world_model.specs.Number.{numbered_after}
 use Rattle.world_model.proofs.Gaining.{one_of, none_in}
 use Rattle.world_model.proofs.GainedQuiet.{entries_more}
@@ -134,26 +133,26 @@ abbrev pub first_frame : List Happened → Up → Up
 first_frame [] other = other
 first_frame (one ∷ rest) other = frame_in one other
 
-turned_none : StoresByCommit → (server after : Server) (old new : Sess) (now : ℕ) (frame : Up) (core : Core) (told : Telling) (power : Power) → Turns server after old new core power → Serve server.core old now frame core new told
+turned_none : (server after : Server) (old new : Sess) (now : ℕ) (frame : Up) (core : Core) (told : Telling) (power : Power) → Turns server after old new core power → Serve server.core old now frame core new told
     → (replay : Bool) (kept : List Draw) (called : Call) → frame ≡ up.Call replay kept called → has_commit called ≡ false → after.core.entries ≡ server.core.entries
-turned_none stores server after old new now frame core told power turns serve replay kept called is none =
-    ap (λ (s : Server). s.core.entries) turns.turned ∙ stores server.core old now replay kept called core new told (subst (λ (f : Up). Serve server.core old now f core new told) is serve) none
+turned_none server after old new now frame core told power turns serve replay kept called is none =
+    ap (λ (s : Server). s.core.entries) turns.turned ∙ stores_by_commit server.core old now replay kept called core new told (subst (λ (f : Up). Serve server.core old now f core new told) is serve) none
 
 -- a call without a commit stores none
-call_none : StoresByCommit → (server after : Server) (more : List Happened) → Moves server more after → (session : SessionId) (now : ℕ) (replay : Bool) (kept : List Draw) (called : Call) (told : Telling) → more ≡ Served session now (up.Call replay kept called) told ∷ []
+call_none : (server after : Server) (more : List Happened) → Moves server more after → (session : SessionId) (now : ℕ) (replay : Bool) (kept : List Draw) (called : Call) (told : Telling) → more ≡ Served session now (up.Call replay kept called) told ∷ []
     → has_commit called ≡ false → after.core.entries ≡ server.core.entries
-call_none stores server _ _ (Makes on) session now replay kept called told is none = absurd (let never : ⊥ = cc in never)
-call_none stores server _ _ (Answers old new at one core said after on serve answered turns) session now replay kept called told is none =
-    turned_none stores server after old new at one core said _ turns serve replay kept called (ap (λ (list : List Happened). first_frame list one) is) none
-call_none stores server _ _ (Halts old new at one core said after running serve turns) session now replay kept called told is none =
-    turned_none stores server after old new at one core said _ turns serve replay kept called (ap (λ (list : List Happened). first_frame list one) is) none
-call_none stores server _ _ (Loses old at one after halted turns) session now replay kept called told is none = ap (λ (s : Server). s.core.entries) turns.turned
-call_none stores server _ _ (AnswersAsk x core said on asks) session now replay kept called told is none = absurd (let never : ⊥ = cc in never)
-call_none stores server _ _ (HaltsInAsk x core said running asks) session now replay kept called told is none = absurd (let never : ⊥ = cc in never)
-call_none stores server _ _ (Reaps front back sess split) session now replay kept called told is none = absurd (let never : ⊥ = cc in never)
-call_none stores server _ _ Falls session now replay kept called told is none = absurd (let never : ⊥ = cc in never)
-call_none stores server _ _ (Opens below off may) session now replay kept called told is none = absurd (let never : ⊥ = cc in never)
-call_none stores server _ _ (StopsOpening below core off may same) session now replay kept called told is none = absurd (let never : ⊥ = cc in never)
+call_none server _ _ (Makes on) session now replay kept called told is none = absurd (let never : ⊥ = cc in never)
+call_none server _ _ (Answers old new at one core said after on serve answered turns) session now replay kept called told is none =
+    turned_none server after old new at one core said _ turns serve replay kept called (ap (λ (list : List Happened). first_frame list one) is) none
+call_none server _ _ (Halts old new at one core said after running serve turns) session now replay kept called told is none =
+    turned_none server after old new at one core said _ turns serve replay kept called (ap (λ (list : List Happened). first_frame list one) is) none
+call_none server _ _ (Loses old at one after halted turns) session now replay kept called told is none = ap (λ (s : Server). s.core.entries) turns.turned
+call_none server _ _ (AnswersAsk x core said on asks) session now replay kept called told is none = absurd (let never : ⊥ = cc in never)
+call_none server _ _ (HaltsInAsk x core said running asks) session now replay kept called told is none = absurd (let never : ⊥ = cc in never)
+call_none server _ _ (Reaps front back sess split) session now replay kept called told is none = absurd (let never : ⊥ = cc in never)
+call_none server _ _ Falls session now replay kept called told is none = absurd (let never : ⊥ = cc in never)
+call_none server _ _ (Opens below off may) session now replay kept called told is none = absurd (let never : ⊥ = cc in never)
+call_none server _ _ (StopsOpening below core off may same) session now replay kept called told is none = absurd (let never : ⊥ = cc in never)
 
 -- STOPS -------------------------------------------------------------------------------------------
 
@@ -221,12 +220,12 @@ module _ (base : Base) (sound : IsSound base) (history : List Happened) (server 
         let c : entries_of (base.entries ++ after.core.entries) session ≡ entries_of (base.entries ++ last.behind.core.entries) session = same_count after.core.entries last.behind.core.entries last.same.entries in
         omega arith
 
-    pub after_none : StoresByCommit → (whose : SessionId) (now : ℕ) (replay : Bool) (kept : List Draw) (called : Call) (told : Telling) (after : Server) → Runs base (history ++ Served whose now (up.Call replay kept called) told ∷ []) after → has_commit called ≡ false
+    pub after_none : (whose : SessionId) (now : ℕ) (replay : Bool) (kept : List Draw) (called : Call) (told : Telling) (after : Server) → Runs base (history ++ Served whose now (up.Call replay kept called) told ∷ []) after → has_commit called ≡ false
         → entries_of (base.entries ++ after.core.entries) session ≤ n
-    after_none stores whose now replay kept called told after later none =
+    after_none whose now replay kept called told after later none =
         let last = runs_last base history (Served whose now (up.Call replay kept called) told) after later in
         let first : entries_of (base.entries ++ last.before.core.entries) session ≤ n = other_few last.before last.runs in
         let same : last.behind.core.entries ≡ last.before.core.entries =
-        call_none stores last.before last.behind (Served whose now (up.Call replay kept called) told ∷ []) last.moves whose now replay kept called told refl none in
+        call_none last.before last.behind (Served whose now (up.Call replay kept called) told ∷ []) last.moves whose now replay kept called told refl none in
         let c : entries_of (base.entries ++ after.core.entries) session ≡ entries_of (base.entries ++ last.before.core.entries) session = same_count after.core.entries last.before.core.entries (last.same.entries ∙ same) in
         omega arith

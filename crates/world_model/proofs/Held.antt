@@ -15,7 +15,7 @@ use Rattle.world_model.specs.Links.{Link, link_at}
 use Rattle.world_model.specs.Clients.{Past, Doing, Client, client_at}
 use Rattle.world_model.specs.Traced.{Traced, Course, course_now, courses_from, courses_of_clients, courses_of}
 use Rattle.world_model.specs.Hold.{holders_of, idle_of, is_had, are_had, is_idle, holds_connection, waits_on, is_held}
-use Rattle.world_model.specs.Invariant.{Invariant}
+use Rattle.world_model.specs.Invariant.{Orderly}
 use Rattle.world_model.specs.Parts.{Numbered, numbered_from}
 use Rattle.world_model.specs.Sames.{all_with, each_pair}
 use Rattle.world_model.proofs.Tests.{eq_from, eq_to, le_from, le_to}
@@ -142,8 +142,8 @@ found_waits t course connection number link has there waits =
     subst (λ (c : Option ℕ). option_map_or (λ n. option_map_or (waits_on course) (link_at t.machine.links n) false) c true ≡ true) has waits in
     subst (λ (found : Option Link). option_map_or (waits_on course) found false ≡ true) there one
 
-pub held_now : (granted : Draw → Bool) (t : Traced) → Invariant granted t → IsHeld t.setting (at_event t.machine)
-held_now granted t inv = record {
+pub held_now : (t : Traced) → Orderly t → IsHeld t.setting (at_event t.machine)
+held_now t inv = record {
   idle = idle;
   apart = apart_by t.machine.pool.idle t.machine.pool.idle (λ number. le_refl (count_by (λ other. other == number) t.machine.pool.idle))
       (weaker_all (passes_at is_idle t.machine.links) (λ number. nat_le (idle_of t number) 1) t.machine.pool.idle (λ number here. idle_once t number inv.hold.had here) idle);

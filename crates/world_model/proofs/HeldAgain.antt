@@ -22,7 +22,7 @@ use Rattle.world_model.specs.Frames.{Owner, Sent, Reply, Handled}
 use Rattle.world_model.specs.Links.{Link, link_at, told_by}
 use Rattle.world_model.specs.Clients.{Doing, Client, client_at}
 use Rattle.world_model.specs.Hold.{is_by_held, is_awaited, is_call, same_held, goes_by}
-use Rattle.world_model.specs.Invariant.{Invariant}
+use Rattle.world_model.specs.Invariant.{Orderly}
 use Rattle.world_model.specs.Basic.{is_named}
 use Rattle.world_model.specs.Wire.{is_reply_front, handled_from}
 use Rattle.world_model.specs.Number.{is_near, is_ahead, ahead_rightly, is_counted, is_told, made_entry, last_served_made, last_is_stopped_commit, cond_held, last_told}
@@ -171,12 +171,12 @@ module _ (t : Traced) (link : Link) (named : is_named link ≡ true) (counts : c
 
 -- OF EACH REQUEST ---------------------------------------------------------------------------------
 
-pub again_now : (granted : Draw → Bool) (t : Traced) → Invariant granted t
+pub again_now : (t : Traced) → Orderly t
     → (number connection : ℕ) (client : Client) (doing : Doing) (link : Link) (reply : Reply) (left : List Reply) → client_at t.machine.clients number ≡ Some client → client.now ≡ Some doing → doing.connection ≡ Some connection
     → link_at t.machine.links connection ≡ Some link → link.down ≡ reply ∷ left → (state : Repeating) → doing.talk.phase ≡ Replaying state → (x : Ltxid) → told_by (Took reply.frame true) ≡ Some x → same_held (Some state.ltxid) (Some x) ≡ true
-again_now granted t inv number connection client doing link reply left here is has there down state phase x tell =
+again_now t inv number connection client doing link reply left here is has there down state phase x tell =
     let owner : Owner = record { client = number; place = length client.past } in
-    let out : awaits owner doing.talk.phase link ≡ true = (held_now granted t inv).out number client doing connection link here is has there in
+    let out : awaits owner doing.talk.phase link ≡ true = (held_now t inv).out number client doing connection link here is has there in
     let goes : same_held (goes_by doing.talk.phase) link.held ≡ true =
     by_its t.machine.links doing connection link has there (doing_course (is_by_held t) t number client doing inv.hold.by_held here is) in
     let links : List Link = t.machine.links in

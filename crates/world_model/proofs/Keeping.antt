@@ -29,7 +29,7 @@ use Rattle.client_model.specs.Account.{Account, unheard, hears, hears_outcome, h
 use Rattle.client_model.specs.Conversation.{Done}
 use Rattle.client_model.specs.Talk.{with_reply, with_recorded, recorded_as}
 use Rattle.client_model.specs.Terms.{Terms}
-use Rattle.world_model.specs.Reports.{shown_call}
+use Rattle.run_clauses.specs.Reports.{shown_call}
 use Rattle.world_model.specs.Script.{behind_decided, recorded_from}
 use Rattle.world_model.specs.Settings.{rules_of}
 use Rattle.world_model.proofs.Tests.{le_to}

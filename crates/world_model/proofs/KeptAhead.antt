@@ -4,7 +4,7 @@ use Rattle.std.specs.Prelude.{not, nat_le}
 use Rattle.std.specs.List.{list_any}
 use Rattle.std.proofs.lemmas.Bool.{and_from, not_from_false}
 use Rattle.server_model.specs.Laws.{EntryNumbers}
-use Rattle.world_model.specs.KeptLaws.{IsKept, StoresByCommit}
+use Rattle.world_model.specs.KeptLaws.{IsKept}
 use Rattle.world_model.specs.Links.{Link}
 use Rattle.world_model.specs.Number.{cond_held, is_near, are_near, is_counted, are_counted, is_ahead, ahead_rightly, are_ahead, last_served_made}
 use Rattle.world_model.specs.Parts.{is_out, is_commit_call, number_of, held_number, implies}
@@ -28,24 +28,24 @@ ahead_to t link right = by (is_ahead t link) refl
         let all = right.ahead (eq_from (number_of t.entries link) (held_number link + 1) is) in
         and_from (is_out link) (last_served_made link && not (list_any is_commit_call link.up)) all.0 (and_from (last_served_made link) (not (list_any is_commit_call link.up)) all.1 (not_from_false (list_any is_commit_call link.up) all.2))
 
-module _ (numbers : EntryNumbers) (stores : StoresByCommit) where
+module _ (numbers : EntryNumbers) where
   pub near_law : IsKept are_near
   near_law = record {
     at_start = λ document. refl;
-    at_event = λ granted before after old new event note items left one inv.
-        by_number (is_near new) new.machine.links (λ number link here. near_to new link (right_now granted before after old new event note items left one inv numbers stores number link here));
+    at_event = λ before after old new event note items left one inv.
+        by_number (is_near new) new.machine.links (λ number link here. near_to new link (right_now before after old new event note items left one inv numbers number link here));
   }
 
   pub counted_law : IsKept are_counted
   counted_law = record {
     at_start = λ document. refl;
-    at_event = λ granted before after old new event note items left one inv.
-        by_number (is_counted new) new.machine.links (λ number link here. (right_now granted before after old new event note items left one inv numbers stores number link here).counted);
+    at_event = λ before after old new event note items left one inv.
+        by_number (is_counted new) new.machine.links (λ number link here. (right_now before after old new event note items left one inv numbers number link here).counted);
   }
 
   pub ahead_law : IsKept are_ahead
   ahead_law = record {
     at_start = λ document. refl;
-    at_event = λ granted before after old new event note items left one inv.
-        by_number (ahead_rightly new) new.machine.links (λ number link here. ahead_to new link (right_now granted before after old new event note items left one inv numbers stores number link here));
+    at_event = λ before after old new event note items left one inv.
+        by_number (ahead_rightly new) new.machine.links (λ number link here. ahead_to new link (right_now before after old new event note items left one inv numbers number link here));
   }

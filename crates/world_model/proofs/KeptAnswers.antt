@@ -31,12 +31,13 @@ use Rattle.server_model.specs.Laws.{CommitsAs, LastOf}
 use Rattle.server_model.specs.Outcomes.{Says, down_of, verdict_on}
 use Rattle.server_model.specs.Runs.{Happened, Served as ServedFrame, Server, Runs}
 use Rattle.server_model.specs.Seen.{Seen}
-use Rattle.server_model.proofs.Offered.{runs_last, blocks_are_stored}
+use Rattle.server_model.proofs.Offered.{runs_last, blocks_are_stored, runs_keep_base}
 use Rattle.world_model.specs.Frames.{Handled}
 use Rattle.world_model.specs.Invariant.{Invariant}
-use Rattle.world_model.specs.KeptLaws.{IsKept, RunsKeepBase}
+use Rattle.world_model.specs.KeptLaws.{IsKeptOfAll}
 use Rattle.world_model.specs.Links.{Link, link_at, takes}
-use Rattle.world_model.specs.Number.{numbered_after, stands, answers_stand}
+use Rattle.world_model.specs.Number.{numbered_after}
+use Rattle.world_model.specs.Shown.{stands, answers_stand}
 use Rattle.world_model.specs.OneEvent.{OneEvent}
 use Rattle.world_model.specs.ServiceDid.{item_telling, front_telling}
 use Rattle.world_model.specs.Serving.{Front, front_at, is_of_front, is_ordinary, is_item_of, commits_after, outcome_frame, after_front, handled}
@@ -70,7 +71,7 @@ crashed_stands t up.Close one is = absurd (let none : ⊥ = cc in none)
 crashed_stands t (up.Call replay kept called) one is = absurd (let none : ⊥ = cc in none)
 crashed_stands t (up.Outcome x) one is = absurd (let none : ⊥ = cc in none)
 
-module _ (granted : Draw → Bool) (before after : Seen) (old new : Traced) (event : Event) (note : Note) (items left : List Served) (one : OneEvent before old event note items left after new) (inv : Invariant granted old) (keeps : RunsKeepBase) where
+module _ (granted : Draw → Bool) (before after : Seen) (old new : Traced) (event : Event) (note : Note) (items left : List Served) (one : OneEvent before old event note items left after new) (inv : Invariant granted old) where
   abbrev links : List Link
   links = old.machine.links
 
@@ -78,7 +79,7 @@ module _ (granted : Draw → Bool) (before after : Seen) (old new : Traced) (eve
   now_server = one.coupled_after.history.server
 
   still : numbered_after [] new.entries ≡ true
-  still = numbered_now before after old new one.coupled_before one.coupled_after one.start inv.number.entries
+  still = numbered_now before after old new one.coupled_before one.coupled_after one.start inv.orderly.number.entries
 
   -- A QUESTION THAT IS ANSWERED -------------------------------------------------------------------
 
@@ -105,7 +106,7 @@ module _ (granted : Draw → Bool) (before after : Seen) (old new : Traced) (eve
     -- its store has the entries of now
     same_entries : all_entries last.before.core ≡ new.entries
     same_entries =
-        ap (λ (b : base.Base). b.entries ++ last.before.core.entries) (keeps before.start before.history last.before last.runs)
+        ap (λ (b : base.Base). b.entries ++ last.before.core.entries) (runs_keep_base before.start before.history last.before last.runs)
         ∙ (ap (λ (all : List Entry). before.start.entries ++ all) (sym (last.same.entries ∙ answer.1))
         ∙ sym (one.coupled_after.entries ∙ (one.coupled_after.history.entries ∙ ap (λ (b : base.Base). b.entries ++ now_server.core.entries) one.start)))
 
@@ -133,7 +134,7 @@ module _ (granted : Draw → Bool) (before after : Seen) (old new : Traced) (eve
         blocks_are_stored before.start (before.history ++ what ∷ []) now_server later x (ServedFrame served.session old.machine.tick (up.Outcome x) (Says (outcome_frame told.Uncommitted)))
         (subst (λ (h : Happened). Contains (before.history ++ what ∷ []) h) (sym tells) contains) refl in
         let all : all_blocked now_server.core ≡ new.blocked =
-        ap (λ (b : base.Base). b.blocked ++ now_server.core.blocked) (keeps after.start after.history now_server one.coupled_after.history.runs) ∙ sym (one.coupled_after.blocked ∙ one.coupled_after.history.blocked) in
+        ap (λ (b : base.Base). b.blocked ++ now_server.core.blocked) (runs_keep_base after.start after.history now_server one.coupled_after.history.runs) ∙ sym (one.coupled_after.blocked ∙ one.coupled_after.history.blocked) in
         blocked_holds new.blocked x (subst (λ (list : List Ltxid). is_blocked list x ≡ true) all stored)
 
     completed_now : (completed : Bool) → outcome_frame result ≡ outcome_frame (told.Committed completed) → completed_of new.entries x ≡ Some completed
@@ -185,19 +186,19 @@ module _ (granted : Draw → Bool) (before after : Seen) (old new : Traced) (eve
   old_stand : (number : ℕ) (link : Link) → link_at links number ≡ Some link → all_stand link.served ≡ true
   old_stand number link there =
       weaker_all (λ (h : Handled). stands old h.served.item) (λ (h : Handled). stands new h.served.item) link.served (λ h is. stands_still old new one.more_entries one.more_blocked one.entries one.blocked h.served.item is)
-      (at_link (λ l. list_all (λ h. stands old h.served.item) l.served) links number link inv.number.answers there)
+      (at_link (λ l. list_all (λ h. stands old h.served.item) l.served) links number link inv.shown.answers there)
 
   with_one : (number : ℕ) (link : Link) (this : Handled) → link_at links number ≡ Some link → stands new this.served.item ≡ true → all_stand (link.served ++ this ∷ []) ≡ true
   with_one number link this there is = append_all (λ (h : Handled). stands new h.served.item) link.served (this ∷ []) (old_stand number link there) (one_all (λ (h : Handled). stands new h.served.item) this is)
 
-  turned : (number : ℕ) (link next : Link) → link_at links number ≡ Some link → Turns (at_event old.machine) items left (event_by granted before after old new event note items left one inv).kind number link next → all_stand next.served ≡ true
+  turned : (number : ℕ) (link next : Link) → link_at links number ≡ Some link → Turns (at_event old.machine) items left (event_by before after old new event note items left one inv.orderly).kind number link next → all_stand next.served ≡ true
   turned number link _ there (Stays _) = old_stand number link there
   turned number link _ there (IsSaid frames _ idle) = sends_alike (λ l. all_stand l.served ≡ true) (old.machine.event + 1) frames link (old_stand number link there) (old_stand number link there)
   turned number link _ there (IsTaken frames reply after_it _ out down) =
       sends_alike (λ l. all_stand l.served ≡ true) (old.machine.event + 1) frames (takes (Took reply.frame link.is_open) reply after_it link) (old_stand number link there) (old_stand number link there)
   turned number _ _ there (IsServed frame front served kind_is at ordinary same) =
       let parts = and_parts (is_of_front (at_event old.machine) front served) (is_item_of front.first.frame served.item) ordinary in
-      let happens = happens_one granted before after old new event note items left one inv number front served at same (ap serves_at kind_is) in
+      let happens = happens_one before after old new event note items left one inv.orderly number front served at same (ap serves_at kind_is) in
       let here : stands new served.item ≡ true = item_stands number front served at happens front.first.frame served.item refl refl parts.1 in
       handled_alike (λ l. all_stand l.served ≡ true) (old.machine.event + 1) front served (λ reply. with_one number front.link _ there here) (λ reply. with_one number front.link _ there here)
   turned number link _ there (IsCut ups downs _ opens) = cut_case (λ l. all_stand l.served ≡ true) (old.machine.event + 1) ups downs link opens (old_stand number link there)
@@ -209,7 +210,7 @@ module _ (granted : Draw → Bool) (before after : Seen) (old new : Traced) (eve
       fallen_case (λ l. all_stand l.served ≡ true) (old.machine.event + 1) (after_front front served None) (λ opens. with_one number front.link _ there here) (λ closed. with_one number front.link _ there here)
   turned number _ _ there (WasServed after_it failover down front served kind_is at over same) =
       let parts = and_parts (is_of_front (at_event old.machine) front served) (is_item_of front.first.frame served.item) (and_parts (is_ordinary (at_event old.machine) front served) _ over).0 in
-      let happens = happens_one granted before after old new event note items left one inv number front served at same (ap serves_at kind_is) in
+      let happens = happens_one before after old new event note items left one inv.orderly number front served at same (ap serves_at kind_is) in
       let here : stands new served.item ≡ true = item_stands number front served at happens front.first.frame served.item refl refl parts.1 in
       let alike : all_stand (handled (old.machine.event + 1) front served).served ≡ true =
       handled_alike (λ l. all_stand l.served ≡ true) (old.machine.event + 1) front served (λ reply. with_one number front.link _ there here) (λ reply. with_one number front.link _ there here) in
@@ -217,15 +218,15 @@ module _ (granted : Draw → Bool) (before after : Seen) (old new : Traced) (eve
 
   pub stand_now : (number : ℕ) (next : Link) → link_at new.machine.links number ≡ Some next → all_stand next.served ≡ true
   stand_now number next here =
-      cases (all_turn old.setting (at_event old.machine) (held_now granted old inv) items left (event_by granted before after old new event note items left one inv).kind new.machine (event_by granted before after old new event note items left one inv).happens number next here)
+      cases (all_turn old.setting (at_event old.machine) (held_now old inv.orderly) items left (event_by before after old new event note items left one inv.orderly).kind new.machine (event_by before after old new event note items left one inv.orderly).happens number next here)
     where
-      cases : ComesFrom (at_event old.machine) items left (event_by granted before after old new event note items left one inv).kind number next → all_stand next.served ≡ true
+      cases : ComesFrom (at_event old.machine) items left (event_by before after old new event note items left one inv.orderly).kind number next → all_stand next.served ≡ true
       cases (IsNew owner same) = ap (λ (l : Link). all_stand l.served) same
       cases (IsOld link there turn) = turned number link next there turn
 
-pub answers_law : RunsKeepBase → IsKept answers_stand
-answers_law keeps = record {
+pub answers_law : IsKeptOfAll answers_stand
+answers_law = record {
   at_start = λ document. refl;
   at_event = λ granted before after old new event note items left one inv.
-      by_number (λ link. list_all (λ h. stands new h.served.item) link.served) new.machine.links (λ number link here. stand_now granted before after old new event note items left one inv keeps number link here);
+      by_number (λ link. list_all (λ h. stands new h.served.item) link.served) new.machine.links (λ number link here. stand_now granted before after old new event note items left one inv number link here);
 }

@@ -22,18 +22,18 @@ basic_begins document = record {
 }
 
 pub basic_is_kept : BasicIsKept
-basic_is_kept granted before after old new event note items left one inv = record {
-  steps = steps_law.at_event granted before after old new event note items left one inv;
-  ticks = ticks_law.at_event granted before after old new event note items left one inv;
-  items = items_law.at_event granted before after old new event note items left one inv;
-  one_item = one_item_law.at_event granted before after old new event note items left one inv;
-  down = down_law.at_event granted before after old new event note items left one inv;
-  ended = ended_law.at_event granted before after old new event note items left one inv;
-  apart = apart_law.at_event granted before after old new event note items left one inv;
-  made = made_law.at_event granted before after old new event note items left one inv;
-  counted = counted_law.at_event granted before after old new event note items left one inv;
-  now = now_law.at_event granted before after old new event note items left one inv;
-  named = named_law.at_event granted before after old new event note items left one inv;
-  commits = commits_law.at_event granted before after old new event note items left one inv;
-  life = life_law.at_event granted before after old new event note items left one inv;
+basic_is_kept before after old new event note items left one inv = record {
+  steps = steps_law.at_event before after old new event note items left one inv;
+  ticks = ticks_law.at_event before after old new event note items left one inv;
+  items = items_law.at_event before after old new event note items left one inv;
+  one_item = one_item_law.at_event before after old new event note items left one inv;
+  down = down_law.at_event before after old new event note items left one inv;
+  ended = ended_law.at_event before after old new event note items left one inv;
+  apart = apart_law.at_event before after old new event note items left one inv;
+  made = made_law.at_event before after old new event note items left one inv;
+  counted = counted_law.at_event before after old new event note items left one inv;
+  now = now_law.at_event before after old new event note items left one inv;
+  named = named_law.at_event before after old new event note items left one inv;
+  commits = commits_law.at_event before after old new event note items left one inv;
+  life = life_law.at_event before after old new event note items left one inv;
 }

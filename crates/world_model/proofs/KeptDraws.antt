@@ -26,7 +26,7 @@ use Rattle.world_model.specs.Links.{Link}
 use Rattle.world_model.specs.Machines.{Machine}
 use Rattle.world_model.specs.Outside.{closed_by_drain}
 use Rattle.world_model.specs.Parts.{implies}
-use Rattle.world_model.specs.Reports.{shown_call}
+use Rattle.run_clauses.specs.Reports.{shown_call}
 use Rattle.world_model.specs.Sames.{same_owner, owned_by}
 use Rattle.world_model.specs.Script.{has_shown_draws, carries_draws, owned_rightly, carry_draws}
 use Rattle.world_model.specs.Settings.{Setting}
@@ -222,7 +222,7 @@ start_carries (course ∷ courses) = start_carries courses
 pub draws_law : IsKept carry_draws
 draws_law = record {
   at_start = λ document. start_carries (courses_of (traced_start document));
-  at_event = λ granted before after old new event note items left one inv.
+  at_event = λ before after old new event note items left one inv.
       let by : Followed old.setting old.machine event note items left new.machine = follow_happens old.setting old.machine event note items left new.machine one.follows in
       subst (λ (setting : Setting). list_all (λ (course : Course). list_all (carries_draws course) new.machine.links) (courses_of_clients setting 1 new.machine.clients) ≡ true) (sym one.setting)
       (may_carry old (at_event old.machine) new.machine refl refl inv.script.talks inv.script.owned (happens_step old.setting (at_event old.machine) items left by.kind new.machine by.happens) inv.script.marks);

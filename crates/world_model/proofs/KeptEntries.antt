@@ -53,7 +53,7 @@ numbered_now before after old new was now same here =
 pub entries_law : EachKeeps → IsKept entries_numbered
 entries_law keeps = record {
   at_start = λ document. (given_right keeps (base_of document) document.image).numbered;
-  at_event = λ granted before after old new event note items left one inv. numbered_now before after old new one.coupled_before one.coupled_after one.start inv.number.entries;
+  at_event = λ before after old new event note items left one inv. numbered_now before after old new one.coupled_before one.coupled_after one.start inv.number.entries;
 }
 
 pub unblocked_law : EachKeeps → IsKept none_blocked
@@ -61,9 +61,9 @@ unblocked_law keeps = record {
   at_start = λ document.
       let right : IsRight (journal_before document) = given_right keeps (base_of document) document.image in
       none_held (journal_before document).entries (journal_before document).entries (journal_before document).blocked right.next (all_below (journal_before document).entries right.numbered);
-  at_event = λ granted before after old new event note items left one inv.
+  at_event = λ before after old new event note items left one inv.
       none_held new.entries new.entries new.blocked (blocks_law after new one.coupled_after)
-      (all_below new.entries ((entries_law keeps).at_event granted before after old new event note items left one inv));
+      (all_below new.entries ((entries_law keeps).at_event before after old new event note items left one inv));
 }
 
 -- what the image has blocked

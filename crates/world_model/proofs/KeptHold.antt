@@ -19,7 +19,7 @@ use Rattle.outage_schedule.specs.declared.event.Event.{Event}
 use Rattle.outage_schedule.specs.declared.note.Note.{Note}
 use Rattle.outage_schedule.specs.declared.item.Served.{Served}
 use Rattle.world_model.specs.Traced.{Traced}
-use Rattle.world_model.specs.Invariant.{Invariant}
+use Rattle.world_model.specs.Invariant.{Orderly}
 use Rattle.world_model.specs.OneEvent.{OneEvent}
 use Rattle.world_model.proofs.Happened.{Followed, follow_happens, at_event}
 use Rattle.client_model.specs.declared.input.Wants.TheVariants as wants
@@ -45,7 +45,7 @@ use Rattle.world_model.proofs.PoolOpened.{happens_opened, opened_kept}
 pub opened_law : IsKept are_opened
 opened_law = record {
   at_start = λ document. refl;
-  at_event = λ granted before after old new event note items left one inv.
+  at_event = λ before after old new event note items left one inv.
       let by : Followed old.setting old.machine event note items left new.machine = follow_happens old.setting old.machine event note items left new.machine one.follows in
       opened_kept (at_event old.machine) new.machine (happens_opened old.setting (at_event old.machine) items left by.kind new.machine by.happens) inv.hold.opened;
 }
@@ -56,18 +56,18 @@ none_held document setting number [] = refl
 none_held document setting number (client ∷ clients) = none_held document setting (number + 1) clients
 
 -- of each request, that it has its connection and goes by what is held there
-held_both : (granted : Draw → Bool) (before after : Seen) (old new : Traced) (event : Event) (note : Note) (items left : List Served) → OneEvent before old event note items left after new → Invariant granted old
+held_both : (before after : Seen) (old new : Traced) (event : Event) (note : Note) (items left : List Served) → OneEvent before old event note items left after new → Orderly old
     → (number : ℕ) (client : Client) (doing : Doing) → client_at new.machine.clients number ≡ Some client → client.now ≡ Some doing → Stands new.machine.links (record { client = number; place = length client.past }) doing
-held_both granted before after old new event note items left one inv =
+held_both before after old new event note items left one inv =
     let by : Followed old.setting old.machine event note items left new.machine = follow_happens old.setting old.machine event note items left new.machine one.follows in
-    held_after old inv.hold.had inv.hold.held (held_now granted old inv).idle (all_orderly old.machine.links inv.wire.sent inv.wire.replies inv.wire.handled inv.basic.life) inv.basic.ended inv.hold.by_held (again_now granted old inv)
+    held_after old inv.hold.had inv.hold.held (held_now old inv).idle (all_orderly old.machine.links inv.wire.sent inv.wire.replies inv.wire.handled inv.basic.life) inv.basic.ended inv.hold.by_held (again_now old inv)
     items left by.kind new.machine by.happens
 
 pub held_law : IsKept are_held
 held_law = record {
   at_start = λ document. none_held document (setting_of document) 1 document.clients;
-  at_event = λ granted before after old new event note items left one inv.
-      all_courses_by (is_held new) new (λ client place past. refl) (λ number client doing here now. (held_both granted before after old new event note items left one inv number client doing here now).0);
+  at_event = λ before after old new event note items left one inv.
+      all_courses_by (is_held new) new (λ client place past. refl) (λ number client doing here now. (held_both before after old new event note items left one inv number client doing here now).0);
 }
 
 -- without a client none goes by an identifier
@@ -78,16 +78,16 @@ none_by document setting number (client ∷ clients) = none_by document setting 
 pub by_held_law : IsKept are_by_held
 by_held_law = record {
   at_start = λ document. none_by document (setting_of document) 1 document.clients;
-  at_event = λ granted before after old new event note items left one inv.
-      all_courses_by (is_by_held new) new (λ client place past. refl) (λ number client doing here now. (held_both granted before after old new event note items left one inv number client doing here now).1);
+  at_event = λ before after old new event note items left one inv.
+      all_courses_by (is_by_held new) new (λ client place past. refl) (λ number client doing here now. (held_both before after old new event note items left one inv number client doing here now).1);
 }
 
 pub idle_law : IsKept are_idle
 idle_law = record {
   at_start = λ document. refl;
-  at_event = λ granted before after old new event note items left one inv.
+  at_event = λ before after old new event note items left one inv.
       let by : Followed old.setting old.machine event note items left new.machine = follow_happens old.setting old.machine event note items left new.machine one.follows in
-      let known : IsHeld old.setting (at_event old.machine) = held_now granted old inv in
+      let known : IsHeld old.setting (at_event old.machine) = held_now old inv in
       happens_rest old.setting (at_event old.machine) inv.hold.idle known.apart (all_wired old.machine.links inv.wire.sent inv.wire.grammar inv.wire.replies inv.wire.handled) inv.wire.fresh
       (λ number doing connection link is has there.
       let owner : Owner = record { client = number; place = length is.client.past } in
@@ -101,14 +101,14 @@ idle_law = record {
 pub had_law : IsKept are_had
 had_law = record {
   at_start = λ document. refl;
-  at_event = λ granted before after old new event note items left one inv.
+  at_event = λ before after old new event note items left one inv.
       let by : Followed old.setting old.machine event note items left new.machine = follow_happens old.setting old.machine event note items left new.machine one.follows in
-      let known : IsHeld old.setting (at_event old.machine) = held_now granted old inv in
+      let known : IsHeld old.setting (at_event old.machine) = held_now old inv in
       had_all new
       (had_after old inv.hold.had inv.hold.held known.idle (all_orderly old.machine.links inv.wire.sent inv.wire.replies inv.wire.handled inv.basic.life) inv.basic.ended
       (λ number doing is.
       ready_left old.setting.terms doing (known.ready number doing wants.Slot is) (waiting_unbegun doing.talk.phase (slot_waits old.setting.terms doing.talk doing.talk.phase old.machine.tick is.wants)))
-      items left by.kind new.machine by.happens (idle_law.at_event granted before after old new event note items left one inv));
+      items left by.kind new.machine by.happens (idle_law.at_event before after old new event note items left one inv));
 }
 
 -- without a request in course no slot is held
@@ -126,7 +126,7 @@ lent_law = record {
       let clients : List Client = map (λ client. resting client.requests []) document.clients in
       subst (λ (n : ℕ). ((0 == n) && nat_le 0 document.service.pool.max) ≡ true) (sym (slots_count (setting_of document) 1 clients ∙ none_lent document.clients))
       (and_from true (nat_le 0 document.service.pool.max) refl (le_to 0 document.service.pool.max (omega arith)));
-  at_event = λ granted before after old new event note items left one inv.
+  at_event = λ before after old new event note items left one inv.
       let by : Followed old.setting old.machine event note items left new.machine = follow_happens old.setting old.machine event note items left new.machine one.follows in
       subst (λ (n : ℕ). ((new.machine.pool.lent == n) && nat_le new.machine.pool.lent new.machine.pool.max) ≡ true) (sym (slots_count new.setting 1 new.machine.clients))
       (happens_lent old.setting (at_event old.machine)

@@ -14,15 +14,15 @@ use Rattle.world_model.proofs.ServedNear.{all_near}
 pub near_law : IsKept are_served_near
 near_law = record {
   at_start = λ document. refl;
-  at_event = λ granted before after old new event note items left one inv.
-      let wire : Wire new = wire_is_kept granted before after old new event note items left one inv in
+  at_event = λ before after old new event note items left one inv.
+      let wire : Wire new = wire_is_kept before after old new event note items left one inv in
       all_near new.machine.links wire.sent wire.replies wire.handled wire.out;
 }
 
 pub told_law : IsKept are_told
 told_law = record {
   at_start = λ document. refl;
-  at_event = λ granted before after old new event note items left one inv.
+  at_event = λ before after old new event note items left one inv.
       let by : Followed old.setting old.machine event note items left new.machine = follow_happens old.setting old.machine event note items left new.machine one.follows in
       links_keep old.setting (at_event old.machine) no_test is_told (told_keep (at_event old.machine)) items left by.kind new.machine by.happens (every_all no_test old.machine.links (λ link. refl)) inv.number.told;
 }

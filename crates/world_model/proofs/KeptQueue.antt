@@ -44,7 +44,7 @@ steps_early t risen number client doing here now =
 pub queue_law : IsKept are_queued
 queue_law = record {
   at_start = λ document. queue_to (traced_start document) (record { rises = refl; once = refl; apart_is = refl; count = sym (none_queued document.clients) });
-  at_event = λ granted before after old new event note items left one inv.
+  at_event = λ before after old new event note items left one inv.
       let by : Followed old.setting old.machine event note items left new.machine = follow_happens old.setting old.machine event note items left new.machine one.follows in
       queue_to new (happens_queue old.setting (at_event old.machine) (queue_from old inv.hold.queue) (steps_early old inv.basic.steps) items left by.kind new.machine by.happens);
 }

@@ -23,11 +23,11 @@ right_rules failover.Off settings = record { alters = λ line index. refl; commi
 right_rules failover.Auto settings = record { alters = λ line index. refl; commits = inl refl }
 
 -- what a document says of all its runs
-record IsOfCalls (setting : Setting) : Type 0 where
+record HasRightCalls (setting : Setting) : Type 0 where
   pub right : AreRight setting.terms.rules
   pub scripts : list_all (list_all has_calls) setting.scripts ≡ true
 
-of_document : (document : Document) → all_have_calls document ≡ true → IsOfCalls (setting_of document)
+of_document : (document : Document) → all_have_calls document ≡ true → HasRightCalls (setting_of document)
 of_document document calls = record {
   right = right_rules document.service.failover document.service.consistency;
   scripts = map_all (λ (client : Scripted). list_all has_calls client.requests) (list_all has_calls) (λ (client : Scripted). client.requests) document.clients (λ client here. here) calls;
@@ -38,9 +38,9 @@ ready_law = record {
   at_start = λ document calls.
       map_all (λ (client : Scripted). list_all has_calls client.requests) (is_ready_client (setting_of document).terms) (λ (client : Scripted). resting client.requests []) document.clients
       (λ client here. next_calls client.requests [] here) calls;
-  at_event = λ document calls granted before after old new event note items left same one inv.
+  at_event = λ before after old new event note items left one inv.
       let by : Followed old.setting old.machine event note items left new.machine = follow_happens old.setting old.machine event note items left new.machine one.follows in
-      let of : IsOfCalls old.setting = subst IsOfCalls (sym same) (of_document document calls) in
+      let of : HasRightCalls old.setting = subst HasRightCalls (sym inv.setting.same) (of_document inv.setting.document inv.setting.calls) in
       subst (λ (setting : Setting). list_all (is_ready_client setting.terms) new.machine.clients ≡ true) (sym one.setting)
       (clients_ready old.setting of.right of.scripts (at_event old.machine) inv.script.ready items left by.kind new.machine by.happens);
 }

@@ -230,7 +230,7 @@ resting_none setting number test (one ∷ all) = resting_none setting (number + 
 pub sendings_law : IsKept all_sent
 sendings_law = record {
   at_start = λ document. resting_none (setting_of document) 1 (course_sent []) document.clients;
-  at_event = λ granted before after old new event note items left one inv.
+  at_event = λ before after old new event note items left one inv.
       let by : Followed old.setting old.machine event note items left new.machine = follow_happens old.setting old.machine event note items left new.machine one.follows in
       subst (λ (setting : Setting). list_all (course_sent new.machine.links) (courses_of_clients setting 1 new.machine.clients) ≡ true) (sym one.setting)
       (may_send old (at_event old.machine) new.machine refl refl inv.script.talks inv.script.ready inv.script.owned (happens_step old.setting (at_event old.machine) items left by.kind new.machine by.happens) inv.script.sent);

@@ -12,7 +12,7 @@ use Rattle.outage_schedule.specs.declared.item.Served.{Served}
 use Rattle.world_model.specs.Noting.{only_if}
 use Rattle.world_model.specs.Matching.{Noted, Went, ServedOn, CutOff, Reaped, Opened, OpeningStopped, Ticked, RanOutside, Asked, Drained, matched}
 use Rattle.world_model.specs.Traced.{Traced}
-use Rattle.world_model.specs.Invariant.{Invariant}
+use Rattle.world_model.specs.Invariant.{Orderly}
 use Rattle.world_model.specs.OneEvent.{OneEvent, session_outside}
 use Rattle.world_model.specs.Basic.{items_differ, sessions_differ, are_made, are_counted, are_named}
 use Rattle.world_model.specs.KeptLaws.{IsKept}
@@ -43,47 +43,47 @@ outside_is t (event.Ask ltxid) (note.Ask named told) kind is = made_none t kind 
 outside_is t event.Drain (note.Drain closed) kind is = made_none t kind true (Drained closed) refl is
 outside_is t event note kind is = absurd (let never : ⊥ = cc in never)
 
-wired : (granted : Draw → Bool) (t : Traced) → Invariant granted t → list_all is_wired t.machine.links ≡ true
-wired granted t inv = all_wired t.machine.links inv.wire.sent inv.wire.grammar inv.wire.replies inv.wire.handled
+wired : (t : Traced) → Orderly t → list_all is_wired t.machine.links ≡ true
+wired t inv = all_wired t.machine.links inv.wire.sent inv.wire.grammar inv.wire.replies inv.wire.handled
 
-pub right : (granted : Draw → Bool) (before after : Seen) (old new : Traced) (event : Event) (note : Note) (items left : List Served) → OneEvent before old event note items left after new
-    → Invariant granted old → IsRight (census new.machine new.outside)
-right granted before after old new event note items left one inv =
+pub right : (before after : Seen) (old new : Traced) (event : Event) (note : Note) (items left : List Served) → OneEvent before old event note items left after new
+    → Orderly old → IsRight (census new.machine new.outside)
+right before after old new event note items left one inv =
     let by : Followed old.setting old.machine event note items left new.machine = follow_happens old.setting old.machine event note items left new.machine one.follows in
-    census_kept old.setting old.machine items left by.kind new.machine by.happens old.outside new.outside (wired granted old inv) inv.basic.named
+    census_kept old.setting old.machine items left by.kind new.machine by.happens old.outside new.outside (wired old inv) inv.basic.named
     (one.outside ∙ ap (λ (more : List SessionId). old.outside ++ more) (outside_is old event note by.kind by.is_kind))
     (record { apart = inv.basic.apart; made = inv.basic.made; counted = inv.basic.counted })
 
 pub apart_law : IsKept sessions_differ
 apart_law = record {
   at_start = λ document. refl;
-  at_event = λ granted before after old new event note items left one inv. (right granted before after old new event note items left one inv).apart;
+  at_event = λ before after old new event note items left one inv. (right before after old new event note items left one inv).apart;
 }
 
 pub made_law : IsKept are_made
 made_law = record {
   at_start = λ document. refl;
-  at_event = λ granted before after old new event note items left one inv. (right granted before after old new event note items left one inv).made;
+  at_event = λ before after old new event note items left one inv. (right before after old new event note items left one inv).made;
 }
 
 pub counted_law : IsKept are_counted
 counted_law = record {
   at_start = λ document. refl;
-  at_event = λ granted before after old new event note items left one inv. (right granted before after old new event note items left one inv).counted;
+  at_event = λ before after old new event note items left one inv. (right before after old new event note items left one inv).counted;
 }
 
 pub named_law : IsKept are_named
 named_law = record {
   at_start = λ document. refl;
-  at_event = λ granted before after old new event note items left one inv.
+  at_event = λ before after old new event note items left one inv.
       let by : Followed old.setting old.machine event note items left new.machine = follow_happens old.setting old.machine event note items left new.machine one.follows in
-      named_kept old.setting old.machine items left by.kind new.machine by.happens (wired granted old inv) inv.basic.named;
+      named_kept old.setting old.machine items left by.kind new.machine by.happens (wired old inv) inv.basic.named;
 }
 
 pub one_item_law : IsKept items_differ
 one_item_law = record {
   at_start = λ document. refl;
-  at_event = λ granted before after old new event note items left one inv.
+  at_event = λ before after old new event note items left one inv.
       let by : Followed old.setting old.machine event note items left new.machine = follow_happens old.setting old.machine event note items left new.machine one.follows in
       one_item_kept old.setting old.machine items left by.kind new.machine by.happens inv.basic.items inv.basic.one_item;
 }

@@ -15,7 +15,7 @@ steps_law = record {
   at_start = λ document.
       all_courses (rises_at 0 0) (setting_of document) 1 (traced_start document).machine.clients
       ∙ none_yet (past_steps (rises_at 0 0)) (doing_steps (rises_at 0 0)) (λ client. client.requests) document.clients;
-  at_event = λ granted before after old new event note items left one inv.
+  at_event = λ before after old new event note items left one inv.
       let by : Followed old.setting old.machine event note items left new.machine = follow_happens old.setting old.machine event note items left new.machine one.follows in
       all_courses (rises_at new.machine.event new.machine.tick) new.setting 1 new.machine.clients
       ∙ steps_kept old.setting old.machine items left by.kind new.machine by.happens inv.basic.ended
@@ -25,7 +25,7 @@ steps_law = record {
 pub ticks_law : IsKept kept_ticks
 ticks_law = record {
   at_start = λ document. none_now (keeps_at 0 0) (λ client. client.requests) document.clients;
-  at_event = λ granted before after old new event note items left one inv.
+  at_event = λ before after old new event note items left one inv.
       let by : Followed old.setting old.machine event note items left new.machine = follow_happens old.setting old.machine event note items left new.machine one.follows in
       ticks_kept old.setting old.machine items left by.kind new.machine by.happens inv.basic.ended inv.basic.ticks;
 }

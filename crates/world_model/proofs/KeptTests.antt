@@ -18,7 +18,7 @@ followed before after old new event note items left one = follow_happens old.set
 pub items_law : IsKept items_rise
 items_law = record {
   at_start = λ document. refl;
-  at_event = λ granted before after old new event note items left one inv.
+  at_event = λ before after old new event note items left one inv.
       let by : Followed old.setting old.machine event note items left new.machine = followed before after old new event note items left one in
       items_kept old.setting old.machine items left by.kind new.machine by.happens inv.basic.items;
 }
@@ -26,7 +26,7 @@ items_law = record {
 pub ended_law : IsKept are_ended
 ended_law = record {
   at_start = λ document. refl;
-  at_event = λ granted before after old new event note items left one inv.
+  at_event = λ before after old new event note items left one inv.
       let by : Followed old.setting old.machine event note items left new.machine = followed before after old new event note items left one in
       ends_kept old.setting old.machine items left by.kind new.machine by.happens inv.wire.sent inv.basic.ended;
 }
@@ -34,7 +34,7 @@ ended_law = record {
 pub commits_law : IsKept commits_counted
 commits_law = record {
   at_start = λ document. refl;
-  at_event = λ granted before after old new event note items left one inv.
+  at_event = λ before after old new event note items left one inv.
       let by : Followed old.setting old.machine event note items left new.machine = followed before after old new event note items left one in
       commits_kept old.setting old.machine items left by.kind new.machine by.happens inv.basic.commits;
 }
@@ -42,7 +42,7 @@ commits_law = record {
 pub life_law : IsKept lives
 life_law = record {
   at_start = λ document. refl;
-  at_event = λ granted before after old new event note items left one inv.
+  at_event = λ before after old new event note items left one inv.
       let by : Followed old.setting old.machine event note items left new.machine = followed before after old new event note items left one in
       life_kept old.setting old.machine items left by.kind new.machine by.happens inv.basic.life;
 }
@@ -50,7 +50,7 @@ life_law = record {
 pub down_law : IsKept is_down
 down_law = record {
   at_start = λ document. refl;
-  at_event = λ granted before after old new event note items left one inv.
+  at_event = λ before after old new event note items left one inv.
       let by : Followed old.setting old.machine event note items left new.machine = followed before after old new event note items left one in
       down_kept old.setting old.machine items left by.kind new.machine by.happens inv.basic.down;
 }
@@ -58,7 +58,7 @@ down_law = record {
 pub now_law : IsKept living_now
 now_law = record {
   at_start = λ document. refl;
-  at_event = λ granted before after old new event note items left one inv.
+  at_event = λ before after old new event note items left one inv.
       let by : Followed old.setting old.machine event note items left new.machine = followed before after old new event note items left one in
       now_kept old.setting old.machine items left by.kind new.machine by.happens inv.basic.down inv.basic.now;
 }

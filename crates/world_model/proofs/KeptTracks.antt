@@ -20,7 +20,7 @@ use Rattle.world_model.specs.Conversing.{AllTalk, Talks, inputs_of, first_talk}
 use Rattle.world_model.specs.KeptLaws.{IsKeptOfCalls}
 use Rattle.world_model.specs.Parts.{implies}
 use Rattle.world_model.specs.Reached.{traced_start}
-use Rattle.world_model.specs.Reports.{shown_call}
+use Rattle.run_clauses.specs.Reports.{shown_call}
 use Rattle.world_model.specs.Script.{same_digests, same_ticks, recorded_from, keeps, is_kept, are_kept}
 use Rattle.world_model.specs.Traced.{Traced, Course, course_now}
 use Rattle.world_model.specs.Words.{dones_of}
@@ -128,6 +128,6 @@ of_document document = ruled document.service.failover document.service.consiste
 pub tracks_law : IsKeptOfCalls are_kept
 tracks_law = record {
   at_start = λ document calls. talks_keep (traced_start document) (of_document document) (talks_begin document);
-  at_event = λ document calls granted before after old new event note items left same one inv.
-      talks_keep new (subst (λ (setting : Setting). IsRuled setting.terms.rules) (sym (one.setting ∙ same)) (of_document document)) (talks_are_kept granted before after old new event note items left one inv);
+  at_event = λ before after old new event note items left one inv.
+      talks_keep new (subst (λ (setting : Setting). IsRuled setting.terms.rules) (sym (one.setting ∙ inv.setting.same)) (of_document inv.setting.document)) (talks_are_kept before after old new event note items left one inv);
 }

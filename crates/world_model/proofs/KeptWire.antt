@@ -25,7 +25,7 @@ use Rattle.world_model.proofs.Held.{held_now}
 pub handled_law : IsKept are_handled
 handled_law = record {
   at_start = λ document. refl;
-  at_event = λ granted before after old new event note items left one inv.
+  at_event = λ before after old new event note items left one inv.
       let by : Followed old.setting old.machine event note items left new.machine = follow_happens old.setting old.machine event note items left new.machine one.follows in
       links_keep old.setting (at_event old.machine) counts_commits is_all_handled (handled_keep (at_event old.machine)) items left by.kind new.machine by.happens inv.basic.commits inv.wire.handled;
 }
@@ -33,7 +33,7 @@ handled_law = record {
 pub replies_law : IsKept reply_fronts
 replies_law = record {
   at_start = λ document. refl;
-  at_event = λ granted before after old new event note items left one inv.
+  at_event = λ before after old new event note items left one inv.
       let by : Followed old.setting old.machine event note items left new.machine = follow_happens old.setting old.machine event note items left new.machine one.follows in
       links_keep old.setting (at_event old.machine) no_test is_reply_front (replies_keep (at_event old.machine)) items left by.kind new.machine by.happens
       (every_all no_test old.machine.links (λ link. refl)) inv.wire.replies;
@@ -55,7 +55,7 @@ all_orderly (link ∷ links) sent replies handled lives =
 pub order_law : IsKept answered_in_order
 order_law = record {
   at_start = λ document. refl;
-  at_event = λ granted before after old new event note items left one inv.
+  at_event = λ before after old new event note items left one inv.
       let by : Followed old.setting old.machine event note items left new.machine = follow_happens old.setting old.machine event note items left new.machine one.follows in
       links_keep old.setting (at_event old.machine) is_orderly is_answered_in_order (order_keeps (at_event old.machine)) items left by.kind new.machine by.happens
       (all_orderly old.machine.links inv.wire.sent inv.wire.replies inv.wire.handled inv.basic.life) inv.wire.in_order;
@@ -64,45 +64,45 @@ order_law = record {
 pub sent_law : IsKept sent_fronts
 sent_law = record {
   at_start = λ document. refl;
-  at_event = λ granted before after old new event note items left one inv.
+  at_event = λ before after old new event note items left one inv.
       let by : Followed old.setting old.machine event note items left new.machine = follow_happens old.setting old.machine event note items left new.machine one.follows in
-      sent_keep old.setting (at_event old.machine) no_test is_sent_front (sent_keeps old.setting (at_event old.machine)) (held_now granted old inv) (every_all no_test old.machine.links (λ link. refl)) inv.wire.sent
+      sent_keep old.setting (at_event old.machine) no_test is_sent_front (sent_keeps old.setting (at_event old.machine)) (held_now old inv) (every_all no_test old.machine.links (λ link. refl)) inv.wire.sent
       items left by.kind new.machine by.happens;
 }
 
 pub left_law : IsKept up_lives
 left_law = record {
   at_start = λ document. refl;
-  at_event = λ granted before after old new event note items left one inv.
+  at_event = λ before after old new event note items left one inv.
       let by : Followed old.setting old.machine event note items left new.machine = follow_happens old.setting old.machine event note items left new.machine one.follows in
-      sent_keep old.setting (at_event old.machine) (ends_at old.machine.event) up_lives_on (lives_keep old.setting (at_event old.machine) old.machine.event) (held_now granted old inv) inv.basic.ended inv.wire.left
+      sent_keep old.setting (at_event old.machine) (ends_at old.machine.event) up_lives_on (lives_keep old.setting (at_event old.machine) old.machine.event) (held_now old inv) inv.basic.ended inv.wire.left
       items left by.kind new.machine by.happens;
 }
 
 pub out_law : IsKept one_out
 out_law = record {
   at_start = λ document. refl;
-  at_event = λ granted before after old new event note items left one inv.
+  at_event = λ before after old new event note items left one inv.
       let by : Followed old.setting old.machine event note items left new.machine = follow_happens old.setting old.machine event note items left new.machine one.follows in
-      sent_keep old.setting (at_event old.machine) no_test one_is_out (out_keeps old.setting (at_event old.machine)) (held_now granted old inv) (every_all no_test old.machine.links (λ link. refl)) inv.wire.out
+      sent_keep old.setting (at_event old.machine) no_test one_is_out (out_keeps old.setting (at_event old.machine)) (held_now old inv) (every_all no_test old.machine.links (λ link. refl)) inv.wire.out
       items left by.kind new.machine by.happens;
 }
 
 pub fresh_law : IsKept are_fresh
 fresh_law = record {
   at_start = λ document. refl;
-  at_event = λ granted before after old new event note items left one inv.
+  at_event = λ before after old new event note items left one inv.
       let by : Followed old.setting old.machine event note items left new.machine = follow_happens old.setting old.machine event note items left new.machine one.follows in
-      sent_keep old.setting (at_event old.machine) is_wired is_fresh (fresh_keeps old.setting (at_event old.machine)) (held_now granted old inv)
+      sent_keep old.setting (at_event old.machine) is_wired is_fresh (fresh_keeps old.setting (at_event old.machine)) (held_now old inv)
       (all_wired old.machine.links inv.wire.sent inv.wire.grammar inv.wire.replies inv.wire.handled) inv.wire.fresh items left by.kind new.machine by.happens;
 }
 
 pub grammar_law : IsKept in_grammar
 grammar_law = record {
   at_start = λ document. refl;
-  at_event = λ granted before after old new event note items left one inv.
+  at_event = λ before after old new event note items left one inv.
       let by : Followed old.setting old.machine event note items left new.machine = follow_happens old.setting old.machine event note items left new.machine one.follows in
-      sent_keep old.setting (at_event old.machine) no_test keeps_grammar (grammar_keeps old.setting (at_event old.machine)) (held_now granted old inv) (every_all no_test old.machine.links (λ link. refl)) inv.wire.grammar
+      sent_keep old.setting (at_event old.machine) no_test keeps_grammar (grammar_keeps old.setting (at_event old.machine)) (held_now old inv) (every_all no_test old.machine.links (λ link. refl)) inv.wire.grammar
       items left by.kind new.machine by.happens;
 }
 
@@ -121,13 +121,13 @@ wire_begins document = record {
 }
 
 pub wire_is_kept : WireIsKept
-wire_is_kept granted before after old new event note items left one inv = record {
-  sent = sent_law.at_event granted before after old new event note items left one inv;
-  replies = replies_law.at_event granted before after old new event note items left one inv;
-  handled = handled_law.at_event granted before after old new event note items left one inv;
-  grammar = grammar_law.at_event granted before after old new event note items left one inv;
-  out = out_law.at_event granted before after old new event note items left one inv;
-  in_order = order_law.at_event granted before after old new event note items left one inv;
-  left = left_law.at_event granted before after old new event note items left one inv;
-  fresh = fresh_law.at_event granted before after old new event note items left one inv;
+wire_is_kept before after old new event note items left one inv = record {
+  sent = sent_law.at_event before after old new event note items left one inv;
+  replies = replies_law.at_event before after old new event note items left one inv;
+  handled = handled_law.at_event before after old new event note items left one inv;
+  grammar = grammar_law.at_event before after old new event note items left one inv;
+  out = out_law.at_event before after old new event note items left one inv;
+  in_order = order_law.at_event before after old new event note items left one inv;
+  left = left_law.at_event before after old new event note items left one inv;
+  fresh = fresh_law.at_event before after old new event note items left one inv;
 }

@@ -28,13 +28,13 @@ use Rattle.server_model.specs.Seen.{Seen}
 use Rattle.server_model.specs.ServiceCalls.{CameFrom, IsOf}
 use Rattle.world_model.specs.Basic.{is_made, sessions_of}
 use Rattle.world_model.specs.Hold.{is_connect}
-use Rattle.world_model.specs.Invariant.{Invariant}
-use Rattle.world_model.specs.KeptLaws.{IsKeptOfImages}
+use Rattle.world_model.specs.Invariant.{Orderly}
+use Rattle.world_model.specs.KeptLaws.{IsKept}
 use Rattle.world_model.specs.Links.{Link, link_at}
 use Rattle.world_model.specs.Machines.{next_session}
 use Rattle.world_model.specs.Matching.{Noted, Went, ServedOn, CutOff, Reaped, Crashed, Opened, OpeningStopped, Ticked, RanOutside, Asked, Drained}
 use Rattle.world_model.specs.Parts.{is_unmarked_frame}
-use Rattle.world_model.specs.Number.{is_of_run, known_so_far}
+use Rattle.world_model.specs.Number.{is_known, is_of_run, known_so_far}
 use Rattle.world_model.specs.OneEvent.{OneEvent}
 use Rattle.world_model.specs.Reached.{traced_start}
 use Rattle.world_model.specs.ServiceDid.{front_served, front_telling}
@@ -98,6 +98,26 @@ grows_made a _ (Connects here more) session is = made_more a.incarnation a.count
 grows_made a _ Outside session is = made_more a.incarnation a.count session is
 grows_made a _ (Reopens incarnation below) session is = made_before a.incarnation a.count incarnation session below is
 
+-- of an incarnation before this one, or made in it
+abbrev known_in : ℕ → ℕ → SessionId → Bool
+known_in incarnation count session = nat_lt session.incarnation incarnation || made_in incarnation count session
+
+grows_later : (a b : Census) → Grows a b → a.incarnation ≤ b.incarnation
+grows_later a _ Stands = omega arith
+grows_later a _ (Connects here more) = omega arith
+grows_later a _ Outside = omega arith
+grows_later a _ (Reopens incarnation below) = omega (arith, below)
+
+lt_later : (n a b : ℕ) → a ≤ b → nat_lt n a ≡ true → nat_lt n b ≡ true
+lt_later n a b most is = grind (arith, nat_tests)
+
+grows_known : (a b : Census) → Grows a b → (session : SessionId) → known_in a.incarnation a.count session ≡ true → known_in b.incarnation b.count session ≡ true
+grows_known a b grows session is = by (or_cases (nat_lt session.incarnation a.incarnation) (made_in a.incarnation a.count session) is)
+  where
+    by : (nat_lt session.incarnation a.incarnation ≡ true) ⊎ (made_in a.incarnation a.count session ≡ true) → known_in b.incarnation b.count session ≡ true
+    by (inl before) = or_left (nat_lt session.incarnation b.incarnation) (made_in b.incarnation b.count session) (lt_later session.incarnation a.incarnation b.incarnation (grows_later a b grows) before)
+    by (inr made) = or_right (nat_lt session.incarnation b.incarnation) (made_in b.incarnation b.count session) (grows_made a b grows session made)
+
 made_among : (test : SessionId → Bool) (session : SessionId) (sessions : List SessionId) → list_all test sessions ≡ true → list_any (same_session session) sessions ≡ true → test session ≡ true
 made_among test session [] all is = absurd (let none : ⊥ = cc in none)
 made_among test session (one ∷ sessions) all is = by (or_cases (same_session session one) (list_any (same_session session) sessions) is) (made_among test session sessions parts.1)
@@ -133,7 +153,7 @@ unmarked_other (up.Outcome x) true is plain = absurd (let none : ⊥ = cc in non
 unmarked_other up.End true is plain = absurd (let none : ⊥ = cc in none)
 unmarked_other up.Close true is plain = absurd (let none : ⊥ = cc in none)
 
-module _ (granted : Draw → Bool) (before after : Seen) (old new : Traced) (event : Event) (note : Note) (items left : List Served) (one : OneEvent before old event note items left after new) (inv : Invariant granted old) where
+module _ (before after : Seen) (old new : Traced) (event : Event) (note : Note) (items left : List Served) (one : OneEvent before old event note items left after new) (inv : Orderly old) where
   abbrev by : Followed old.setting old.machine event note items left new.machine
   by = follow_happens old.setting old.machine event note items left new.machine one.follows
 
@@ -147,7 +167,7 @@ module _ (granted : Draw → Bool) (before after : Seen) (old new : Traced) (eve
       → CommitsAs entry (ServedFrame served.session old.machine.tick front.first.frame told) → among (session_of entry.ltxid) (sessions_of new) new.outside ≡ true
   from_old number front served rest serves at same entry told commits =
       let connects : is_connect front.first.frame ≡ false = (unmarked_other front.first.frame (is_connect front.first.frame) refl (commits_unmarked entry served.session old.machine.tick front.first.frame told commits)) in
-      let has : front.link.session ≡ Some served.session = owns_now granted before after old new event note items left one inv front served rest number serves at same connects in
+      let has : front.link.session ≡ Some served.session = owns_now before after old new event note items left one inv front served rest number serves at same connects in
       let mine : served.session ≡ session_of entry.ltxid = commits_session entry served.session old.machine.tick front.first.frame told commits in
       subst (λ (s : SessionId). among s (sessions_of new) new.outside ≡ true) mine
       (grows_among _ _ grown served.session
@@ -201,7 +221,7 @@ module _ (granted : Draw → Bool) (before after : Seen) (old new : Traced) (eve
   gained_all [] came = refl
   gained_all (entry ∷ more) came =
       let from = All-head (CameFrom one.happened) entry more came in
-      let is : among (session_of entry.ltxid) (sessions_of new) new.outside ≡ true = gained_by by.kind refl (did_now granted before after old new event note items left one inv) from.0 from.1.0 entry from.1.1 in
+      let is : among (session_of entry.ltxid) (sessions_of new) new.outside ≡ true = gained_by by.kind refl (did_now before after old new event note items left one inv) from.0 from.1.0 entry from.1.1 in
       and_from (is_of_run new entry) (list_all (is_of_run new) more) (run_from entry is) (gained_all more (All-tail (CameFrom one.happened) entry more came))
     where
       run_from : (entry : Entry) → among (session_of entry.ltxid) (sessions_of new) new.outside ≡ true → is_of_run new entry ≡ true
@@ -215,7 +235,7 @@ module _ (granted : Draw → Bool) (before after : Seen) (old new : Traced) (eve
 
   made_new : (entry : Entry) → is_of_run new entry ≡ true → is_made new (session_of entry.ltxid) ≡ true
   made_new entry is =
-      let made = and_parts (list_all (is_made new) (sessions_of new)) (list_all (is_made new) new.outside) (made_law.at_event granted before after old new event note items left one inv) in
+      let made = and_parts (list_all (is_made new) (sessions_of new)) (list_all (is_made new) new.outside) (made_law.at_event before after old new event note items left one inv) in
       by_either (or_cases (list_any (same_session (session_of entry.ltxid)) (sessions_of new)) (list_any (same_session (session_of entry.ltxid)) new.outside) (run_among new entry is)) made.0 made.1
     where
       by_either : (list_any (same_session (session_of entry.ltxid)) (sessions_of new) ≡ true) ⊎ (list_any (same_session (session_of entry.ltxid)) new.outside ≡ true) → list_all (is_made new) (sessions_of new) ≡ true → list_all (is_made new) new.outside ≡ true
@@ -225,15 +245,15 @@ module _ (granted : Draw → Bool) (before after : Seen) (old new : Traced) (eve
 
   pub known_now : known_so_far new ≡ true
   known_now =
-      let was = and_parts (list_all (λ entry. is_made old (session_of entry.ltxid)) old.entries) (list_all (is_of_run old) (drop old.image old.entries)) inv.number.known in
+      let was = and_parts (list_all (λ entry. is_known old (session_of entry.ltxid)) old.entries) (list_all (is_of_run old) (drop old.image old.entries)) inv.number.known in
       let own : list_all (is_of_run new) one.more_entries ≡ true = gained_all one.more_entries one.own in
-      let first : list_all (λ entry. is_made new (session_of entry.ltxid)) old.entries ≡ true =
-      weaker_all (λ entry. is_made old (session_of entry.ltxid)) (λ entry. is_made new (session_of entry.ltxid)) old.entries (λ entry is. grows_made _ _ grown (session_of entry.ltxid) is) was.0 in
-      let second : list_all (λ entry. is_made new (session_of entry.ltxid)) one.more_entries ≡ true = weaker_all (is_of_run new) (λ entry. is_made new (session_of entry.ltxid)) one.more_entries made_new own in
+      let first : list_all (λ entry. is_known new (session_of entry.ltxid)) old.entries ≡ true =
+      weaker_all (λ entry. is_known old (session_of entry.ltxid)) (λ entry. is_known new (session_of entry.ltxid)) old.entries (λ entry is. grows_known _ _ grown (session_of entry.ltxid) is) was.0 in
+      let second : list_all (λ entry. is_known new (session_of entry.ltxid)) one.more_entries ≡ true = weaker_all (is_of_run new) (λ entry. is_known new (session_of entry.ltxid)) one.more_entries (λ entry is. or_right (nat_lt entry.ltxid.incarnation new.machine.server.incarnation) (is_made new (session_of entry.ltxid)) (made_new entry is)) own in
       let third : list_all (is_of_run new) (drop old.image old.entries) ≡ true = weaker_all (is_of_run old) (is_of_run new) (drop old.image old.entries) (λ entry is. among_run new entry (grows_among _ _ grown (session_of entry.ltxid) (run_among old entry is))) was.1 in
-      and_from (list_all (λ entry. is_made new (session_of entry.ltxid)) new.entries) (list_all (is_of_run new) (drop new.image new.entries))
-      (ap (list_all (λ entry. is_made new (session_of entry.ltxid))) one.entries ∙ (list_all-append (λ (entry : Entry). is_made new (session_of entry.ltxid)) old.entries one.more_entries
-      ∙ and_from (list_all (λ entry. is_made new (session_of entry.ltxid)) old.entries) (list_all (λ entry. is_made new (session_of entry.ltxid)) one.more_entries) first second))
+      and_from (list_all (λ entry. is_known new (session_of entry.ltxid)) new.entries) (list_all (is_of_run new) (drop new.image new.entries))
+      (ap (list_all (λ entry. is_known new (session_of entry.ltxid))) one.entries ∙ (list_all-append (λ (entry : Entry). is_known new (session_of entry.ltxid)) old.entries one.more_entries
+      ∙ and_from (list_all (λ entry. is_known new (session_of entry.ltxid)) old.entries) (list_all (λ entry. is_known new (session_of entry.ltxid)) one.more_entries) first second))
       (ap (list_all (is_of_run new)) later ∙ (list_all-append (is_of_run new) (drop old.image old.entries) one.more_entries ∙ and_from (list_all (is_of_run new) (drop old.image old.entries)) (list_all (is_of_run new) one.more_entries) third own))
     where
       whole : old.entries ≡ before.start.entries ++ one.coupled_before.history.server.core.entries
@@ -252,36 +272,31 @@ module _ (granted : Draw → Bool) (before after : Seen) (old new : Traced) (eve
 
 -- THE START ---------------------------------------------------------------------------------------
 
-made_image : (journal : Journal) → All (λ entry. entry.ltxid.incarnation ≤ journal.incarnation) journal.entries → (entries : List Entry) → All (λ entry. entry.ltxid.incarnation ≤ journal.incarnation) entries → list_all (λ entry. nat_lt 0 entry.ltxid.session) entries ≡ true
-    → list_all (λ entry. made_in (journal.incarnation + 1) 0 (session_of entry.ltxid)) entries ≡ true
-made_image journal all [] earlier from_one = refl
-made_image journal all (entry ∷ entries) earlier from_one =
-    let parts = and_parts (nat_lt 0 entry.ltxid.session) (list_all (λ one. nat_lt 0 one.ltxid.session) entries) from_one in
+known_image : (journal : Journal) → (entries : List Entry) → All (λ entry. entry.ltxid.incarnation ≤ journal.incarnation) entries → list_all (λ entry. known_in (journal.incarnation + 1) 0 (session_of entry.ltxid)) entries ≡ true
+known_image journal [] earlier = refl
+known_image journal (entry ∷ entries) earlier =
     let most : entry.ltxid.incarnation ≤ journal.incarnation = All-head (λ (e : Entry). e.ltxid.incarnation ≤ journal.incarnation) entry entries earlier in
     let below : entry.ltxid.incarnation < journal.incarnation + 1 = omega arith in
-    and_from (made_in (journal.incarnation + 1) 0 (session_of entry.ltxid)) (list_all (λ one. made_in (journal.incarnation + 1) 0 (session_of one.ltxid)) entries)
-    (and_from (nat_lt 0 entry.ltxid.session) _ parts.0
-    (or_left (nat_lt entry.ltxid.incarnation (journal.incarnation + 1)) ((entry.ltxid.incarnation == journal.incarnation + 1) && nat_le entry.ltxid.session 0) (lt_to entry.ltxid.incarnation (journal.incarnation + 1) below)))
-    (made_image journal all entries (All-tail (λ (e : Entry). e.ltxid.incarnation ≤ journal.incarnation) entry entries earlier) parts.1)
+    and_from (known_in (journal.incarnation + 1) 0 (session_of entry.ltxid)) (list_all (λ one. known_in (journal.incarnation + 1) 0 (session_of one.ltxid)) entries)
+    (or_left (nat_lt entry.ltxid.incarnation (journal.incarnation + 1)) (made_in (journal.incarnation + 1) 0 (session_of entry.ltxid)) (lt_to entry.ltxid.incarnation (journal.incarnation + 1) below))
+    (known_image journal entries (All-tail (λ (e : Entry). e.ltxid.incarnation ≤ journal.incarnation) entry entries earlier))
 
-given_made : EachKeeps → (base : Base) (image : Option (List ℕ)) → list_all (λ entry. nat_lt 0 entry.ltxid.session) (given_journal base image).entries ≡ true
-    → list_all (λ entry. made_in ((given_journal base image).incarnation + 1) 0 (session_of entry.ltxid)) (given_journal base image).entries ≡ true
-given_made keeps base None from_one = refl
-given_made keeps base (Some image) from_one = by (journal_of image) refl from_one
+given_known : EachKeeps → (base : Base) (image : Option (List ℕ)) → list_all (λ entry. known_in ((given_journal base image).incarnation + 1) 0 (session_of entry.ltxid)) (given_journal base image).entries ≡ true
+given_known keeps base None = refl
+given_known keeps base (Some image) = by (journal_of image) refl
   where
-    by : (read : Result Journal ℕ) → journal_of image ≡ read → list_all (λ entry. nat_lt 0 entry.ltxid.session) (read_journal base read).entries ≡ true
-        → list_all (λ entry. made_in ((read_journal base read).incarnation + 1) 0 (session_of entry.ltxid)) (read_journal base read).entries ≡ true
-    by (Err place) is from_one = refl
-    by (Ok journal) is from_one = let earlier = (keeps image journal is).commits.earlier in made_image journal earlier journal.entries earlier from_one
+    by : (read : Result Journal ℕ) → journal_of image ≡ read → list_all (λ entry. known_in ((read_journal base read).incarnation + 1) 0 (session_of entry.ltxid)) (read_journal base read).entries ≡ true
+    by (Err place) is = refl
+    by (Ok journal) is = known_image journal journal.entries (keeps image journal is).commits.earlier
 
 none_later : (test : Entry → Bool) (entries : List Entry) → list_all test (drop (length entries) entries) ≡ true
 none_later test entries = ap (list_all test) (ap (drop (length entries)) (sym (append-nil entries)) ∙ drop-append_seam entries [])
 
-pub known_law : EachKeeps → IsKeptOfImages known_so_far
+pub known_law : EachKeeps → IsKept known_so_far
 known_law keeps = record {
-  at_start = λ document from_one.
+  at_start = λ document.
       let journal : Journal = journal_before document in
-      and_from (list_all (λ entry. made_in (journal.incarnation + 1) 0 (session_of entry.ltxid)) journal.entries) (list_all (is_of_run (traced_start document)) (drop (length journal.entries) journal.entries))
-      (given_made keeps (base_of document) document.image from_one) (none_later (is_of_run (traced_start document)) journal.entries);
-  at_event = λ granted before after old new event note items left one inv. known_now granted before after old new event note items left one inv;
+      and_from (list_all (λ entry. known_in (journal.incarnation + 1) 0 (session_of entry.ltxid)) journal.entries) (list_all (is_of_run (traced_start document)) (drop (length journal.entries) journal.entries))
+      (given_known keeps (base_of document) document.image) (none_later (is_of_run (traced_start document)) journal.entries);
+  at_event = λ before after old new event note items left one inv. known_now before after old new event note items left one inv;
 }

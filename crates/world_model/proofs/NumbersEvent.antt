@@ -21,8 +21,7 @@ use Rattle.server_model.specs.Seen.{Seen}
 use Rattle.world_model.specs.Basic.{is_made, is_named, sessions_of}
 use Rattle.world_model.specs.Frames.{Sent, Handled}
 use Rattle.world_model.specs.Hold.{is_connect}
-use Rattle.world_model.specs.Invariant.{Invariant}
-use Rattle.world_model.specs.KeptLaws.{StoresByCommit}
+use Rattle.world_model.specs.Invariant.{Orderly}
 use Rattle.world_model.specs.Links.{Link, new_link, link_at, sends, takes}
 use Rattle.world_model.specs.Acting.{sent_by}
 use Rattle.world_model.specs.Machines.{Machine, next_session}
@@ -61,7 +60,7 @@ use Rattle.world_model.proofs.NumbersItems.{commit_connects, connect_marked, cra
 
 -- THE EVENT ---------------------------------------------------------------------------------------
 
-module _ (granted : Draw → Bool) (before after : Seen) (old new : Traced) (event : Event) (note : Note) (items left : List Served) (one : OneEvent before old event note items left after new) (inv : Invariant granted old) where
+module _ (before after : Seen) (old new : Traced) (event : Event) (note : Note) (items left : List Served) (one : OneEvent before old event note items left after new) (inv : Orderly old) where
   abbrev m : Machine
   m = at_event old.machine
 
@@ -159,7 +158,7 @@ module _ (granted : Draw → Bool) (before after : Seen) (old new : Traced) (eve
           told_front (is ∙ (ap (λ (test : Bool). if test then front_served old.machine.tick (front_at links other) items else []) (up_by number front.link there.there there.living) ∙ ap (λ (n : ℕ). front_served old.machine.tick (front_at links n) items) equal))
       cases what serves is = absurd (let none : ⊥ = cc in none)
 
-  module _ (numbers : EntryNumbers) (stores : StoresByCommit) where
+  module _ (numbers : EntryNumbers) where
     -- A FRAME THAT IS SERVED ----------------------------------------------------------------------
 
     module _ (number : ℕ) (front : Front) (served : Served) (at : front_at links number ≡ Some front) (happens : one.happened ≡ ServedFrame served.session old.machine.tick front.first.frame (front_telling front served) ∷ [])
@@ -202,31 +201,31 @@ module _ (granted : Draw → Bool) (before after : Seen) (old new : Traced) (eve
 
       unmarked_none : is_unmarked_frame front.first.frame ≡ false → entries_more_here ≡ 0
       unmarked_none marked =
-          marked_none before after old new one.coupled_before one.coupled_after one.start inv.number.entries still numbers stores one.more_entries one.entries one.happened one.own one.history number front served is.there is.living happens marked session
+          marked_none before after old new one.coupled_before one.coupled_after one.start inv.number.entries still numbers one.more_entries one.entries one.happened one.own one.history number front served is.there is.living happens marked session
 
       plain_none : is_commit served.item ≡ false → is_halted served.item ≡ false → entries_more_here ≡ 0
       plain_none none going =
-          uncommitted_none before after old new one.coupled_before one.coupled_after one.start inv.number.entries still numbers stores one.more_entries one.entries one.happened one.own one.history number front served is.there is.living happens none
+          uncommitted_none before after old new one.coupled_before one.coupled_after one.start inv.number.entries still numbers one.more_entries one.entries one.happened one.own one.history number front served is.there is.living happens none
           (told_item served.session (commits_after front.link served.item) served.item going) session
 
       old_count : is_connect front.first.frame ≡ false → entries_old ≡ front.link.commits
       old_count connects =
-          count_is before after old new one.coupled_before one.coupled_after one.start inv.number.entries still numbers stores one.more_entries one.entries one.happened one.own one.history number front served is.there is.living happens
+          count_is before after old new one.coupled_before one.coupled_after one.start inv.number.entries still numbers one.more_entries one.entries one.happened one.own one.history number front served is.there is.living happens
           (has connects) (seen_up runs_on) (present connects)
 
       new_few : is_connect front.first.frame ≡ false → entries_new ≤ entries_old + 1
       new_few connects =
-          count_few before after old new one.coupled_before one.coupled_after one.start inv.number.entries still numbers stores one.more_entries one.entries one.happened one.own one.history number front served is.there is.living happens
+          count_few before after old new one.coupled_before one.coupled_after one.start inv.number.entries still numbers one.more_entries one.entries one.happened one.own one.history number front served is.there is.living happens
           (has connects) (seen_up runs_on) (present connects)
 
       grew : is_connect front.first.frame ≡ false → 1 ≤ entries_more_here → is_commit_frame front.first.frame ≡ true
       grew connects more =
-          grew_commit before after old new one.coupled_before one.coupled_after one.start inv.number.entries still numbers stores one.more_entries one.entries one.happened one.own one.history number front served is.there is.living happens
+          grew_commit before after old new one.coupled_before one.coupled_after one.start inv.number.entries still numbers one.more_entries one.entries one.happened one.own one.history number front served is.there is.living happens
           (has connects) (seen_up runs_on) (present connects) more
 
       committed_more : is_connect front.first.frame ≡ false → is_item_of front.first.frame served.item ≡ true → is_commit served.item ≡ true → entries_old + 1 ≤ entries_new
       committed_more connects item_is commits =
-          count_committed before after old new one.coupled_before one.coupled_after one.start inv.number.entries still numbers stores one.more_entries one.entries one.happened one.own one.history number front served is.there is.living happens
+          count_committed before after old new one.coupled_before one.coupled_after one.start inv.number.entries still numbers one.more_entries one.entries one.happened one.own one.history number front served is.there is.living happens
           (has connects) (seen_up runs_on) (present connects) item_is commits
 
       held_now_some : is_connect front.first.frame ≡ false → is_some front.link.held ≡ true
@@ -270,7 +269,7 @@ module _ (granted : Draw → Bool) (before after : Seen) (old new : Traced) (eve
           cases true true connects commits = absurd (not_both (is_connect front.first.frame) connects (commit_connects front.first.frame served.item item_is commits))
           cases true false connects none =
               let made_next : session ≡ next_session old.machine.server = connected front.first.frame connects (serving m front served of_front) in
-              let zero_old : entries_old ≡ 0 = ap (entries_of old.entries) made_next ∙ none_of_session old.machine.server old.entries (and_parts (list_all (λ entry. is_made old (session_of entry.ltxid)) old.entries) _ inv.number.known).0 in
+              let zero_old : entries_old ≡ 0 = ap (entries_of old.entries) made_next ∙ none_of_session old.machine.server old.entries (and_parts (list_all (λ entry. is_known old (session_of entry.ltxid)) old.entries) _ inv.number.known).0 in
               let more : entries_more_here ≡ 0 = unmarked_none (connect_marked front.first.frame connects) in
               let wired : is_wired front.link ≡ true = at_link is_wired links number front.link (all_wired links inv.wire.sent inv.wire.grammar inv.wire.replies inv.wire.handled) is.there in
               let served_none : front.link.served ≡ [] = connect_first front.link front.first front.later (wired_sent front.link wired) (wired_right front.link wired) is.up connects in
@@ -386,7 +385,7 @@ module _ (granted : Draw → Bool) (before after : Seen) (old new : Traced) (eve
         (record { least = le_refl 0; most = le_refl 0; counted = refl; ahead = λ over. absurd (let never : ⊥ = cc in never) })
 
     pub right_now : (number : ℕ) (next : Link) → link_at new.machine.links number ≡ Some next → Right (number_of new.entries next) next
-    right_now number next here = cases (all_turn old.setting m (held_now granted old inv) items left kind new.machine by.happens number next here)
+    right_now number next here = cases (all_turn old.setting m (held_now old inv) items left kind new.machine by.happens number next here)
       where
         cases : ComesFrom m items left kind number next → Right (number_of new.entries next) next
         cases (IsNew owner same) = subst (λ (l : Link). Right (number_of new.entries l) l) (sym same) (new_right (sent_by owner 0 up.Connect ∷ []))

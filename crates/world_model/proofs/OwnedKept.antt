@@ -216,7 +216,7 @@ may_own setting m n talks (Stepped number step) all = stepped_owned setting m ta
 pub owned_law : IsKept are_owned
 owned_law = record {
   at_start = λ document. refl;
-  at_event = λ granted before after old new event note items left one inv.
+  at_event = λ before after old new event note items left one inv.
       let by : Followed old.setting old.machine event note items left new.machine = follow_happens old.setting old.machine event note items left new.machine one.follows in
       subst (λ (setting : Setting). owned_rightly (courses_of_clients setting 1 new.machine.clients) 1 new.machine.links ≡ true) (sym one.setting)
       (may_own old.setting (at_event old.machine) new.machine inv.script.talks (happens_step old.setting (at_event old.machine) items left by.kind new.machine by.happens) inv.script.owned);

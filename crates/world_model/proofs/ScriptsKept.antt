@@ -146,7 +146,7 @@ first_scripts document index (suc before) is = let same : before ≡ index = ome
 pub scripts_law : IsKept follow_scripts
 scripts_law = record {
   at_start = λ document. resting_follow (traced_start document) 1 document.clients (first_scripts document);
-  at_event = λ granted before after old new event note items left one inv.
+  at_event = λ before after old new event note items left one inv.
       let by : Followed old.setting old.machine event note items left new.machine = follow_happens old.setting old.machine event note items left new.machine one.follows in
       same_follow old new 1 new.machine.clients one.setting
       (may_follow old (at_event old.machine) new.machine inv.script.scripts (happens_step old.setting (at_event old.machine) items left by.kind new.machine by.happens));

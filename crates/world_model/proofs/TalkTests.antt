@@ -16,7 +16,7 @@ use Rattle.world_model.specs.Clients.{Step, Doing, Past, Client}
 use Rattle.world_model.specs.Traced.{Traced, Course, course_over, course_now, courses_from, courses_of_clients, courses_of}
 use Rattle.world_model.specs.Conversing.{timed, inputs_of, first_talk, Converses, Talks, IsThrough, AreThrough, IsTalking, AllTalk}
 use Rattle.world_model.specs.Followed.{same_outcome, tells_steps}
-use Rattle.world_model.specs.Reports.{report_of}
+use Rattle.run_clauses.specs.Reports.{report_of}
 use Rattle.world_model.specs.Script.{same_sends, is_act_of, may_all_come, acts_follow, place_of, is_conversation, are_conversations, reports_rightly, report_rightly}
 use Rattle.world_model.specs.Words.{dones_of}
 use Rattle.world_model.proofs.AllLists.{append_all}

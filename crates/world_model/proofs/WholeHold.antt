@@ -15,12 +15,12 @@ hold_begins document = record {
 }
 
 pub hold_is_kept : HoldIsKept
-hold_is_kept granted before after old new event note items left one inv = record {
-  had = had_law.at_event granted before after old new event note items left one inv;
-  idle = idle_law.at_event granted before after old new event note items left one inv;
-  lent = lent_law.at_event granted before after old new event note items left one inv;
-  queue = queue_law.at_event granted before after old new event note items left one inv;
-  opened = opened_law.at_event granted before after old new event note items left one inv;
-  held = held_law.at_event granted before after old new event note items left one inv;
-  by_held = by_held_law.at_event granted before after old new event note items left one inv;
+hold_is_kept before after old new event note items left one inv = record {
+  had = had_law.at_event before after old new event note items left one inv;
+  idle = idle_law.at_event before after old new event note items left one inv;
+  lent = lent_law.at_event before after old new event note items left one inv;
+  queue = queue_law.at_event before after old new event note items left one inv;
+  opened = opened_law.at_event before after old new event note items left one inv;
+  held = held_law.at_event before after old new event note items left one inv;
+  by_held = by_held_law.at_event before after old new event note items left one inv;
 }

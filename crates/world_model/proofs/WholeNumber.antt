@@ -2,16 +2,15 @@
 use Rattle.std.proofs.Common.{refl}
 use Rattle.commit_log.specs.Keeping.{EachKeeps}
 use Rattle.server_model.specs.Laws.{EntryNumbers}
-use Rattle.world_model.specs.KeptLaws.{NumberBegins, NumberIsKept, StoresByCommit, RunsKeepBase}
+use Rattle.world_model.specs.KeptLaws.{NumberBegins, NumberIsKept}
 use Rattle.world_model.proofs.Blocks.{blocks_law}
 use Rattle.world_model.proofs.KeptAhead.{near_law, counted_law, ahead_law}
-use Rattle.world_model.proofs.KeptAnswers.{answers_law}
 use Rattle.world_model.proofs.KeptEntries.{entries_law, unblocked_law, blocks_begin}
 use Rattle.world_model.proofs.KeptNumber.{near_law as served_law, told_law}
 use Rattle.world_model.proofs.KnownSessions.{known_law}
 
 pub number_begins : EachKeeps → NumberBegins
-number_begins keeps document from_one = record {
+number_begins keeps document = record {
   near = refl;
   counted = refl;
   told = told_law.at_start document;
@@ -19,21 +18,19 @@ number_begins keeps document from_one = record {
   ahead = refl;
   blocks = blocks_begin keeps document;
   entries = (entries_law keeps).at_start document;
-  known = (known_law keeps).at_start document from_one;
-  answers = refl;
+  known = (known_law keeps).at_start document;
   unblocked = (unblocked_law keeps).at_start document;
 }
 
-pub number_is_kept : EachKeeps → EntryNumbers → StoresByCommit → RunsKeepBase → NumberIsKept
-number_is_kept keeps numbers stores base granted before after old new event note items left one inv = record {
-  near = (near_law numbers stores).at_event granted before after old new event note items left one inv;
-  counted = (counted_law numbers stores).at_event granted before after old new event note items left one inv;
-  told = told_law.at_event granted before after old new event note items left one inv;
-  served = served_law.at_event granted before after old new event note items left one inv;
-  ahead = (ahead_law numbers stores).at_event granted before after old new event note items left one inv;
+pub number_is_kept : EachKeeps → EntryNumbers → NumberIsKept
+number_is_kept keeps numbers before after old new event note items left one inv = record {
+  near = (near_law numbers).at_event before after old new event note items left one inv;
+  counted = (counted_law numbers).at_event before after old new event note items left one inv;
+  told = told_law.at_event before after old new event note items left one inv;
+  served = served_law.at_event before after old new event note items left one inv;
+  ahead = (ahead_law numbers).at_event before after old new event note items left one inv;
   blocks = blocks_law after new one.coupled_after;
-  entries = (entries_law keeps).at_event granted before after old new event note items left one inv;
-  known = (known_law keeps).at_event granted before after old new event note items left one inv;
-  answers = (answers_law base).at_event granted before after old new event note items left one inv;
-  unblocked = (unblocked_law keeps).at_event granted before after old new event note items left one inv;
+  entries = (entries_law keeps).at_event before after old new event note items left one inv;
+  known = (known_law keeps).at_event before after old new event note items left one inv;
+  unblocked = (unblocked_law keeps).at_event before after old new event note items left one inv;
 }

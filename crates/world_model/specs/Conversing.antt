@@ -6,7 +6,7 @@ use Rattle.client_model.specs.Terms.{Terms, Talk, Idle, requested}
 use Rattle.client_model.specs.Conversation.{Timed, steps_of, talk_after, talk_at, done_at, is_gone_next, MayCome}
 use Rattle.outage_schedule.specs.declared.document.Request.{Request}
 use Rattle.world_model.specs.Clients.{Step, Doing, Past, Client}
-use Rattle.world_model.specs.Reports.{report_of}
+use Rattle.run_clauses.specs.Reports.{report_of}
 use Rattle.world_model.specs.Words.{dones_of}
 
 abbrev pub timed : Step → Timed

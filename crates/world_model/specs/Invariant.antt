@@ -2,21 +2,29 @@
 use Rattle.std.specs.Prelude.{Bool}
 use Rattle.svc_values.specs.declared.draw.Draw.{Draw}
 use Rattle.world_model.specs.Traced.{Traced}
+use Rattle.world_model.specs.Ready.{IsOfCalls}
 use Rattle.world_model.specs.Basic.{Basic}
 use Rattle.world_model.specs.Wire.{Wire}
 use Rattle.world_model.specs.Hold.{Hold}
 use Rattle.world_model.specs.Script.{Script}
 use Rattle.world_model.specs.Number.{Number}
+use Rattle.world_model.specs.Shown.{Shown}
 use Rattle.world_model.specs.Lost.{Lost}
 use Rattle.world_model.specs.Once.{Once}
 use Rattle.world_model.specs.Same.{Same}
 
-pub record Invariant (granted : Draw → Bool) (t : Traced) : Type 0 where
+-- What stands on itself: it is kept with nothing of the rest, and is all that serving and sending need.
+pub record Orderly (t : Traced) : Type 0 where
+  pub setting : IsOfCalls t.setting
   pub basic : Basic t
   pub wire : Wire t
   pub hold : Hold t
   pub script : Script t
   pub number : Number t
+
+pub record Invariant (granted : Draw → Bool) (t : Traced) : Type 0 where
+  pub orderly : Orderly t
+  pub shown : Shown t
   pub lost : Lost t
   pub once : Once t
   pub same : Same granted t

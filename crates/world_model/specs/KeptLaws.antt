@@ -1,4 +1,4 @@
--- What of the invariant is kept: it holds of the start, and of the state behind each event if the whole invariant held before.
+-- What of the invariant is kept: it holds of the start, and of the state behind each event if what is orderly held before.
 use Rattle.std.specs.Prelude.{◌≡◌, ℕ, Bool, false, nat_lt, IsTrue, List}
 use Rattle.std.specs.List.{list_all}
 use Rattle.svc_values.specs.declared.draw.Draw.{Draw}
@@ -24,7 +24,7 @@ use Rattle.world_model.specs.Basic.{Basic}
 use Rattle.world_model.specs.Wire.{Wire}
 use Rattle.world_model.specs.Hold.{Hold}
 use Rattle.world_model.specs.Number.{Number}
-use Rattle.world_model.specs.Invariant.{Invariant}
+use Rattle.world_model.specs.Invariant.{Orderly, Invariant}
 use Rattle.world_model.specs.OneEvent.{OneEvent}
 use Rattle.world_model.specs.Conversing.{AllTalk}
 use Rattle.world_model.specs.Coupled.{Coupled}
@@ -33,15 +33,14 @@ use Rattle.world_model.specs.Reached.{traced_start}
 -- a test of the state
 pub record IsKept (test : Traced → Bool) : Type 0 where
   pub at_start : (document : Document) → IsTrue (test (traced_start document))
-  pub at_event : (granted : Draw → Bool) (before after : Seen) (old new : Traced) (event : Event) (note : Note) (items left : List Served)
-      → OneEvent before old event note items left after new → Invariant granted old → IsTrue (test new)
+  pub at_event : (before after : Seen) (old new : Traced) (event : Event) (note : Note) (items left : List Served)
+      → OneEvent before old event note items left after new → Orderly old → IsTrue (test new)
 
 -- a test of the state, in runs of documents whose requests each have a call
 pub record IsKeptOfCalls (test : Traced → Bool) : Type 0 where
   pub at_start : (document : Document) → IsTrue (all_have_calls document) → IsTrue (test (traced_start document))
-  pub at_event : (document : Document) → IsTrue (all_have_calls document)
-      → (granted : Draw → Bool) (before after : Seen) (old new : Traced) (event : Event) (note : Note) (items left : List Served)
-      → old.setting ≡ setting_of document → OneEvent before old event note items left after new → Invariant granted old → IsTrue (test new)
+  pub at_event : (before after : Seen) (old new : Traced) (event : Event) (note : Note) (items left : List Served)
+      → OneEvent before old event note items left after new → Orderly old → IsTrue (test new)
 
 -- a test of each state that has a service beside it: of the start of a run, and of the state behind each of its events
 abbrev pub IsOfService : (Traced → Bool) → Type 0
@@ -53,8 +52,8 @@ BasicBegins = (document : Document) → Basic (traced_start document)
 
 abbrev pub BasicIsKept : Type 0
 BasicIsKept =
-    (granted : Draw → Bool) (before after : Seen) (old new : Traced) (event : Event) (note : Note) (items left : List Served)
-    → OneEvent before old event note items left after new → Invariant granted old → Basic new
+    (before after : Seen) (old new : Traced) (event : Event) (note : Note) (items left : List Served)
+    → OneEvent before old event note items left after new → Orderly old → Basic new
 
 -- the record of the frames of connections as a whole
 abbrev pub WireBegins : Type 0
@@ -62,8 +61,8 @@ WireBegins = (document : Document) → Wire (traced_start document)
 
 abbrev pub WireIsKept : Type 0
 WireIsKept =
-    (granted : Draw → Bool) (before after : Seen) (old new : Traced) (event : Event) (note : Note) (items left : List Served)
-    → OneEvent before old event note items left after new → Invariant granted old → Wire new
+    (before after : Seen) (old new : Traced) (event : Event) (note : Note) (items left : List Served)
+    → OneEvent before old event note items left after new → Orderly old → Wire new
 
 -- the record of who holds which connection and slot as a whole
 abbrev pub HoldBegins : Type 0
@@ -71,8 +70,8 @@ HoldBegins = (document : Document) → Hold (traced_start document)
 
 abbrev pub HoldIsKept : Type 0
 HoldIsKept =
-    (granted : Draw → Bool) (before after : Seen) (old new : Traced) (event : Event) (note : Note) (items left : List Served)
-    → OneEvent before old event note items left after new → Invariant granted old → Hold new
+    (before after : Seen) (old new : Traced) (event : Event) (note : Note) (items left : List Served)
+    → OneEvent before old event note items left after new → Orderly old → Hold new
 
 -- the conversations of all requests, to the letter
 abbrev pub TalksBegin : Type 0
@@ -80,34 +79,26 @@ TalksBegin = (document : Document) → AllTalk (setting_of document).terms (trac
 
 abbrev pub TalksAreKept : Type 0
 TalksAreKept =
-    (granted : Draw → Bool) (before after : Seen) (old new : Traced) (event : Event) (note : Note) (items left : List Served)
-    → OneEvent before old event note items left after new → Invariant granted old → AllTalk new.setting.terms new.machine.clients
+    (before after : Seen) (old new : Traced) (event : Event) (note : Note) (items left : List Served)
+    → OneEvent before old event note items left after new → Orderly old → AllTalk new.setting.terms new.machine.clients
 
--- A call without a commit stores no entry. (A premise of some of the laws, on the plain server.)
-abbrev pub StoresByCommit : Type 0
-StoresByCommit =
-    (core : Core) (sess : Sess) (now : ℕ) (replay : Bool) (kept : List Draw) (called : Call) (after : Core) (t : Sess) (told : Telling)
-    → Serve core sess now (up.Call replay kept called) after t told → has_commit called ≡ false → after.entries ≡ core.entries
-
--- no entry of the image is of a session of the number 0, which no server makes
-abbrev pub image_from_one : Document → Bool
-image_from_one document = list_all (λ entry. nat_lt 0 entry.ltxid.session) (journal_before document).entries
-
--- a test of the state, in runs of documents whose images have no such entry
-pub record IsKeptOfImages (test : Traced → Bool) : Type 0 where
-  pub at_start : (document : Document) → IsTrue (image_from_one document) → IsTrue (test (traced_start document))
+-- a test of the state, kept where the whole invariant held before
+pub record IsKeptOfAll (test : Traced → Bool) : Type 0 where
+  pub at_start : (document : Document) → IsTrue (test (traced_start document))
   pub at_event : (granted : Draw → Bool) (before after : Seen) (old new : Traced) (event : Event) (note : Note) (items left : List Served)
       → OneEvent before old event note items left after new → Invariant granted old → IsTrue (test new)
 
--- A run of the plain server keeps its base. (A premise of some of the laws, too.)
-abbrev pub RunsKeepBase : Type 0
-RunsKeepBase = (base : Base) (history : List Happened) (server : Server) → Runs base history server → server.core.base ≡ base
-
 -- the record of identifiers and entries as a whole
 abbrev pub NumberBegins : Type 0
-NumberBegins = (document : Document) → IsTrue (image_from_one document) → Number (traced_start document)
+NumberBegins = (document : Document) → Number (traced_start document)
 
 abbrev pub NumberIsKept : Type 0
 NumberIsKept =
-    (granted : Draw → Bool) (before after : Seen) (old new : Traced) (event : Event) (note : Note) (items left : List Served)
-    → OneEvent before old event note items left after new → Invariant granted old → Number new
+    (before after : Seen) (old new : Traced) (event : Event) (note : Note) (items left : List Served)
+    → OneEvent before old event note items left after new → Orderly old → Number new
+
+-- what is orderly, as a whole, in runs of documents whose requests each have a call
+pub record OrderlyIsKept : Type 0 where
+  pub at_start : (document : Document) → IsTrue (all_have_calls document) → Orderly (traced_start document)
+  pub at_event : (before after : Seen) (old new : Traced) (event : Event) (note : Note) (items left : List Served)
+      → OneEvent before old event note items left after new → Orderly old → Orderly new

@@ -26,13 +26,13 @@ pub mod Outside
 pub mod Parts
 pub mod Reached
 pub mod Ready
-pub mod Reports
 pub mod Same
 pub mod Sames
 pub mod Script
 pub mod ServiceDid
 pub mod Serving
 pub mod Settings
+pub mod Shown
 pub mod Told
 pub mod Traced
 pub mod Walking

@@ -100,26 +100,19 @@ numbered_after before (entry ∷ entries) = (entry.ltxid.number == entries_of be
 abbrev pub entries_numbered : Traced → Bool
 entries_numbered t = numbered_after [] t.entries
 
--- N6: an entry is of a session that was made; one of this run is of a connection's session, or of an `outside`
+-- N6: an entry is of an incarnation before this one, or of a session that was made; one of this run is of a connection's session, or of
+-- an `outside`
 abbrev pub is_session : Ltxid → SessionId → Bool
 is_session x session = is_of_session session x
 
 abbrev pub is_of_run : Traced → Entry → Bool
 is_of_run t entry = list_any (λ link. option_map_or (is_session entry.ltxid) link.session false) t.machine.links || list_any (is_session entry.ltxid) t.outside
 
+abbrev pub is_known : Traced → SessionId → Bool
+is_known t session = nat_lt session.incarnation t.machine.server.incarnation || is_made t session
+
 abbrev pub known_so_far : Traced → Bool
-known_so_far t = list_all (λ entry. is_made t (session_of entry.ltxid)) t.entries && list_all (is_of_run t) (drop t.image t.entries)
-
--- N7: what was answered of an identifier stands: uncommitted, it is blocked; committed, its entry is there; and no other answer but forgotten
-abbrev pub stands : Traced → Item → Bool
-stands t (item.Outcome x told.Uncommitted) = holds t.blocked x
-stands t (item.Outcome x (told.Committed completed)) = option_map_or (same_bool completed) (completed_of t.entries x) false
-stands t (item.Outcome x (told.Forgotten horizon)) = true
-stands t (item.Outcome x other) = false
-stands t one = true
-
-abbrev pub answers_stand : Traced → Bool
-answers_stand t = list_all (λ link. list_all (λ one. stands t one.served.item) link.served) t.machine.links
+known_so_far t = list_all (λ entry. is_known t (session_of entry.ltxid)) t.entries && list_all (is_of_run t) (drop t.image t.entries)
 
 -- N8: no entry has a blocked identifier
 abbrev pub none_blocked : Traced → Bool
@@ -134,5 +127,4 @@ pub record Number (t : Traced) : Type 0 where
   pub blocks : IsTrue (blocks_next t)
   pub entries : IsTrue (entries_numbered t)
   pub known : IsTrue (known_so_far t)
-  pub answers : IsTrue (answers_stand t)
   pub unblocked : IsTrue (none_blocked t)

@@ -1,5 +1,5 @@
 -- What a request in course is ready for: what it says next fits the grammar of its connection.
-use Rattle.std.specs.Prelude.{◌==◌, ◌&&◌, Bool, true, false, not, List, [], ◌∷◌, length, None, is_none}
+use Rattle.std.specs.Prelude.{◌≡◌, ◌==◌, ◌&&◌, Bool, true, false, not, IsTrue, List, [], ◌∷◌, length, None, is_none}
 use Rattle.std.specs.List.{list_all}
 use Rattle.std.specs.Option.{option_map_or}
 use Rattle.svc_values.specs.declared.answer.Answer.TheVariants as answer
@@ -12,6 +12,7 @@ use Rattle.client_model.specs.declared.track.Track.{Track}
 use Rattle.client_model.specs.Terms.{Terms, Talk, Phase, Unbegun, Queued, Seeking, Greeting, Running, Replaying}
 use Rattle.client_model.specs.Talk.{next_call}
 use Rattle.client_model.specs.Laws.{track_of}
+use Rattle.world_model.specs.Settings.{Setting, setting_of}
 use Rattle.world_model.specs.Clients.{Doing, Client}
 use Rattle.world_model.specs.Words.{held_in}
 use Rattle.world_model.specs.Traced.{Traced}
@@ -24,6 +25,12 @@ has_calls request = not (length request.calls == 0)
 -- each request of the document has a call
 abbrev pub all_have_calls : Document → Bool
 all_have_calls document = list_all (λ client. list_all has_calls client.requests) document.clients
+
+-- the setting is that of such a document
+pub record IsOfCalls (setting : Setting) : Type 0 where
+  pub document : Document
+  pub same : setting ≡ setting_of document
+  pub calls : IsTrue (all_have_calls document)
 
 -- PHASES ------------------------------------------------------------------------------------------
 

@@ -1,4 +1,4 @@
--- InvScript: each request is a conversation, and shows what its sessions served.
+-- InvScript: each request is a conversation of its client, and what it sends is its script's.
 use Rattle.std.specs.Prelude.{ℕ, ◌+◌, ◌==◌, ◌&&◌, ◌||◌, Bool, true, false, cond, nat_le, if◌then◌else◌, IsTrue, List, [], ◌∷◌, ◌++◌, length, map, filter, take, slice_get, Option, Some, None, is_some, is_none}
 use Rattle.std.specs.List.{list_all, list_any}
 use Rattle.std.specs.Option.{option_map_or}
@@ -29,7 +29,7 @@ use Rattle.world_model.specs.Links.{Link, link_at}
 use Rattle.world_model.specs.Clients.{Step, Past, Client, reports_of, script_at}
 use Rattle.world_model.specs.Conversing.{AllTalk, timed, inputs_of, first_talk}
 use Rattle.world_model.specs.Followed.{tells_steps}
-use Rattle.world_model.specs.Reports.{report_of}
+use Rattle.run_clauses.specs.Reports.{report_of}
 use Rattle.world_model.specs.Traced.{Traced, Course, courses_of}
 use Rattle.world_model.specs.Sames.{owned_by, same_owner, same_up}
 use Rattle.run_clauses.specs.Tried.{holds}
@@ -150,92 +150,6 @@ reports_rightly t course =
 abbrev pub report_rightly : Traced → Bool
 report_rightly t = list_all (reports_rightly t) (courses_of t)
 
--- S6: WHERE A SHOWN CALL IS FROM ------------------------------------------------------------------
-
-abbrev pub is_shown_item : Call → ShownCall → Item → Bool
-is_shown_item call shown (item.Call false served answers draws) = same_call served call && (same_answers answers shown.answers && same_draws draws shown.draws)
-is_shown_item call shown _ = false
-
--- on this connection, an item of this call of this request, under this identifier (the one after it)
-abbrev pub item_shows : Course → ℕ → Call → ShownCall → Handled → Bool
-item_shows course index call shown one = owned_by course.owner one.sent && ((one.sent.call == index) && is_shown_item call shown one.served.item)
-
-abbrev pub link_shows : Traced → Course → ℕ → Call → ShownCall → ℕ → Bool
-link_shows t course index call shown number = option_map_or (λ link. list_any (item_shows course index call shown) link.served) (link_at t.machine.links number) false
-
--- or a lone commit, whose outcome says so
-abbrev pub outcome_shows : Course → Call → ShownCall → Bool
-outcome_shows course call shown =
-    is_lone_commit call && (ends_committed shown.answers && list_any (λ outcome. outcome.committed && (outcome.completed && list_any (λ ids. holds ids outcome.ltxid) course.report.tried)) course.report.outcomes)
-
-abbrev pub is_from : Traced → Course → ℕ → Option Call → ShownCall → Bool
-is_from t course index None shown = false
-is_from t course index (Some call) shown = list_any (link_shows t course index call shown) (held_in course.steps) || outcome_shows course call shown
-
-abbrev pub all_from : Traced → Course → ℕ → List ShownCall → Bool
-all_from t course index [] = true
-all_from t course index (shown ∷ others) = is_from t course index (slice_get course.request.calls index) shown && all_from t course (index + 1) others
-
-abbrev pub are_from : Traced → Bool
-are_from t = list_all (λ course. all_from t course 0 course.report.calls) (courses_of t)
-
--- S7: A SEGMENT -----------------------------------------------------------------------------------
-
-abbrev pub is_call : Up → Bool
-is_call (up.Call replay kept call) = true
-is_call _ = false
-
--- the calls that a request sent on a connection
-abbrev pub calls_on : Course → Link → List Sent
-calls_on course link = filter (λ sent. owned_by course.owner sent && is_call sent.frame) link.sent
-
-abbrev pub is_marked : Up → Bool
-is_marked (up.Call true kept call) = true
-is_marked _ = false
-
-abbrev pub first_of : List Sent → Option Sent
-first_of [] = None
-first_of (sent ∷ others) = Some sent
-
-abbrev pub in_row : ℕ → List Sent → Bool
-in_row index [] = true
-in_row index (sent ∷ others) = (sent.call == index) && in_row (index + 1) others
-
--- each call that is sent is the script's of its index
-abbrev pub is_scripts : Course → Sent → Up → Bool
-is_scripts course sent (up.Call replay kept call) = option_map_or (same_call call) (slice_get course.request.calls sent.call) false
-is_scripts course sent _ = true
-
--- The calls that a request sent on a connection are of indices in a row. The marked ones come first (wire3). They begin at j for the call that
--- was sent behind them; and while none was, for the calls shown so far, as long as the request has the connection. (Of a replay that was
--- lost before its last verification nothing is said: the call may be shown later, and j moves.)
-abbrev pub marked_from : Course → List Sent → ℕ → Bool
-marked_from course [] next = true
-marked_from course (first ∷ others) next = implies (is_marked first.frame) (first.call == recorded_from (take next course.report.calls))
-
-abbrev pub has_unmarked : List Sent → Bool
-has_unmarked calls = list_any is_unmarked calls
-
-abbrev pub is_current : Course → ℕ → Bool
-is_current course number = option_map_or (λ other. other == number) course.connection false
-
-abbrev pub first_unmarked : Course → List Sent → ℕ
-first_unmarked course [] = length course.report.calls
-first_unmarked course (sent ∷ others) = if is_marked sent.frame then first_unmarked course others else sent.call
-
-abbrev pub unmarked_first : Course → List Sent → Bool
-unmarked_first course [] = true
-unmarked_first course (first ∷ others) = is_marked first.frame || (first.call == recorded_from (take first.call course.report.calls))
-
-abbrev pub is_row : Course → Bool → List Sent → Bool
-is_row course current calls = in_row (option_map_or (λ sent. sent.call) (first_of calls) 0) calls && (list_all (λ sent. is_scripts course sent sent.frame) calls && (implies (current || has_unmarked calls) (marked_from course calls (first_unmarked course calls)) && unmarked_first course calls))
-
-abbrev pub rows_on : Traced → Course → Bool
-rows_on t course = list_all (λ number. option_map_or (λ link. is_row course (is_current course number) (calls_on course link)) (link_at t.machine.links number) false) (held_in course.steps)
-
-abbrev pub in_rows : Traced → Bool
-in_rows t = list_all (rows_on t) (courses_of t)
-
 -- S8: each frame with an owner was sent by that request, on a connection that it held
 abbrev pub is_held_by : List Course → ℕ → Owner → Bool
 is_held_by courses number owner = list_any (λ course. same_owner course.owner owner && list_any (λ other. other == number) (held_in course.steps)) courses
@@ -290,8 +204,6 @@ pub record Script (t : Traced) : Type 0 where
   pub kept : IsTrue (are_kept t)
   pub scripts : IsTrue (follow_scripts t)
   pub reports : IsTrue (report_rightly t)
-  pub shown : IsTrue (are_from t)
-  pub rows : IsTrue (in_rows t)
   pub owned : IsTrue (are_owned t)
   pub sent : IsTrue (all_sent t)
   pub marks : IsTrue (carry_draws t)

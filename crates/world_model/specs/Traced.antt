@@ -10,7 +10,7 @@ use Rattle.client_model.specs.Terms.{Phase, Idle}
 use Rattle.world_model.specs.Frames.{Owner}
 use Rattle.world_model.specs.Settings.{Setting}
 use Rattle.world_model.specs.Clients.{Step, Doing, Past, Client}
-use Rattle.world_model.specs.Reports.{report_of}
+use Rattle.run_clauses.specs.Reports.{report_of}
 use Rattle.world_model.specs.Machines.{Machine}
 
 -- The machine; J, of which so many are the image's; B, the image's blocks included; the sessions of `outside`, and the values that these drew.

@@ -1,11 +1,12 @@
-//! What of the invariant holds of the start and is kept in each event, if the whole invariant held before it. Each law is the
-//! clause of a function with nothing to run.
-ghost use Rattle.world_model.specs.KeptLaws.{IsKept, IsKeptOfCalls, IsOfService, BasicBegins, BasicIsKept, WireBegins, WireIsKept, HoldBegins, HoldIsKept, StoresByCommit, RunsKeepBase, IsKeptOfImages, NumberBegins, NumberIsKept, TalksBegin, TalksAreKept};
+//! What of the invariant holds of the start and is kept in each event, if what is orderly held before it. Each law is the clause of
+//! a function with nothing to run.
+ghost use Rattle.world_model.specs.KeptLaws.{IsKept, IsKeptOfCalls, IsOfService, BasicBegins, BasicIsKept, WireBegins, WireIsKept, HoldBegins, HoldIsKept, IsKeptOfAll, OrderlyIsKept, NumberBegins, NumberIsKept, TalksBegin, TalksAreKept};
 ghost use Rattle.world_model.specs.Wire.{sent_fronts, reply_fronts, are_handled, in_grammar, one_out, answered_in_order, up_lives, are_fresh};
 ghost use Rattle.world_model.specs.Ready.{are_ready};
 ghost use Rattle.world_model.specs.Script.{are_conversations, are_kept, all_sent, are_owned, carry_draws, follow_scripts, report_rightly};
 ghost use Rattle.world_model.specs.Hold.{are_had, are_queued, are_held, are_idle, slots_held, are_opened, are_by_held};
-ghost use Rattle.world_model.specs.Number.{are_near, are_counted as are_numbered, are_told, are_served_near, are_ahead, blocks_next, entries_numbered, known_so_far, answers_stand, none_blocked};
+ghost use Rattle.world_model.specs.Number.{are_near, are_counted as are_numbered, are_told, are_served_near, are_ahead, blocks_next, entries_numbered, known_so_far, none_blocked};
+ghost use Rattle.world_model.specs.Shown.{answers_stand};
 ghost use Rattle.world_model.specs.Basic.{have_risen, kept_ticks, items_rise, items_differ, is_down, are_ended, sessions_differ, are_made, are_counted, are_named, living_now, commits_counted, lives};
 
 /// The items of a connection are in the order of their events, which are past. An event has one item.
@@ -45,8 +46,7 @@ pub fn steps_stay_in_order()
     ensures ticks { IsKept kept_ticks }
 {}
 
-/// The record of ticks, events, connections and sessions as a whole: it holds of the start, and behind each event if the whole
-/// invariant held before it.
+/// The record of ticks, events, connections and sessions as a whole.
 pub fn basic_is_kept()
     ensures start { BasicBegins }
     ensures event { BasicIsKept }
@@ -79,8 +79,7 @@ pub fn frames_keep_to_grammar()
     ensures { IsKept in_grammar }
 {}
 
-/// The record of the frames of connections as a whole: it holds of the start, and behind each event if the whole invariant held
-/// before it.
+/// The record of the frames of connections as a whole.
 pub fn wire_is_kept()
     ensures start { WireBegins }
     ensures event { WireIsKept }
@@ -169,8 +168,7 @@ pub fn requests_go_by_held()
     ensures { IsKept are_by_held }
 {}
 
-/// The record of who holds which connection and slot as a whole: it holds of the start, and behind each event if the whole
-/// invariant held before it.
+/// The record of who holds which connection and slot as a whole.
 pub fn hold_is_kept()
     ensures start { HoldBegins }
     ensures event { HoldIsKept }
@@ -199,37 +197,43 @@ pub fn entries_stay_numbered()
     commit_log::laws::keeps_journal();
 }
 
-/// Where a call without a commit stores nothing: a session has as many entries as the identifier says that is held on its
-/// connection, or one more. It has as many as it answered Committed, but for a commit that was stopped, which is its last item.
+/// A session has as many entries as the identifier says that is held on its connection, or one more. It has as many as it answered Committed, but for a commit that was stopped, which is its last item.
 /// Where it is one ahead, what is out on the connection made that entry, and no other commit call is left to be served.
 pub fn sessions_are_near()
-    ensures near { StoresByCommit → IsKept are_near }
-    ensures counted { StoresByCommit → IsKept are_numbered }
-    ensures ahead { StoresByCommit → IsKept are_ahead }
+    ensures near { IsKept are_near }
+    ensures counted { IsKept are_numbered }
+    ensures ahead { IsKept are_ahead }
 {
     server_model::laws::runs_number();
 }
 
-/// In runs of documents whose images have no entry of a session of the number 0: each entry is of a session that was made, and one of
-/// the run is of a connection's session, or of one that was made outside.
+/// Each entry is of an incarnation before this one, or of a session that was made, and one of the run is of a connection's session, or
+/// of one that was made outside.
 pub fn entries_are_known()
-    ensures { IsKeptOfImages known_so_far }
+    ensures { IsKept known_so_far }
 {
     commit_log::laws::keeps_journal();
 }
 
-/// Where a run of the plain server keeps its base: what was answered of an identifier stands. Uncommitted, it is blocked; committed, its
+/// What was answered of an identifier stands, if the whole invariant held before. Uncommitted, it is blocked; committed, its
 /// entry is there and says so; and no session is so far from it that the answer was anything else, but that it is forgotten.
 pub fn answers_stay()
-    ensures { RunsKeepBase → IsKept answers_stand }
+    ensures { IsKeptOfAll answers_stand }
 {}
 
-/// The record of identifiers and entries as a whole: it holds of the start, where the image has no entry of a session of the number 0,
-/// and behind each event if the whole invariant held before it, where a call without a commit stores nothing and a run of the plain
-/// server keeps its base.
+/// The record of identifiers and entries as a whole.
 pub fn number_is_kept()
     ensures start { NumberBegins }
-    ensures event { StoresByCommit → RunsKeepBase → NumberIsKept }
+    ensures event { NumberIsKept }
+{
+    commit_log::laws::keeps_journal();
+    server_model::laws::runs_number();
+}
+
+/// What is orderly, as a whole, in runs of documents whose requests each have a call: it holds of the start, and behind each event if it
+/// held before it.
+pub fn orderly_is_kept()
+    ensures { OrderlyIsKept }
 {
     commit_log::laws::keeps_journal();
     server_model::laws::runs_number();
