@@ -1,6 +1,5 @@
 -- The ticks and events that requests keep are past, and stay so.
-use Rattle.std.proofs.Common.{◌≡◌, refl, Bool, true, false, ℕ, ◌+◌, ◌≤◌, ◌&&◌, List, [], ◌∷◌, map, Option, Some, None, le_refl, arith}
-use Rattle.std.specs.Prelude.{nat_le}
+use Rattle.std.proofs.Common.{◌≡◌, refl, Bool, true, ℕ, ◌+◌, ◌≤◌, ◌&&◌, List, [], ◌∷◌, map, Option, Some, None, le_refl, arith}
 use Rattle.std.specs.List.{list_all}
 use Rattle.std.proofs.lemmas.Bool.{and_parts, and_from}
 use Rattle.client_model.specs.declared.input.Input.TheVariants.{Start}

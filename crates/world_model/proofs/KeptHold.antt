@@ -1,5 +1,5 @@
 -- Of Hold, test by test, at the start and behind each event.
-use Rattle.std.proofs.Common.{◌≡◌, refl, true, Bool, length, ℕ, ◌+◌, Some, List, [], ◌∷◌, map, sym, subst, ◌∙◌, cond, count_by, arith, ◌&&◌}
+use Rattle.std.proofs.Common.{◌≡◌, refl, true, length, ℕ, ◌+◌, Some, List, [], ◌∷◌, map, sym, subst, ◌∙◌, cond, count_by, arith, ◌&&◌}
 use Rattle.std.specs.List.{list_all}
 use Rattle.outage_schedule.specs.declared.document.Client.{Client as Scripted}
 use Rattle.outage_schedule.specs.declared.document.Document.{Document}
@@ -13,7 +13,6 @@ use Rattle.world_model.specs.Traced.{courses_of_clients}
 use Rattle.world_model.specs.Reached.{traced_start}
 use Rattle.world_model.specs.KeptLaws.{IsKept}
 use Rattle.world_model.specs.Hold.{are_had, is_held, are_held, are_idle, slots_held, are_opened, is_by_held, are_by_held}
-use Rattle.svc_values.specs.declared.draw.Draw.{Draw}
 use Rattle.server_model.specs.Seen.{Seen}
 use Rattle.outage_schedule.specs.declared.event.Event.{Event}
 use Rattle.outage_schedule.specs.declared.note.Note.{Note}

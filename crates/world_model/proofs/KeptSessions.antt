@@ -1,7 +1,6 @@
 -- The tests of Basic that speak of the sessions of all connections, at the start and behind each event.
 use Rattle.std.proofs.Common.{◌≡◌, refl, sym, ap, ◌∙◌, Bool, true, ◌++◌, List, [], Some, None}
 use Rattle.std.specs.List.{list_all}
-use Rattle.svc_values.specs.declared.draw.Draw.{Draw}
 use Rattle.svc_values.specs.declared.entry.SessionId.{SessionId}
 use Rattle.server_model.specs.Seen.{Seen}
 use Rattle.outage_schedule.specs.declared.event.Event.{Event}

@@ -4,7 +4,6 @@ use Rattle.std.specs.Prelude.{◌==◌, ◌||◌, not, is_some, option_and_then}
 use Rattle.std.specs.List.{list_all}
 use Rattle.std.specs.Option.{option_map_or}
 use Rattle.std.proofs.lemmas.Bool.{and_parts, not-true}
-use Rattle.svc_values.specs.declared.draw.Draw.{Draw}
 use Rattle.svc_values.specs.declared.entry.Entry.{Entry}
 use Rattle.svc_values.specs.declared.entry.SessionId.{SessionId}
 use Rattle.svc_values.specs.declared.frame.Up.{Up}
@@ -26,7 +25,7 @@ use Rattle.world_model.specs.Links.{Link, new_link, link_at, sends, takes}
 use Rattle.world_model.specs.Acting.{sent_by}
 use Rattle.world_model.specs.Machines.{Machine, next_session}
 use Rattle.world_model.specs.Matching.{Noted, ServedOn, Crashed}
-use Rattle.world_model.specs.Number.{numbered_after, is_near, is_counted, ahead_rightly, is_told, served_near}
+use Rattle.world_model.specs.Number.{numbered_after, is_known, is_near, is_counted, ahead_rightly, is_told, served_near}
 use Rattle.world_model.specs.OneEvent.{OneEvent}
 use Rattle.world_model.specs.Parts.{number_of, is_commit_call, is_commit_frame, is_unmarked_frame, implies}
 use Rattle.world_model.specs.Serving.{Front, front_at, is_of_front, is_ordinary, is_item_of, is_served_by, is_commit, is_last, commits_after, after_front, handled}

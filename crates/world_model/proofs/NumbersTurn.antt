@@ -1,8 +1,8 @@
 -- Behind an event each connection's session is as far ahead of what is held as what is out explains.
-use Rattle.std.proofs.Common.{◌≡◌, refl, sym, ap, ◌∙◌, Bool, true, false, ℕ, suc, ◌+◌, ◌&&◌, cond, List, [], ◌∷◌, Option, Some, None, arith, if◌then◌else◌}
+use Rattle.std.proofs.Common.{◌≡◌, refl, sym, ap, ◌∙◌, Bool, true, false, ℕ, suc, ◌+◌, ◌<◌, ◌&&◌, cond, List, [], ◌∷◌, Option, Some, None, ◌⊎◌, inl, inr, arith, if◌then◌else◌}
 use Rattle.std.specs.Prelude.{◌==◌, ◌||◌, nat_lt, nat_le, slice_get}
 use Rattle.std.specs.List.{list_all}
-use Rattle.std.proofs.lemmas.Bool.{and_parts, and_from}
+use Rattle.std.proofs.lemmas.Bool.{and_parts, and_from, or_cases}
 use Rattle.svc_values.specs.declared.entry.Entry.{Entry}
 use Rattle.svc_values.specs.declared.entry.SessionId.{SessionId}
 use Rattle.svc_values.specs.Identifiers.{session_of, is_of_session}
@@ -21,7 +21,7 @@ use Rattle.world_model.proofs.Gaining.{made_before}
 use Rattle.world_model.proofs.GainedQuiet.{serves_at}
 use Rattle.world_model.proofs.Items.{reaches, reaches_if, mapped}
 use Rattle.world_model.proofs.Numbered.{entries_cons}
-use Rattle.world_model.proofs.Tests.{same_session_is}
+use Rattle.world_model.proofs.Tests.{lt_from, same_session_is}
 
 -- THE FRAME THAT IS SERVED ------------------------------------------------------------------------
 
@@ -80,16 +80,28 @@ by_index test (link ∷ links) each = and_from (test link) (list_all test links)
 pub by_number : (test : Link → Bool) (links : List Link) → ((number : ℕ) (link : Link) → link_at links number ≡ Some link → test link ≡ true) → list_all test links ≡ true
 by_number test links each = by_index test links (λ index link is. each (suc index) link is)
 
--- it was made by this server
-abbrev pub is_made_in : Server → SessionId → Bool
-is_made_in server session = nat_lt 0 session.session && (nat_lt session.incarnation server.incarnation || ((session.incarnation == server.incarnation) && nat_le session.session server.sessions))
+-- it is of an incarnation before this one, or was made by this server
+abbrev pub is_known_in : Server → SessionId → Bool
+is_known_in server session = nat_lt session.incarnation server.incarnation || (nat_lt 0 session.session && (nat_lt session.incarnation server.incarnation || ((session.incarnation == server.incarnation) && nat_le session.session server.sessions)))
 
-pub none_of_session : (server : Server) (entries : List Entry) → list_all (λ entry. is_made_in server (session_of entry.ltxid)) entries ≡ true → entries_of entries (next_session server) ≡ 0
+-- such a session is not the one that is made next
+known_before : (server : Server) (session : SessionId) → is_known_in server session ≡ true → session ≡ next_session server → ⊥
+known_before server session known same =
+    by (or_cases (nat_lt session.incarnation server.incarnation) (nat_lt 0 session.session && (nat_lt session.incarnation server.incarnation || ((session.incarnation == server.incarnation) && nat_le session.session server.sessions))) known)
+  where
+    incarnation : session.incarnation ≡ server.incarnation
+    incarnation = ap (λ (s : SessionId). s.incarnation) same
+
+    by : (nat_lt session.incarnation server.incarnation ≡ true) ⊎ ((nat_lt 0 session.session && (nat_lt session.incarnation server.incarnation || ((session.incarnation == server.incarnation) && nat_le session.session server.sessions))) ≡ true) → ⊥
+    by (inl below) = let less : session.incarnation < server.incarnation = lt_from session.incarnation server.incarnation below in let never : ⊥ = omega (arith, incarnation) in never
+    by (inr made) = made_before server session made same
+
+pub none_of_session : (server : Server) (entries : List Entry) → list_all (λ entry. is_known_in server (session_of entry.ltxid)) entries ≡ true → entries_of entries (next_session server) ≡ 0
 none_of_session server [] all = refl
 none_of_session server (entry ∷ entries) all =
-    let parts = and_parts (is_made_in server (session_of entry.ltxid)) (list_all (λ one. is_made_in server (session_of one.ltxid)) entries) all in
+    let parts = and_parts (is_known_in server (session_of entry.ltxid)) (list_all (λ one. is_known_in server (session_of one.ltxid)) entries) all in
     entries_cons entry entries (next_session server) ∙ by (is_of_session (next_session server) entry.ltxid) refl parts.0 (none_of_session server entries parts.1)
   where
-    by : (test : Bool) → is_of_session (next_session server) entry.ltxid ≡ test → is_made_in server (session_of entry.ltxid) ≡ true → entries_of entries (next_session server) ≡ 0 → cond test 1 0 + entries_of entries (next_session server) ≡ 0
-    by true is made none = absurd (made_before server (session_of entry.ltxid) made (same_session_is (session_of entry.ltxid) (next_session server) is))
-    by false is made none = let zero_is : 0 + entries_of entries (next_session server) ≡ 0 = omega (arith, none) in zero_is
+    by : (test : Bool) → is_of_session (next_session server) entry.ltxid ≡ test → is_known_in server (session_of entry.ltxid) ≡ true → entries_of entries (next_session server) ≡ 0 → cond test 1 0 + entries_of entries (next_session server) ≡ 0
+    by true is known none = absurd (known_before server (session_of entry.ltxid) known (same_session_is (session_of entry.ltxid) (next_session server) is))
+    by false is known none = let zero_is : 0 + entries_of entries (next_session server) ≡ 0 = omega (arith, none) in zero_is

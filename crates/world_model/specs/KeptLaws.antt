@@ -1,22 +1,11 @@
 -- What of the invariant is kept: it holds of the start, and of the state behind each event if what is orderly held before.
-use Rattle.std.specs.Prelude.{◌≡◌, ℕ, Bool, false, nat_lt, IsTrue, List}
-use Rattle.std.specs.List.{list_all}
+use Rattle.std.specs.Prelude.{Bool, IsTrue, List}
 use Rattle.svc_values.specs.declared.draw.Draw.{Draw}
-use Rattle.svc_values.specs.declared.call.Call.{Call}
-use Rattle.svc_values.specs.declared.frame.Up.TheVariants as up
-use Rattle.svc_values.specs.Calls.{has_commit}
-use Rattle.server_model.specs.Base.{Base}
-use Rattle.server_model.specs.Core.{Core}
-use Rattle.server_model.specs.Runs.{Happened, Server, Runs}
-use Rattle.server_model.specs.Outcomes.{Telling}
 use Rattle.server_model.specs.Seen.{Seen}
-use Rattle.server_model.specs.Serve.{Serve}
-use Rattle.server_model.specs.Sessions.{Sess}
 use Rattle.outage_schedule.specs.declared.document.Document.{Document}
 use Rattle.outage_schedule.specs.declared.event.Event.{Event}
 use Rattle.outage_schedule.specs.declared.note.Note.{Note}
 use Rattle.outage_schedule.specs.declared.item.Served.{Served}
-use Rattle.run_clauses.specs.Before.{journal_before}
 use Rattle.world_model.specs.Settings.{setting_of}
 use Rattle.world_model.specs.Traced.{Traced}
 use Rattle.world_model.specs.Ready.{all_have_calls}

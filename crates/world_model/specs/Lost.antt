@@ -1,5 +1,5 @@
 -- InvLost: of each connection that a request lost.
-use Rattle.std.specs.Prelude.{ℕ, ◌+◌, ◌==◌, ◌&&◌, ◌||◌, Bool, true, false, not, cond, nat_le, if◌then◌else◌, IsTrue, List, [], ◌∷◌, length, filter, slice_get, Option, Some, None, is_some, is_none, option_map}
+use Rattle.std.specs.Prelude.{ℕ, ◌+◌, ◌==◌, ◌&&◌, ◌||◌, Bool, true, false, not, cond, nat_le, if◌then◌else◌, IsTrue, List, [], ◌∷◌, length, filter, slice_get, Option, Some, None, is_some, is_none}
 use Rattle.std.specs.List.{list_all, list_any, last_or}
 use Rattle.std.specs.Option.{option_map_or}
 use Rattle.svc_values.specs.declared.entry.Ltxid.{Ltxid}

@@ -1,5 +1,5 @@
 -- InvNumber: the identifier held on a connection, and how often its session committed.
-use Rattle.std.specs.Prelude.{ℕ, ◌+◌, ◌==◌, ◌&&◌, ◌||◌, Bool, true, false, not, if◌then◌else◌, nat_le, IsTrue, List, [], ◌∷◌, length, drop, fold, Option, None, is_some}
+use Rattle.std.specs.Prelude.{ℕ, ◌+◌, ◌==◌, ◌&&◌, ◌||◌, Bool, true, false, not, if◌then◌else◌, nat_le, nat_lt, IsTrue, List, [], ◌∷◌, length, drop, fold, Option, None, is_some}
 use Rattle.std.specs.List.{list_all, list_any, last_or}
 use Rattle.std.specs.Option.{option_or, option_map_or}
 use Rattle.svc_values.specs.declared.entry.Ltxid.{Ltxid}
@@ -14,9 +14,6 @@ use Rattle.world_model.specs.Links.{Link, told_by}
 use Rattle.world_model.specs.Hold.{same_held}
 use Rattle.world_model.specs.Serving.{is_commit}
 use Rattle.world_model.specs.Traced.{Traced}
-use Rattle.outage_schedule.specs.declared.note.AskResult.TheVariants as told
-use Rattle.run_clauses.specs.Outcomes.{completed_of}
-use Rattle.svc_values.specs.Same.{same_bool}
 use Rattle.world_model.specs.Basic.{is_made}
 use Rattle.world_model.specs.Sames.{same_sent}
 use Rattle.run_clauses.specs.Tried.{holds}

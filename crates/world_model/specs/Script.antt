@@ -1,5 +1,5 @@
 -- InvScript: each request is a conversation of its client, and what it sends is its script's.
-use Rattle.std.specs.Prelude.{ℕ, ◌+◌, ◌==◌, ◌&&◌, ◌||◌, Bool, true, false, cond, nat_le, if◌then◌else◌, IsTrue, List, [], ◌∷◌, ◌++◌, length, map, filter, take, slice_get, Option, Some, None, is_some, is_none}
+use Rattle.std.specs.Prelude.{ℕ, ◌+◌, ◌==◌, ◌&&◌, Bool, true, false, cond, nat_le, IsTrue, List, [], ◌∷◌, ◌++◌, length, map, filter, slice_get, Option, Some, None, is_some, is_none}
 use Rattle.std.specs.List.{list_all, list_any}
 use Rattle.std.specs.Option.{option_map_or}
 use Rattle.std.specs.Str.{bytes_eq}
@@ -7,15 +7,11 @@ use Rattle.std.specs.Cmp.Lexicographic.{pointwise}
 use Rattle.svc_values.specs.declared.call.Call.{Call}
 use Rattle.svc_values.specs.declared.frame.Up.{Up}
 use Rattle.svc_values.specs.declared.frame.Up.TheVariants as up
-use Rattle.svc_values.specs.Calls.{is_lone_commit}
-use Rattle.svc_values.specs.Endings.{ends_committed}
 use Rattle.request_bounds.specs.Replies.{ends_decided}
-use Rattle.svc_values.specs.Same.{same_answers, same_bool, same_call, same_calls, same_draws}
+use Rattle.svc_values.specs.Same.{same_bool, same_call, same_calls, same_draws}
 use Rattle.client_model.specs.declared.track.Track.{Track}
 use Rattle.call_recorder.specs.declared.recorded.Recorded.{Recorded}
 use Rattle.outage_schedule.specs.declared.document.Request.{Request}
-use Rattle.outage_schedule.specs.declared.item.Item.{Item}
-use Rattle.outage_schedule.specs.declared.item.Item.TheVariants as item
 use Rattle.outage_schedule.specs.declared.request.ShownCall.{ShownCall}
 use Rattle.outage_schedule.specs.declared.request.RequestReport.{RequestReport}
 use Rattle.run_clauses.specs.Copies.{next_of}
@@ -24,7 +20,7 @@ use Rattle.client_model.specs.Talk.{wants_of}
 use Rattle.client_model.specs.Conversation.{Done, Timed, done_at, talk_at, talk_after, may_come, is_gone_next}
 use Rattle.client_model.specs.Account.{Account, account_of, count_uncommitted, set_shown}
 use Rattle.client_model.specs.Laws.{track_of}
-use Rattle.world_model.specs.Frames.{Owner, Sent, Handled}
+use Rattle.world_model.specs.Frames.{Owner, Sent}
 use Rattle.world_model.specs.Links.{Link, link_at}
 use Rattle.world_model.specs.Clients.{Step, Past, Client, reports_of, script_at}
 use Rattle.world_model.specs.Conversing.{AllTalk, timed, inputs_of, first_talk}
@@ -32,7 +28,6 @@ use Rattle.world_model.specs.Followed.{tells_steps}
 use Rattle.run_clauses.specs.Reports.{report_of}
 use Rattle.world_model.specs.Traced.{Traced, Course, courses_of}
 use Rattle.world_model.specs.Sames.{owned_by, same_owner, same_up}
-use Rattle.run_clauses.specs.Tried.{holds}
 use Rattle.world_model.specs.Words.{held_in}
 use Rattle.world_model.specs.Ready.{are_ready}
 use Rattle.world_model.specs.Parts.{Sending, sendings_of, implies, is_unmarked}

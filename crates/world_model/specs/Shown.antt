@@ -15,6 +15,7 @@ use Rattle.outage_schedule.specs.declared.request.ShownCall.{ShownCall}
 use Rattle.world_model.specs.Frames.{Sent, Handled}
 use Rattle.world_model.specs.Links.{Link, link_at}
 use Rattle.world_model.specs.Traced.{Traced, Course, courses_of}
+use Rattle.world_model.specs.Script.{recorded_from}
 use Rattle.world_model.specs.Sames.{owned_by}
 use Rattle.run_clauses.specs.Tried.{holds}
 use Rattle.world_model.specs.Words.{held_in}

@@ -197,8 +197,9 @@ pub fn entries_stay_numbered()
     commit_log::laws::keeps_journal();
 }
 
-/// A session has as many entries as the identifier says that is held on its connection, or one more. It has as many as it answered Committed, but for a commit that was stopped, which is its last item.
-/// Where it is one ahead, what is out on the connection made that entry, and no other commit call is left to be served.
+/// A session has as many entries as the identifier says that is held on its connection, or one more. It has as many as it answered
+/// Committed, but for a commit that was stopped, which is its last item. Where it is one ahead, what is out on the connection made that
+/// entry, and no other commit call is left to be served.
 pub fn sessions_are_near()
     ensures near { IsKept are_near }
     ensures counted { IsKept are_numbered }
