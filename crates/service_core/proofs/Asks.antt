@@ -1,5 +1,5 @@
 -- What a service is seen as after an outcome that was asked for.
-use Rattle.std.proofs.Common.{◌≡◌, ◌+◌, false, sym, subst, [], ◌∷◌, ◌++◌}
+use Rattle.std.proofs.Common.{◌≡◌, ◌+◌, ◌<◌, ◌^◌, false, sym, subst, [], ◌∷◌, ◌++◌}
 use Rattle.std.specs.Prelude.{Option, Some, None}
 use Rattle.disk_model.specs.Moment.{MayLeave}
 use Rattle.disk_model.specs.Disk.{DiskState}
@@ -65,8 +65,8 @@ module _ (old : Within) (core : Core) (is_up : old.core ≡ Some core) (sound : 
     pub halts_on_base : HaveOneBase old.disk.now.seen end.now.seen
     halts_on_base = halted_base old.grants old.disk end core old.held old.notes x up stopped reads_now
 
-    pub halts : old.notes.is_spent ≡ false → Goes (SeesIn old) (SeesIn (with_halted gone empty)) (λ before behind. StoppedAsk before x (LeavesIn (with_halted gone empty)) behind)
-    halts live =
+    pub halts : old.notes.is_spent ≡ false → old.notes.calls < 2 ^ 48 → Goes (SeesIn old) (SeesIn (with_halted gone empty)) (λ before behind. StoppedAsk before x (LeavesIn (with_halted gone empty)) behind)
+    halts live few =
         of_both (λ (w : Within). Goes (SeesIn old) (SeesIn w) (λ before behind. StoppedAsk before x (LeavesIn w) behind))
         (goes_from old (with_halted None []) (λ before behind. StoppedAsk before x (LeavesIn (with_halted None [])) behind) live soundly
         (λ start history stands.
@@ -76,5 +76,5 @@ module _ (old : Within) (core : Core) (is_up : old.core ≡ Some core) (sound : 
           stands = halted_came old.grants old.disk end core old.held old.notes x up stopped reads_now start history came;
           does =
               subst (λ (c : Option Core). StoppedAsk (seen_with start history (state_of old.disk c old.held old.notes)) x (LeavesIn (with_halted None [])) (seen_with start (history ++ Asked x Stopped ∷ []) (state_of end None [] (with_halted None []).notes))) (sym is_up)
-              (halted_does old.grants old.disk end core old.held old.notes x up stopped reads_now start history came live);
+              (halted_does old.grants old.disk end core old.held old.notes x up stopped reads_now start history came live few);
         }))

@@ -80,7 +80,7 @@ pub few_crashes : (grants : Grants) (disk : DiskState) (core : Option Core) (hel
 few_crashes grants disk None held notes down = down.crashes
 few_crashes grants disk (Some core) held notes up = up.crashes
 
-pub counted : (grants : Grants) (disk : DiskState) (core : Option Core) (held : Held) (notes : Notes) → IsSound grants disk core held notes → disk.faults ≤ 2 ^ 64 - 1
+pub counted : (grants : Grants) (disk : DiskState) (core : Option Core) (held : Held) (notes : Notes) → IsSound grants disk core held notes → HasRoom disk.faults notes
 counted grants disk None held notes down = down.faults
 counted grants disk (Some core) held notes up = up.faults
 

@@ -1,27 +1,22 @@
 -- Faults and stops: what a call's word on its disk says of what is seen of a service.
-use Rattle.std.proofs.Common.{◌≡◌, ◌≢◌, ◌∙◌, ◌⊎◌, ◌+◌, ◌-◌, ◌<◌, ◌≤◌, ◌^◌, ℕ, true, false, refl, inl, inr, leb, arith}
-use Rattle.std.proofs.lemmas.Bool.Decides.{leb_tells}
-use Rattle.std.proofs.Math.Nat.{min-eq_left, min-eq_right, min-le_right}
+use Rattle.std.proofs.Common.{◌≡◌, ◌≢◌, ◌∙◌, ◌+◌, ◌-◌, ◌<◌, ◌≤◌, ◌^◌, ℕ, refl, arith}
+use Rattle.std.proofs.Math.Nat.{min-eq_left, min-le_left}
 use Rattle.std.specs.Prelude.{Option, Some, None}
 use Rattle.disk_model.specs.Disk.{DiskState, OnlyReads, Lowered, LoweredByLess, with_fault}
 
--- a count of faults that stands in its type
-abbrev pub AreCounted : DiskState → Type 0
-AreCounted disk = disk.faults ≤ 2 ^ 64 - 1
+-- Where a count leaves room, each fault is one more.
+pub one_more : (old new calls : ℕ) → old ≤ 2 ^ 62 + calls → calls < 2 ^ 48 → new ≡ with_fault old → new ≡ old + 1
+one_more old new calls room few is = is ∙ min-eq_left (omega (arith, room, few))
 
--- one more, or as many as the type has
-pub rises : (old new : ℕ) → new ≡ with_fault old → (old < new) ⊎ (new ≡ 2 ^ 64 - 1)
-rises old new is = by (leb_tells (old + 1) (2 ^ 64 - 1))
-  where
-    by : ((leb (old + 1) (2 ^ 64 - 1) ≡ true) × (old + 1 ≤ 2 ^ 64 - 1)) ⊎ ((leb (old + 1) (2 ^ 64 - 1) ≡ false) × (2 ^ 64 - 1 < old + 1)) → (old < new) ⊎ (new ≡ 2 ^ 64 - 1)
-    by (inl below) = inl (let e : new ≡ old + 1 = is ∙ min-eq_left below.1 in omega (arith, e))
-    by (inr above) = inr (is ∙ min-eq_right (omega (arith, above.1)))
+pub rises : (old new calls : ℕ) → old ≤ 2 ^ 62 + calls → calls < 2 ^ 48 → new ≡ with_fault old → old < new
+rises old new calls room few is = omega (arith, one_more old new calls room few is)
 
-pub never_falls : (old new : ℕ) → old ≤ 2 ^ 64 - 1 → new ≡ with_fault old → old ≤ new
-never_falls old new counted is = omega (arith, counted, is)
+pub never_falls : (old new calls : ℕ) → old ≤ 2 ^ 62 + calls → calls < 2 ^ 48 → new ≡ with_fault old → old ≤ new
+never_falls old new calls room few is = omega (arith, one_more old new calls room few is)
 
-pub still_counted : (old new : ℕ) → new ≡ with_fault old → new ≤ 2 ^ 64 - 1
-still_counted old new is = omega (arith, is, min-le_right (old + 1) (2 ^ 64 - 1))
+-- it leaves room one call later
+pub still_counted : (old new calls : ℕ) → old ≤ 2 ^ 62 + calls → new ≡ with_fault old → new ≤ 2 ^ 62 + (calls + 1)
+still_counted old new calls room is = omega (arith, room, is, min-le_left (old + 1) (2 ^ 64 - 1))
 
 -- no stop, no stop
 pub still_none : (n : ℕ) (before after : Option ℕ) → Lowered n before after → before ≡ None → after ≡ None

@@ -94,6 +94,45 @@ records_more old added image journal reads has =
     let grew = added_grew old added journal image reads has in
     records_of_store image grew.later grew.reads ∙ count_more old added image journal reads has ∙ ap (λ n. n + length added) (sym (records_of_store old journal reads))
 
+-- ---- what records add
+
+abbrev items_in : Journal → ℕ
+items_in journal = length journal.entries + length journal.blocked + length journal.alerts
+
+abbrev items_of : Store → ℕ
+items_of store = length store.entries + length store.blocked + length store.alerts
+
+-- a record adds an entry, a block or a line at most
+record_adds : (journal : Journal) (one : Record) → items_in (with_record journal one) ≤ items_in journal + 1
+record_adds journal (kept.Base base) = omega arith
+record_adds journal (kept.Opened incarnation) = omega arith
+record_adds journal (kept.Commit entry) = omega (arith, length-append journal.entries (entry ∷ []))
+record_adds journal (kept.Blocked x) = omega (arith, length-append journal.blocked (x ∷ []))
+record_adds journal (kept.Reserved reservation) = omega arith
+record_adds journal (kept.Alert line) = omega (arith, length-append journal.alerts (line ∷ []))
+record_adds journal (kept.Horizon horizon) = omega arith
+
+records_add : (journal : Journal) (records : List Record) → items_in (fold with_record journal records) ≤ items_in journal + length records
+records_add journal [] = omega arith
+records_add journal (one ∷ records) = omega (arith, records_add (with_record journal one) records, record_adds journal one)
+
+items_stored : (image : List ℕ) (journal : Journal) → journal_of image ≡ Ok journal → items_of (store_of image) ≡ items_in journal
+items_stored image journal reads = ap items_of (store_is image journal reads)
+
+few_items : (old : List ℕ) (records : List Record) (image : List ℕ) (journal : Journal) → journal_of old ≡ Ok journal → HasAdded old records image → items_of (store_of image) ≤ items_of (store_of old) + length records
+few_items old records image journal reads has =
+    let later : journal_of image ≡ Ok (fold with_record journal records) = has.journal ∙ ap (with_records records) reads in
+    omega (arith, items_stored old journal reads, items_stored image (fold with_record journal records) later, records_add journal records)
+
+-- so what is gained takes as many records at least
+stored_by : (happened : List Happened) (old new : Store) (gains : Gains happened old new) (n : ℕ) → new.records ≡ old.records + n → items_of new ≤ items_of old + n
+    → old.records + length gains.more_entries + length gains.more_blocked + length gains.more_alerts ≤ new.records
+stored_by happened old new gains n more few =
+    let entries : length new.entries ≡ length old.entries + length gains.more_entries = ap length gains.entries ∙ length-append old.entries gains.more_entries in
+    let blocked : length new.blocked ≡ length old.blocked + length gains.more_blocked = ap length gains.blocked ∙ length-append old.blocked gains.more_blocked in
+    let alerts : length new.alerts ≡ length old.alerts + length gains.more_alerts = ap length gains.alerts ∙ length-append old.alerts gains.more_alerts in
+    omega (arith, more, few, entries, blocked, alerts)
+
 -- ---- what the store holds
 
 -- what the plain server says of sessions is what the store says
@@ -142,8 +181,10 @@ pub adds_between : (one : Happened) (most : ℕ) (core after : Plain) (adds : Ad
 unfolding gains_in
 adds_between one most core after adds old image records journal later reads reads_later was is stays has few =
     let more = records_more old records image journal reads has in
+    let gains : Gains (one ∷ []) (store_of old) (store_of image) = gains_in one core after adds journal later (store_of old) (store_of image) _ _ (store_is old journal reads) (store_is image later reads_later) was is stays in
     record {
-      gains = gains_in one core after adds journal later (store_of old) (store_of image) _ _ (store_is old journal reads) (store_is image later reads_later) was is stays;
+      gains = gains;
       few = adds.adds.few;
+      stored = stored_by (one ∷ []) (store_of old) (store_of image) gains (length records) more (few_items old records image journal reads has);
       records = (omega (arith, more), omega (arith, more, few));
     }

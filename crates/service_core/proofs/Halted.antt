@@ -1,5 +1,5 @@
 -- What a service is seen as after an opening that was stopped.
-use Rattle.std.proofs.Common.{◌≡◌, ◌≢◌, ◌∙◌, ◌+◌, ◌≤◌, ℕ, Bool, true, false, refl, sym, ap, subst, inl, inr, List, [], append-nil, arith}
+use Rattle.std.proofs.Common.{◌≡◌, ◌≢◌, ◌∙◌, ◌+◌, ◌<◌, ◌≤◌, ◌^◌, ℕ, Bool, true, false, refl, sym, ap, subst, inl, inr, List, [], append-nil, arith}
 use Rattle.std.specs.Prelude.{Option, Some, None, Result, Ok, IfOk, IsErrOf, is_some}
 use Rattle.disk_model.specs.Moment.{MayLeave}
 use Rattle.disk_model.specs.Disk.{DiskState, Meanwhile, LoweredByLess, Caused, with_fault}
@@ -93,7 +93,7 @@ halts_soundly old new stop below calls raises off settled sound halted =
       none = down.none;
       base = down.base;
       leaves = λ image leaves. part_reads old stop down below image (reaches_in old new below calls raises settled down halted image leaves);
-      faults = still_counted old.disk.faults new.faults halted.faults;
+      faults = still_counted old.disk.faults new.faults old.notes.calls down.faults halted.faults;
       crashes = omega (arith, down.crashes);
       reads_now = halted.reads_now;
       settled = λ settled. absurd (let e : ◌≡◌ {A = Bool} false true = settled in cc);
@@ -155,9 +155,9 @@ so_far_stored journal below old image reads reached =
     (subst (λ (s : Store). OpenedSoFar below (store_in (Ok journal) (record_count (records_of old))) s) (sym (store_is image reached.reached reached.reads))
     (part_stored journal below (record_count (records_of old)) (record_count (records_of image)) reached.reached reached.part))
 
-pub halts : (old : Within) (new : DiskState) (stop : Option ℕ) (below calls : ℕ) → stop ≡ old.disk.stop → RaisesHorizon → old.notes.is_spent ≡ false → is_some old.core ≡ false → old.notes.is_settled ≡ true → IsSoundWithin old → MayForgetAt (state_in old) below → IsHalted below calls old.disk new
+pub halts : (old : Within) (new : DiskState) (stop : Option ℕ) (below calls : ℕ) → stop ≡ old.disk.stop → RaisesHorizon → old.notes.is_spent ≡ false → old.notes.calls < 2 ^ 48 → is_some old.core ≡ false → old.notes.is_settled ≡ true → IsSoundWithin old → MayForgetAt (state_in old) below → IsHalted below calls old.disk new
     → Goes (SeesIn old) (SeesIn (halted_from old new stop)) (λ before after. StoppedOpening before below (LeavesIn (halted_from old new stop)) after)
-halts old new stop below calls same raises live off settled sound may halted =
+halts old new stop below calls same raises live few off settled sound may halted =
     goes_from old (halted_from old new stop) (λ before after. StoppedOpening before below (LeavesIn (halted_from old new stop)) after) live (halts_soundly old new stop below calls raises off settled sound halted)
     (λ start history stands.
     let down = down_of old off sound in
@@ -175,7 +175,7 @@ halts old new stop below calls same raises live off settled sound may halted =
           is_quiet = halted.quiet;
           per_record = refl;
           crashes = (refl, refl, refl);
-          faults = never_falls old.disk.faults new.faults down.faults halted.faults;
+          faults = never_falls old.disk.faults new.faults old.notes.calls down.faults few halted.faults;
           stop = λ none. still_none_by_less calls old.disk.stop new.stop halted.stop none;
           kept = same;
           calls = refl;
@@ -184,6 +184,6 @@ halts old new stop below calls same raises live off settled sound may halted =
         is_up = (off, refl);
         so_far = part new.now.seen halted.reads_now;
         left = λ store leaves. subst (OpenedSoFar below (store_of old.disk.now.seen)) (sym leaves.store_is) (part leaves.image leaves.left);
-        cause = record { rose = λ stopped. rises old.disk.faults new.faults halted.faults; quiet = λ is_quiet changed. none_before calls old.disk.stop new.stop halted.stop (halted.at_stop is_quiet) };
+        cause = record { rose = λ stopped. rises old.disk.faults new.faults old.notes.calls down.faults few halted.faults; quiet = λ is_quiet changed. none_before calls old.disk.stop new.stop halted.stop (halted.at_stop is_quiet) };
       };
     })

@@ -1,5 +1,5 @@
 -- What a service is seen as after a call that only read its store, answered or stopped.
-use Rattle.std.proofs.Common.{◌≡◌, ◌≢◌, ◌∙◌, ℕ, Bool, true, false, refl, sym, ap, subst, List, [], arith}
+use Rattle.std.proofs.Common.{◌≡◌, ◌≢◌, ◌∙◌, ◌<◌, ◌^◌, ℕ, Bool, true, false, refl, sym, ap, subst, List, [], arith}
 use Rattle.std.specs.Prelude.{Option, Some, None, Result, Ok, Err, IsErrOf}
 use Rattle.disk_model.specs.Moment.{DiskMoment, MayLeave}
 use Rattle.disk_model.specs.Disk.{DiskState, IsSettled, OnlyReads, with_fault}
@@ -109,7 +109,7 @@ loses_soundly old new sound lost =
       none = refl;
       base = left.0;
       leaves = λ image leaves. reads_later left.0 old.notes (called old.notes) image refl (left.1 image (subst (λ (m : DiskMoment). MayLeave m image) lost.now leaves));
-      faults = still_counted old.disk.faults new.faults lost.faults;
+      faults = still_counted old.disk.faults new.faults old.notes.calls (counted old.grants old.disk old.core old.held old.notes sound) lost.faults;
       crashes = omega (arith, few_crashes old.grants old.disk old.core old.held old.notes sound);
       reads_now = lost.reads_now;
       settled = λ settled. subst (λ (m : DiskMoment). (image : List ℕ) → MayLeave m image → image ≡ m.seen) (sym lost.now) (settled_in old.grants old.disk old.core old.held old.notes sound settled);
@@ -134,8 +134,8 @@ moved_stands grants disk new notes start history now stands image leaves = stand
 set_before : (before after : Option ℕ) → after ≡ before → after ≡ Some 0 → before ≢ None
 set_before before after same reached none = absurd (let e : ◌≡◌ {A = Option ℕ} None (Some 0) = sym none ∙ sym same ∙ reached in cc)
 
-pub loses : (old : Within) (new : DiskState) → old.notes.is_spent ≡ false → IsSoundWithin old → IsLost old.disk new → Goes (SeesIn old) (SeesIn (lost_from old new)) StoppedLook
-loses old new live sound lost =
+pub loses : (old : Within) (new : DiskState) → old.notes.is_spent ≡ false → old.notes.calls < 2 ^ 48 → IsSoundWithin old → IsLost old.disk new → Goes (SeesIn old) (SeesIn (lost_from old new)) StoppedLook
+loses old new live few sound lost =
     goes_from old (lost_from old new) StoppedLook live (loses_soundly old new sound lost)
     (λ start history stands. record {
       later = history;
@@ -147,13 +147,13 @@ loses old new live sound lost =
           is_quiet = lost.quiet;
           per_record = refl;
           crashes = (refl, refl, refl);
-          faults = never_falls old.disk.faults new.faults (counted old.grants old.disk old.core old.held old.notes sound) lost.faults;
+          faults = never_falls old.disk.faults new.faults old.notes.calls (counted old.grants old.disk old.core old.held old.notes sound) few lost.faults;
           stop = λ none. lost.stop ∙ none;
           calls = refl;
           is_spent = live;
         };
         unchanged = (refl, ap (λ (m : DiskMoment). store_of m.seen) lost.now, refl);
         down = (λ connection. refl, refl);
-        cause = record { rose = λ stopped. rises old.disk.faults new.faults lost.faults; quiet = λ is_quiet changed. set_before old.disk.stop new.stop lost.stop (lost.at_stop is_quiet) };
+        cause = record { rose = λ stopped. rises old.disk.faults new.faults old.notes.calls (counted old.grants old.disk old.core old.held old.notes sound) few lost.faults; quiet = λ is_quiet changed. set_before old.disk.stop new.stop lost.stop (lost.at_stop is_quiet) };
       };
     })

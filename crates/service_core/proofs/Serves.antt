@@ -1,5 +1,5 @@
 -- What a service is seen as after a frame.
-use Rattle.std.proofs.Common.{◌≡◌, ◌+◌, ℕ, false, refl, sym, subst, [], ◌∷◌, ◌++◌}
+use Rattle.std.proofs.Common.{◌≡◌, ◌+◌, ◌<◌, ◌^◌, ℕ, false, refl, sym, subst, [], ◌∷◌, ◌++◌}
 use Rattle.std.specs.Prelude.{IsTrue, Option, Some, None}
 use Rattle.disk_model.specs.Moment.{MayLeave}
 use Rattle.disk_model.specs.Disk.{DiskState}
@@ -85,9 +85,9 @@ module _ (old : Within) (core : Core) (is_up : old.core ≡ Some core) (sound : 
     pub stops_on_base : HaveOneBase old.disk.now.seen end.now.seen
     stops_on_base = stopped_base old.grants old.disk end core old.held rest old.notes made connection now frame session kept kept_is up taken stopped reads_now
 
-    pub stops : old.notes.is_spent ≡ false → (may_store frame ≡ false → ⊥)
+    pub stops : old.notes.is_spent ≡ false → old.notes.calls < 2 ^ 48 → (may_store frame ≡ false → ⊥)
         → Goes (SeesIn old) (SeesIn (with_stopped gone empty)) (λ before behind. ServedOne before connection now frame Stopped (LeavesIn (with_stopped gone empty)) behind)
-    stops live stores =
+    stops live few stores =
         of_both (λ (w : Within). Goes (SeesIn old) (SeesIn w) (λ before behind. ServedOne before connection now frame Stopped (LeavesIn w) behind))
         (goes_from old (with_stopped None []) (λ before behind. ServedOne before connection now frame Stopped (LeavesIn (with_stopped None [])) behind) live soundly
         (λ start history stands.
@@ -97,5 +97,5 @@ module _ (old : Within) (core : Core) (is_up : old.core ≡ Some core) (sound : 
           stands = stopped_came old.grants old.disk end core old.held rest old.notes made connection now frame session kept kept_is up taken stopped reads_now start history came;
           does =
               subst (λ (c : Option Core). ServedOne (seen_with start history (state_of old.disk c old.held old.notes)) connection now frame Stopped (LeavesIn (with_stopped None [])) (seen_with start (history ++ Served (session_of session.ltxid) now frame Stopped ∷ []) (state_of end None [] (with_stopped None []).notes))) (sym is_up)
-              (stopped_does old.grants old.disk end core old.held rest old.notes made connection now frame session kept kept_is up taken stopped reads_now start history came live stores);
+              (stopped_does old.grants old.disk end core old.held rest old.notes made connection now frame session kept kept_is up taken stopped reads_now start history came live few stores);
         }))

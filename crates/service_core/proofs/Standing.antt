@@ -55,7 +55,7 @@ fewer_up : (grants : Grants) (disk : DiskState) (core : Core) (held less : Held)
 fewer_up grants disk core held less notes fewer up = record {
   fits = up.fits;
   granted = up.granted;
-  faults = up.faults;
+  faults = omega (arith, up.faults);
   settled = up.settled;
   room = omega (arith, up.room);
   few = omega (arith, up.few);
@@ -70,7 +70,7 @@ none_down disk held after notes empty down = record {
   none = empty down.none;
   base = down.base;
   leaves = λ image leaves. let read = down.leaves image leaves in record { journal = read.journal; reads = read.reads; base_is = read.base_is; room = omega (arith, read.room) };
-  faults = down.faults;
+  faults = omega (arith, down.faults);
   crashes = omega (arith, down.crashes);
   reads_now = down.reads_now;
   settled = down.settled;
@@ -197,7 +197,7 @@ stop_sound grants disk None held notes stop down = let same = none_down disk hel
 stop_sound grants disk (Some core) held notes stop up = record {
   fits = stop_fits core disk stop up.fits;
   granted = up.granted;
-  faults = up.faults;
+  faults = omega (arith, up.faults);
   settled = up.settled;
   room = omega (arith, up.room);
   few = omega (arith, up.few);

@@ -1,5 +1,5 @@
 -- A frame in which the disk failed.
-use Rattle.std.proofs.Common.{◌≡◌, ◌∙◌, ◌+◌, ◌*◌, ◌<◌, ◌≤◌, ℕ, false, refl, sym, ap, subst, List, [], ◌∷◌, ◌++◌, length, length-append, inl, inr, arith}
+use Rattle.std.proofs.Common.{◌≡◌, ◌∙◌, ◌+◌, ◌*◌, ◌<◌, ◌≤◌, ◌^◌, ℕ, false, refl, sym, ap, subst, List, [], ◌∷◌, ◌++◌, length, length-append, inl, inr, arith}
 use Rattle.std.specs.Prelude.{◌≢◌, Option, Some, None, Result, IfOk}
 use Rattle.disk_model.specs.Moment.{MayLeave}
 use Rattle.disk_model.specs.Disk.{DiskState, LoweredByLess}
@@ -99,7 +99,7 @@ module _ (grants : Grants) (disk end : DiskState) (core : Core) (held rest : Hel
     none = refl;
     base = up.fits.journal.base;
     leaves = λ image left. let grew = grew_in image left in record { journal = grew.later; reads = grew.reads; base_is = grew.base_is; room = omega (arith, same_incarnation image left, up.room) };
-    faults = still_counted disk.faults end.faults stopped.halted.faults;
+    faults = still_counted disk.faults end.faults notes.calls up.faults stopped.halted.faults;
     crashes = omega (arith, up.crashes);
     reads_now = reads_now;
     settled = λ settled. absurd (let no : ⊥ = cc in no);
@@ -169,29 +169,29 @@ module _ (grants : Grants) (disk end : DiskState) (core : Core) (held rest : Hel
         up.fits.journal grew.later up.fits.reads grew.reads (subst (λ (r : Result Journal ℕ). IfOk r (IsStored ready.server.core)) up.fits.reads ready.stands.stands.plain.stored)
         (subst (λ (r : Result Journal ℕ). IfOk r (IsStored one.after)) grew.reads one.stored) (record { base = (stays image one).base; incarnation = (stays image one).incarnation; horizon = (stays image one).horizon }) (some_in image left).has (some_in image left).few
 
-    keeps : notes.is_spent ≡ false → Keeps before behind
-    keeps live = record {
+    keeps : notes.is_spent ≡ false → notes.calls < 2 ^ 48 → Keeps before behind
+    keeps live few = record {
       start = refl;
       is_opened = refl;
       is_quiet = stopped.halted.quiet;
       per_record = refl;
       crashes = (refl, refl, refl);
-      faults = never_falls disk.faults end.faults up.faults stopped.halted.faults;
+      faults = never_falls disk.faults end.faults notes.calls up.faults few stopped.halted.faults;
       stop = λ none. still_none_by_less (4 * length stopped.records + 4) disk.stop end.stop stopped.halted.stop none;
       calls = refl;
       is_spent = live;
     }
 
-    cause : StopCause before behind (1 + sequences_in frame) Stopped
-    cause = record {
-      rose = λ same. rises disk.faults end.faults stopped.halted.faults;
+    cause : notes.calls < 2 ^ 48 → StopCause before behind (1 + sequences_in frame) Stopped
+    cause few = record {
+      rose = λ same. rises disk.faults end.faults notes.calls up.faults few stopped.halted.faults;
       quiet = λ quiet changed. reached_from (4 * length stopped.records + 4) (4 * (1 + sequences_in frame)) disk.stop end.stop stopped.halted.stop (stopped.halted.reached quiet) (omega (arith, stopped.few));
       reached = λ left set changed answered. absurd (answered refl);
     }
 
-    pub stopped_does : notes.is_spent ≡ false → (may_store frame ≡ false → ⊥) → ServedOne before connection now frame Stopped (Leaves end) behind
-    stopped_does live stores = record {
-      keeps = keeps live;
+    pub stopped_does : notes.is_spent ≡ false → notes.calls < 2 ^ 48 → (may_store frame ≡ false → ⊥) → ServedOne before connection now frame Stopped (Leaves end) behind
+    stopped_does live few stores = record {
+      keeps = keeps live few;
       session = session_of session.ltxid;
       of_connection = session_shown grants disk core held notes connection session made start history up taken.session_is;
       history = refl;
@@ -201,6 +201,6 @@ module _ (grants : Grants) (disk end : DiskState) (core : Core) (held rest : Hel
       outcome = stopped_by_table (store_of disk.now.seen) frame;
       adds = adds_at end.now.seen reads_now;
       left = λ store leaves. subst (Adds (Served (session_of session.ltxid) now frame Stopped ∷ []) (1 + sequences_in frame) (store_of disk.now.seen)) (sym leaves.store_is) (adds_at leaves.image leaves.left);
-      cause = cause;
+      cause = cause few;
       silent = λ quiet. absurd (stores quiet);
     }

@@ -1,5 +1,5 @@
 -- An outcome that was asked for from outside.
-use Rattle.std.proofs.Common.{◌≡◌, ◌∙◌, ◌+◌, ◌*◌, ℕ, false, refl, sym, ap, subst, List, [], ◌∷◌, ◌++◌, length, arith}
+use Rattle.std.proofs.Common.{◌≡◌, ◌∙◌, ◌+◌, ◌*◌, ◌<◌, ◌^◌, ℕ, false, refl, sym, ap, subst, List, [], ◌∷◌, ◌++◌, length, arith}
 use Rattle.std.specs.Prelude.{◌≢◌, Some, None, Result, IfOk}
 use Rattle.disk_model.specs.Moment.{MayLeave}
 use Rattle.disk_model.specs.Disk.{DiskState}
@@ -165,7 +165,7 @@ module _ (grants : Grants) (disk end : DiskState) (core : Core) (held : Held) (n
       none = refl;
       base = up.fits.journal.base;
       leaves = λ image left. let grew = grew_in image left in record { journal = grew.later; reads = grew.reads; base_is = grew.base_is; room = omega (arith, still_incarnation image left, up.room) };
-      faults = still_counted disk.faults end.faults stopped.halted.faults;
+      faults = still_counted disk.faults end.faults notes.calls up.faults stopped.halted.faults;
       crashes = omega (arith, up.crashes);
       reads_now = reads_now;
       settled = λ settled. absurd (let no : ⊥ = cc in no);
@@ -201,15 +201,15 @@ module _ (grants : Grants) (disk end : DiskState) (core : Core) (held : Held) (n
           adds_block x came.server.core one.after one.may disk.now.seen image (some_in image left).added up.fits.journal (grew_in image left).later up.fits.reads (grew_in image left).reads
           (stored_before came.server.core came.stands.plain) (stored_in image left came.server.core one) (some_in image left).has (some_in image left).few
 
-      pub halted_does : notes.is_spent ≡ false → StoppedAsk halted_before x (Leaves end) halted_behind
-      halted_does live = record {
+      pub halted_does : notes.is_spent ≡ false → notes.calls < 2 ^ 48 → StoppedAsk halted_before x (Leaves end) halted_behind
+      halted_does live few = record {
         keeps = record {
           start = refl;
           is_opened = refl;
           is_quiet = stopped.halted.quiet;
           per_record = refl;
           crashes = (refl, refl, refl);
-          faults = never_falls disk.faults end.faults up.faults stopped.halted.faults;
+          faults = never_falls disk.faults end.faults notes.calls up.faults few stopped.halted.faults;
           stop = λ none. still_none_by_less 4 disk.stop end.stop stopped.halted.stop none;
           calls = refl;
           is_spent = live;
@@ -218,5 +218,5 @@ module _ (grants : Grants) (disk end : DiskState) (core : Core) (held : Held) (n
         others = ((λ connection. refl), refl, refl);
         adds = adds_at end.now.seen reads_now;
         left = λ store leaves. subst (AddsBlock x (store_of disk.now.seen)) (sym leaves.store_is) (adds_at leaves.image leaves.left);
-        cause = record { rose = λ is. rises disk.faults end.faults stopped.halted.faults; quiet = λ quiet changed. none_before 4 disk.stop end.stop stopped.halted.stop (stopped.halted.reached quiet) };
+        cause = record { rose = λ is. rises disk.faults end.faults notes.calls up.faults few stopped.halted.faults; quiet = λ quiet changed. none_before 4 disk.stop end.stop stopped.halted.stop (stopped.halted.reached quiet) };
       }

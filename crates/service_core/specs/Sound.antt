@@ -17,9 +17,9 @@ use Rattle.service_core.specs.declared.notes.Notes.{Notes}
 use Rattle.service_core.specs.Held.{Held, held_at}
 use Rattle.service_core.specs.Within.{Within}
 
--- Each opening is a call, so an incarnation of at most 2^62 leaves room for all that may be made.
+-- Each opening is a call, and a call has one fault at most: so of either a count of at most 2^62 leaves room for all that may come.
 abbrev pub HasRoom : ℕ → Notes → Type 0
-HasRoom incarnation notes = incarnation ≤ 2 ^ 62 + notes.calls
+HasRoom count notes = count ≤ 2 ^ 62 + notes.calls
 
 -- a session of a living connection, and what it has read
 pub record IsHeld (core : Core) (made : ℕ) (session : Session) : Type 0 where
@@ -36,7 +36,7 @@ unmade core session = begins (ltxid_of (record { incarnation = core.source.incar
 pub record IsUp (grants : Grants) (disk : DiskState) (core : Core) (held : Held) (notes : Notes) : Type 0 where
   pub fits : Fits core disk
   pub granted : core.grants ≡ grants
-  pub faults : disk.faults ≤ 2 ^ 64 - 1
+  pub faults : HasRoom disk.faults notes
   pub settled : notes.is_settled ≡ true
   pub room : HasRoom core.source.incarnation notes
   pub few : notes.sessions ≤ notes.calls
@@ -58,7 +58,7 @@ pub record IsDown (disk : DiskState) (held : Held) (notes : Notes) : Type 0 wher
   pub none : held ≡ []
   pub base : Base
   pub leaves : (image : List ℕ) → MayLeave disk.now image → Reads base notes image
-  pub faults : disk.faults ≤ 2 ^ 64 - 1
+  pub faults : HasRoom disk.faults notes
   pub crashes : notes.crashes ≤ notes.calls
   pub reads_now : MayLeave disk.now disk.now.seen
   pub settled : notes.is_settled ≡ true → IsSettled disk

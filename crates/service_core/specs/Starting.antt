@@ -12,11 +12,11 @@ use Rattle.service_core.specs.declared.notes.Notes.{Notes}
 use Rattle.service_core.specs.Within.{Within}
 use Rattle.service_core.specs.Seeing.{state_in}
 
--- The disk is settled, under no stop, and reads as a journal whose incarnation leaves room for all that may be made.
+-- The disk is settled, under no stop, and reads as a journal. Its faults and the journal's incarnation leave room for all that may come.
 pub record CanBegin (disk : DiskState) : Type 0 where
   pub settled : IsSettled disk
   pub stop : disk.stop ≡ None
-  pub faults : disk.faults < 2 ^ 64
+  pub faults : disk.faults ≤ 2 ^ 62
   pub journal : Journal
   pub reads : journal_of disk.now.seen ≡ Ok journal
   pub room : journal.incarnation ≤ 2 ^ 62

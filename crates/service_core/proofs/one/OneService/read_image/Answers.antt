@@ -1,4 +1,4 @@
-use Rattle.std.proofs.Common.{◌∙◌, sym, ap, subst}
+use Rattle.std.proofs.Common.{◌∙◌, ◌<◌, ◌^◌, sym, ap, subst}
 use Rattle.std.specs.Prelude.{Err}
 use Rattle.server_model.specs.ServiceCalls.{Looked, StoppedLook}
 use Rattle.service_calls.specs.Kept.{Goes}
@@ -30,5 +30,6 @@ returns-in-Err-Stopped-clause-looked g c =
     let new = g.D.Disk.state c.bytes_of.new.disk in
     let lost = is_lost _ old.disk new (ap Err c.in-Err-Stopped.field-0-is) c.in-Err-Stopped.ensures.only_reads (g.met.D.Disk.reads_now c.bytes_of.new.disk) in
     let live = ap (λ (w : Within). w.notes.is_spent) c.self.view_is ∙ c.requires.live in
+    let few = subst (λ n. n < 2 ^ 48) (sym (ap (λ (w : Within). w.notes.calls) c.self.view_is)) c.requires.few in
     subst (λ (w : Within). Goes (SeesIn w) (SeesIn (record (lost_from old new) { held = c.clear.new.self })) StoppedLook) {x = old} c.self.view_is
-    (subst (λ (h : Held). Goes (SeesIn old) (SeesIn (record (lost_from old new) { held = h })) StoppedLook) (sym c.clear.ensures) (loses old new live (c.self.invariant live) lost))
+    (subst (λ (h : Held). Goes (SeesIn old) (SeesIn (record (lost_from old new) { held = h })) StoppedLook) (sym c.clear.ensures) (loses old new live few (c.self.invariant live) lost))

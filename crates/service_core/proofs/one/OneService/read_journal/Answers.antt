@@ -1,4 +1,4 @@
-use Rattle.std.proofs.Common.{◌∙◌, sym, ap, subst}
+use Rattle.std.proofs.Common.{◌∙◌, ◌<◌, ◌^◌, sym, ap, subst}
 use Rattle.std.specs.Prelude.{Err}
 use Rattle.server_model.specs.ServiceCalls.{Looked, StoppedLook}
 use Rattle.service_calls.specs.Kept.{Goes}
@@ -6,8 +6,14 @@ use Rattle.service_core.specs.Held.{Held}
 use Rattle.service_core.specs.Seeing.{SeesIn, called}
 use Rattle.service_core.specs.Sound.{IsDown}
 use Rattle.service_core.specs.Within.{Within}
-use Rattle.service_core.proofs.Read.{answered_same, looked_from, looks, is_lost, lost_from, loses_soundly, loses}
+use Rattle.service_core.proofs.Read.{answered_same, looked_from, looks, looks_soundly, is_lost, lost_from, loses_soundly, loses}
 use Rattle.service_core.proofs.one.OneService.read_journal.Goals as goal
+
+pub invariant_of-self : goal.invariant_of-self
+invariant_of-self g c live =
+    let old : Within = record { grants = c.self.inside.grants; disk = g.D.Disk.state c.self.inside.disk; core = c.self.inside.core; held = c.self.inside.held; notes = c.self.inside.notes } in
+    let new = g.D.Disk.state c.read.new.disk in
+    looks_soundly old new (answered_same c.in-Ok.journal _ old.disk new c.in-Ok.ensures.only_reads) (c.self.invariant live)
 
 pub returns-in-Ok-clause-looked : goal.returns-in-Ok-clause-looked
 returns-in-Ok-clause-looked g c =
@@ -30,5 +36,6 @@ returns-in-Err-Stopped-clause-looked g c =
     let new = g.D.Disk.state c.read.new.disk in
     let lost = is_lost _ old.disk new (ap Err c.in-Err-Stopped.field-0-is) c.in-Err-Stopped.ensures.only_reads (g.met.D.Disk.reads_now c.read.new.disk) in
     let live = ap (λ (w : Within). w.notes.is_spent) c.self.view_is ∙ c.requires.live in
+    let few = subst (λ n. n < 2 ^ 48) (sym (ap (λ (w : Within). w.notes.calls) c.self.view_is)) c.requires.few in
     subst (λ (w : Within). Goes (SeesIn w) (SeesIn (record (lost_from old new) { held = c.clear.new.self })) StoppedLook) {x = old} c.self.view_is
-    (subst (λ (h : Held). Goes (SeesIn old) (SeesIn (record (lost_from old new) { held = h })) StoppedLook) (sym c.clear.ensures) (loses old new live (c.self.invariant live) lost))
+    (subst (λ (h : Held). Goes (SeesIn old) (SeesIn (record (lost_from old new) { held = h })) StoppedLook) (sym c.clear.ensures) (loses old new live few (c.self.invariant live) lost))

@@ -1,4 +1,4 @@
-use Rattle.std.proofs.Common.{◌≡◌, ◌∙◌, true, false, sym, ap, subst}
+use Rattle.std.proofs.Common.{◌≡◌, ◌∙◌, ◌<◌, ◌^◌, true, false, sym, ap, subst}
 use Rattle.std.specs.Prelude.{Err, is_some}
 use Rattle.server_model.specs.ServiceCalls.{MayForget, Opened, StoppedOpening}
 use Rattle.service_calls.specs.Kept.{Goes, HaveOneBase}
@@ -47,12 +47,13 @@ returns-in-Err-Stopped-clause-opened g c =
     let said = c.in-Err-Stopped.ensures in
     let halted = is_halted (Err c.in-Err-Stopped.field-0) c.args.horizon (stop_of c.args.horizon old.disk.now.seen) old.disk new (ap Err c.in-Err-Stopped.field-0-is) (g.met.D.Disk.reads_now c.open.new.disk) said.any_moment said.stop said.cause in
     let live = ap (λ (w : Within). w.notes.is_spent) c.self.view_is ∙ c.requires.live in
+    let few = subst (λ n. n < 2 ^ 48) (sym (ap (λ (w : Within). w.notes.calls) c.self.view_is)) c.requires.few in
     let off : is_some old.core ≡ false = ap (λ (w : Within). is_some w.core) c.self.view_is ∙ c.requires.down.0 in
     let settled : old.notes.is_settled ≡ true = ap (λ (w : Within). w.notes.is_settled) c.self.view_is ∙ c.requires.down.1 in
     let may = subst (λ (w : Within). MayForget (state_in w) c.args.horizon) (sym c.self.view_is) c.requires.may in
     let after = halted_from old new c.left-self-inside.result in
     subst (λ (w : Within). Goes (SeesIn w) (SeesIn after) (λ before seen. StoppedOpening before c.args.horizon (LeavesIn after) seen)) {x = old} c.self.view_is
-    (halts old new c.left-self-inside.result c.args.horizon (stop_of c.args.horizon old.disk.now.seen) c.left-self-inside.ensures c.raises_horizon.ensures live off settled (c.self.invariant live) may halted)
+    (halts old new c.left-self-inside.result c.args.horizon (stop_of c.args.horizon old.disk.now.seen) c.left-self-inside.ensures c.raises_horizon.ensures live few off settled (c.self.invariant live) may halted)
 
 pub returns-in-Err-Stopped-clause-base : goal.returns-in-Err-Stopped-clause-base
 returns-in-Err-Stopped-clause-base g c =

@@ -1,4 +1,4 @@
-use Rattle.std.proofs.Common.{◌≡◌, ◌∙◌, ◌+◌, sym, ap, subst}
+use Rattle.std.proofs.Common.{◌≡◌, ◌∙◌, ◌+◌, ◌<◌, ◌^◌, sym, ap, subst}
 use Rattle.std.specs.Prelude.{Option, Some, Err}
 use Rattle.svc_values.specs.Calls.{sequences_in}
 use Rattle.server_model.specs.Outcomes.{Stopped, telling_of}
@@ -86,9 +86,10 @@ returns-in-Err-Stopped-clause-served g c =
     let stopped = subst (λ (f : ServeFault). Serves (served_as frame c.args.now) (1 + sequences_in frame) (Err f) session c.in-Some.core old.disk c.serve.new.self c.serve.new.core end) c.in-Err-Stopped.field-0-is c.in-Err-Stopped.ensures.served in
     let is_up : old.core ≡ Some c.in-Some.core = sym c.in-Some.ensures.value in
     let live = ap (λ (w : Within). w.notes.is_spent) c.self.view_is ∙ c.requires.live in
+    let few = subst (λ n. n < 2 ^ 48) (sym (ap (λ (w : Within). w.notes.calls) c.self.view_is)) c.requires.few in
     let new = with_stopped old c.in-Some.core is_up (c.self.invariant live) c.take_session-session.new.held c.take_session-session.new.made c.args.connection c.args.now frame session c.left-self-inside.result c.left-self-inside.ensures taken end stopped (g.met.D.Disk.reads_now c.serve.new.disk) c.take.new.self c.take.ensures.after c.clear.new.self c.clear.ensures c.take.new.self c.clear.new.self in
     subst (λ (w : Within). Goes (SeesIn w) (SeesIn new) (λ before behind. ServedOne before c.args.connection c.args.now frame Stopped (LeavesIn new) behind)) {x = old} c.self.view_is
-    (stops old c.in-Some.core is_up (c.self.invariant live) c.take_session-session.new.held c.take_session-session.new.made c.args.connection c.args.now frame session c.left-self-inside.result c.left-self-inside.ensures taken end stopped (g.met.D.Disk.reads_now c.serve.new.disk) c.take.new.self c.take.ensures.after c.clear.new.self c.clear.ensures live (λ quiet. (c.in-Err-Stopped.ensures.silent quiet).1 (ap Err c.in-Err-Stopped.field-0-is)))
+    (stops old c.in-Some.core is_up (c.self.invariant live) c.take_session-session.new.held c.take_session-session.new.made c.args.connection c.args.now frame session c.left-self-inside.result c.left-self-inside.ensures taken end stopped (g.met.D.Disk.reads_now c.serve.new.disk) c.take.new.self c.take.ensures.after c.clear.new.self c.clear.ensures live few (λ quiet. (c.in-Err-Stopped.ensures.silent quiet).1 (ap Err c.in-Err-Stopped.field-0-is)))
 
 pub returns-in-Err-Stopped-clause-base : goal.returns-in-Err-Stopped-clause-base
 returns-in-Err-Stopped-clause-base g c =

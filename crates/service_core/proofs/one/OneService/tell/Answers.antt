@@ -1,4 +1,4 @@
-use Rattle.std.proofs.Common.{◌≡◌, ◌∙◌, sym, ap, subst}
+use Rattle.std.proofs.Common.{◌≡◌, ◌∙◌, ◌<◌, ◌^◌, sym, ap, subst}
 use Rattle.std.specs.Prelude.{Some, Err}
 use Rattle.server_model.specs.declared.fault.ServeFault.{ServeFault}
 use Rattle.server_model.specs.ServiceCalls.{AskedOne, StoppedAsk}
@@ -49,9 +49,10 @@ returns-in-Err-Stopped-clause-asked g c =
     let is_up : old.core ≡ Some c.in-Some.core = sym c.in-Some.ensures.value in
     let stopped = subst (λ (f : ServeFault). Tells c.args.x.now (Err f) c.in-Some.core old.disk c.tell_outcome.new.core end) c.in-Err-Stopped.field-0-is c.in-Err-Stopped.ensures in
     let live = ap (λ (w : Within). w.notes.is_spent) c.self.view_is ∙ c.requires.live in
+    let few = subst (λ n. n < 2 ^ 48) (sym (ap (λ (w : Within). w.notes.calls) c.self.view_is)) c.requires.few in
     let new = with_halted old c.in-Some.core is_up (c.self.invariant live) c.args.x.now end stopped (g.met.D.Disk.reads_now c.tell_outcome.new.disk) c.take.new.self c.take.ensures.after c.clear.new.self c.clear.ensures c.take.new.self c.clear.new.self in
     subst (λ (w : Within). Goes (SeesIn w) (SeesIn new) (λ before behind. StoppedAsk before c.args.x.now (LeavesIn new) behind)) {x = old} c.self.view_is
-    (halts old c.in-Some.core is_up (c.self.invariant live) c.args.x.now end stopped (g.met.D.Disk.reads_now c.tell_outcome.new.disk) c.take.new.self c.take.ensures.after c.clear.new.self c.clear.ensures live)
+    (halts old c.in-Some.core is_up (c.self.invariant live) c.args.x.now end stopped (g.met.D.Disk.reads_now c.tell_outcome.new.disk) c.take.new.self c.take.ensures.after c.clear.new.self c.clear.ensures live few)
 
 pub returns-in-Err-Stopped-clause-base : goal.returns-in-Err-Stopped-clause-base
 returns-in-Err-Stopped-clause-base g c =
