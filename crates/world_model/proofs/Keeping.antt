@@ -163,7 +163,7 @@ all_sent terms now [] a counts = counts
 all_sent terms now (frame ∷ frames) a counts = all_sent terms now frames (sends terms now a frame) (sends_counts terms now a frame counts)
 
 -- the index behind the last decided call, with one call more
-behind_more : (found index : ℕ) (shown : List ShownCall) (one : ShownCall) → behind_decided found index (shown ++ one ∷ []) ≡ cond (ends_decided one.answers) (index + length shown + 1) (behind_decided found index shown)
+pub behind_more : (found index : ℕ) (shown : List ShownCall) (one : ShownCall) → behind_decided found index (shown ++ one ∷ []) ≡ cond (ends_decided one.answers) (index + length shown + 1) (behind_decided found index shown)
 behind_more found index [] one = let plain : index + 1 ≡ index + 0 + 1 = omega arith in ap (λ (n : ℕ). cond (ends_decided one.answers) n found) plain
 behind_more found index (first ∷ shown) one =
     let next : ℕ = cond (ends_decided first.answers) (index + 1) found in

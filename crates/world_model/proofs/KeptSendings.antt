@@ -45,7 +45,7 @@ use Rattle.world_model.proofs.Strangers.{slot_strange}
 use Rattle.world_model.proofs.Tests.{eq_from, eq_to, ne_to}
 
 -- among those of which it holds
-any_of_all : (test : ℕ → Bool) (numbers : List ℕ) (number : ℕ) → list_all test numbers ≡ true → list_any (λ other. other == number) numbers ≡ true → test number ≡ true
+pub any_of_all : (test : ℕ → Bool) (numbers : List ℕ) (number : ℕ) → list_all test numbers ≡ true → list_any (λ other. other == number) numbers ≡ true → test number ≡ true
 any_of_all test [] number all is = absurd (let none : ⊥ = cc in none)
 any_of_all test (first ∷ numbers) number all is =
     let parts = and_parts (test first) (list_all test numbers) all in by (first == number) refl is parts.0 (any_of_all test numbers number parts.1)
@@ -70,7 +70,7 @@ closed_agrees owner number sents sendings here =
     (sym (filter-append (λ (sent : Sent). owned_by owner sent && is_unmarked sent) sents (closed_by_drain ∷ []) ∙ append-nil (calls_of owner sents))) here
 
 module _ (test : List Sent → Bool) (frames : List Sent) (more : (sents : List Sent) → test sents ≡ true → test (sents ++ frames) ≡ true) where
-  spoken_passes : (lists : List (List Sent)) (number at : ℕ) → sents_pass test lists at ≡ true → sents_pass test (spoken lists number frames) at ≡ true
+  pub spoken_passes : (lists : List (List Sent)) (number at : ℕ) → sents_pass test lists at ≡ true → sents_pass test (spoken lists number frames) at ≡ true
   spoken_passes lists number at here = by (number == at) refl (passes_from test lists at here)
     where
       by : (same : Bool) → (number == at) ≡ same → PassesAt test lists at → sents_pass test (spoken lists number frames) at ≡ true
@@ -81,7 +81,7 @@ module _ (test : List Sent → Bool) (frames : List Sent) (more : (sents : List 
           passes_to test (spoken lists number frames) at is.sents
           (spoken_others lists number at frames (λ same. let yes_is : (number == at) ≡ true = eq_to number at (sym same) in let never : ⊥ = cc in never) ∙ is.there) is.passes
 
-  each_passes : (lists : List (List Sent)) (numbers : List ℕ) (at : ℕ) → sents_pass test lists at ≡ true → sents_pass test (fold (λ (all : List (List Sent)) (number : ℕ). spoken all number frames) lists numbers) at ≡ true
+  pub each_passes : (lists : List (List Sent)) (numbers : List ℕ) (at : ℕ) → sents_pass test lists at ≡ true → sents_pass test (fold (λ (all : List (List Sent)) (number : ℕ). spoken all number frames) lists numbers) at ≡ true
   each_passes lists [] at here = here
   each_passes lists (number ∷ numbers) at here = each_passes (spoken lists number frames) numbers at (spoken_passes lists number at here)
 
@@ -161,7 +161,7 @@ module _ (setting : Setting) (m : Machine) (talks : AllTalk setting.terms m.clie
 -- EVENTS ------------------------------------------------------------------------------------------
 
 -- the request that steps, before it does
-before_sent : (t : Traced) (m : Machine) (number : ℕ) (n : Machine) (step : HasStepped t.setting m number n) → client_at t.machine.clients number ≡ Some step.client
+pub before_sent : (t : Traced) (m : Machine) (number : ℕ) (n : Machine) (step : HasStepped t.setting m number n) → client_at t.machine.clients number ≡ Some step.client
     → list_all (course_sent t.machine.links) (courses_of t) ≡ true → sent_on_held (record { client = number; place = length step.client.past }) step.before.steps (sent_lists t.machine.links) ≡ true
 before_sent t m number n step here old = by step.client.now refl step.client.next step.does
   where
@@ -223,7 +223,7 @@ may_send t m n clients links talks ready owned (Stepped number step) old =
     now = mine_sent t.setting m talks number n step strange (subst (λ (all : List Link). sent_on_held mine step.before.steps (sent_lists all) ≡ true) (sym links) (before_sent t m number n step here old))
 
 -- at the start no request was submitted
-resting_none : (setting : Setting) (number : ℕ) (test : Course → Bool) (all : List Scripted) → list_all test (courses_of_clients setting number (map (λ (one : Scripted). resting one.requests []) all)) ≡ true
+pub resting_none : (setting : Setting) (number : ℕ) (test : Course → Bool) (all : List Scripted) → list_all test (courses_of_clients setting number (map (λ (one : Scripted). resting one.requests []) all)) ≡ true
 resting_none setting number test [] = refl
 resting_none setting number test (one ∷ all) = resting_none setting (number + 1) test all
 

@@ -165,7 +165,7 @@ module _ (terms : Terms) (calls : List Call) where
   sends_more now a (up.Call false kept call) = refl
   sends_more now a frame = refl
 
-  all_more : (now : ℕ) (frames : List Up) (a : Account) → (fold (sends terms now) a frames).shown ≡ a.shown
+  pub all_more : (now : ℕ) (frames : List Up) (a : Account) → (fold (sends terms now) a frames).shown ≡ a.shown
   all_more now [] a = refl
   all_more now (frame ∷ frames) a = all_more now frames (sends terms now a frame) ∙ sends_more now a frame
 

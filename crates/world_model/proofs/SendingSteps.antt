@@ -164,7 +164,7 @@ module _ (setting : Setting) (m : Machine) (talks : AllTalk setting.terms m.clie
   abbrev said : List Sent
   said = map (sent_by (owner_at m number) (call_in phase)) (frames_of step.pool (unwrap_or step.connection 0) one.done.act)
 
-  said_mine : said ≡ map (sent_by mine (call_in phase)) one.done.act.send ++ map (sent_by mine (call_in phase)) (closing one.done.act.hold (give_back_answer step.pool (unwrap_or step.connection 0)))
+  pub said_mine : said ≡ map (sent_by mine (call_in phase)) one.done.act.send ++ map (sent_by mine (call_in phase)) (closing one.done.act.hold (give_back_answer step.pool (unwrap_or step.connection 0)))
   said_mine =
       ap (λ (owner : Owner). map (sent_by owner (call_in phase)) (frames_of step.pool (unwrap_or step.connection 0) one.done.act)) (step_owner setting m talks number n step)
       ∙ map-append (sent_by mine (call_in phase)) one.done.act.send (closing one.done.act.hold (give_back_answer step.pool (unwrap_or step.connection 0)))

@@ -59,7 +59,7 @@ recorded_call terms track one None = by (nat_le terms.recorded (length track.rec
     by true = refl
     by false = refl
 
-replied_call : (terms : Terms) (track : Track) (one : Recorded) (reply : After) → (with_reply terms track one reply).call ≡ track.call
+pub replied_call : (terms : Terms) (track : Track) (one : Recorded) (reply : After) → (with_reply terms track one reply).call ≡ track.call
 replied_call terms track one after.Record = recorded_call terms track one track.why
 replied_call terms track one after.Purge = refl
 replied_call terms track one (after.Stop reason) = refl

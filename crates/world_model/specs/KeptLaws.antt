@@ -71,6 +71,12 @@ TalksAreKept =
     (before after : Seen) (old new : Traced) (event : Event) (note : Note) (items left : List Served)
     → OneEvent before old event note items left after new → Orderly old → AllTalk new.setting.terms new.machine.clients
 
+-- a test of the state, kept where it held before and what is orderly did
+pub record StaysTrue (test : Traced → Bool) : Type 0 where
+  pub at_start : (document : Document) → IsTrue (test (traced_start document))
+  pub at_event : (before after : Seen) (old new : Traced) (event : Event) (note : Note) (items left : List Served)
+      → OneEvent before old event note items left after new → Orderly old → IsTrue (test old) → IsTrue (test new)
+
 -- a test of the state, kept where the whole invariant held before
 pub record IsKeptOfAll (test : Traced → Bool) : Type 0 where
   pub at_start : (document : Document) → IsTrue (test (traced_start document))

@@ -1,12 +1,12 @@
 //! What of the invariant holds of the start and is kept in each event, if what is orderly held before it. Each law is the clause of
 //! a function with nothing to run.
-ghost use Rattle.world_model.specs.KeptLaws.{IsKept, IsKeptOfCalls, IsOfService, BasicBegins, BasicIsKept, WireBegins, WireIsKept, HoldBegins, HoldIsKept, IsKeptOfAll, OrderlyIsKept, NumberBegins, NumberIsKept, TalksBegin, TalksAreKept};
+ghost use Rattle.world_model.specs.KeptLaws.{IsKept, IsKeptOfCalls, IsOfService, BasicBegins, BasicIsKept, WireBegins, WireIsKept, HoldBegins, HoldIsKept, IsKeptOfAll, StaysTrue, OrderlyIsKept, NumberBegins, NumberIsKept, TalksBegin, TalksAreKept};
 ghost use Rattle.world_model.specs.Wire.{sent_fronts, reply_fronts, are_handled, in_grammar, one_out, answered_in_order, up_lives, are_fresh};
 ghost use Rattle.world_model.specs.Ready.{are_ready};
 ghost use Rattle.world_model.specs.Script.{are_conversations, are_kept, all_sent, are_owned, carry_draws, follow_scripts, report_rightly};
 ghost use Rattle.world_model.specs.Hold.{are_had, are_queued, are_held, are_idle, slots_held, are_opened, are_by_held};
 ghost use Rattle.world_model.specs.Number.{are_near, are_counted as are_numbered, are_told, are_served_near, are_ahead, blocks_next, entries_numbered, known_so_far, none_blocked};
-ghost use Rattle.world_model.specs.Shown.{answers_stand};
+ghost use Rattle.world_model.specs.Shown.{in_rows, answers_stand};
 ghost use Rattle.world_model.specs.Basic.{have_risen, kept_ticks, items_rise, items_differ, is_down, are_ended, sessions_differ, are_made, are_counted, are_named, living_now, commits_counted, lives};
 
 /// The items of a connection are in the order of their events, which are past. An event has one item.
@@ -215,6 +215,12 @@ pub fn entries_are_known()
 {
     commit_log::laws::keeps_journal();
 }
+
+/// The calls that a request sent on a connection are its script's, of indices in a row. The row begins behind the last call whose answers
+/// ended with Committed or Conflict, of those that were shown before its first call without a mark.
+pub fn calls_go_in_rows()
+    ensures { StaysTrue in_rows }
+{}
 
 /// What was answered of an identifier stands, if the whole invariant held before. Uncommitted, it is blocked; committed, its
 /// entry is there and says so; and no session is so far from it that the answer was anything else, but that it is forgotten.
