@@ -138,7 +138,7 @@ all_owned stage (sent ∷ sents) is right =
 
 -- LISTS -------------------------------------------------------------------------------------------
 
-any_all : {A : Type 0} (p q : A → Bool) (xs : List A) → list_any p xs ≡ true → list_all q xs ≡ true → (x : A) × ((p x ≡ true) × (q x ≡ true))
+pub any_all : {A : Type 0} (p q : A → Bool) (xs : List A) → list_any p xs ≡ true → list_all q xs ≡ true → (x : A) × ((p x ≡ true) × (q x ≡ true))
 any_all p q [] any all = absurd (let none : ⊥ = cc in none)
 any_all {A} p q (x ∷ xs) any all = by (or_cases (p x) (list_any p xs) any) (λ later. any_all p q xs later parts.1)
   where
@@ -219,7 +219,7 @@ pub record IsNear (t : Traced) (x : Ltxid) : Type 0 where
   pub least : x.number ≤ entries_of t.entries (session_of x)
   pub most : entries_of t.entries (session_of x) ≤ x.number + 1
 
-named_same : (session : Option SessionId) (s : SessionId) → is_of_one session s ≡ true → session ≡ Some s
+pub named_same : (session : Option SessionId) (s : SessionId) → is_of_one session s ≡ true → session ≡ Some s
 named_same None s is = absurd (let none : ⊥ = cc in none)
 named_same (Some one) s is = ap Some (sym (same_session_is s one is))
 

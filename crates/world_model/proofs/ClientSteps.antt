@@ -5,7 +5,8 @@ use Rattle.std.proofs.lemmas.List.{map-append}
 use Rattle.svc_values.specs.declared.entry.Ltxid.{Ltxid}
 use Rattle.svc_values.specs.declared.frame.Up.{Up}
 use Rattle.outage_schedule.specs.declared.item.Served.{Served}
-use Rattle.pool_core.specs.Slots.{Slots, after_take}
+use Rattle.pool_core.specs.declared.answers.Take.TheVariants as take
+use Rattle.pool_core.specs.Slots.{Slots, take_answer, after_take}
 use Rattle.client_model.specs.declared.act.Act.{Act}
 use Rattle.client_model.specs.declared.act.Hold.{Hold}
 use Rattle.client_model.specs.declared.act.Hold.TheVariants as hold
@@ -18,7 +19,7 @@ use Rattle.client_model.specs.Conversation.{may_come}
 use Rattle.client_model.specs.Talk.{wants_of, stands, quiet, fails, with_tried, lost_of, on_waiting, waits_from, on_try_failed}
 use Rattle.client_model.specs.Terms.{Talk, Queued, Seeking}
 use Rattle.world_model.specs.Settings.{Setting}
-use Rattle.world_model.specs.Frames.{Sent}
+use Rattle.world_model.specs.Frames.{Sent, Reply}
 use Rattle.world_model.specs.Links.{Link, new_link, link_at, with_link, changed, sends, takes}
 use Rattle.world_model.specs.Clients.{Doing, Client, client_at, with_client, doing_at, doing_of, heard, step_at, after_hold, after_step}
 use Rattle.world_model.specs.Conversing.{connected}
@@ -33,8 +34,8 @@ use Rattle.world_model.specs.Outside.{closed_by_drain}
 use Rattle.world_model.specs.Serving.{handled, after_front}
 use Rattle.world_model.proofs.AllClients.{stepped_client, client_set, client_twice}
 use Rattle.world_model.proofs.AllLinks.{front_is, open_is}
-use Rattle.world_model.proofs.Lookups.{handled_said, fallen_said, cut_said}
-use Rattle.world_model.proofs.Moves.{Tries, FromQueue, Again, IsDoing, next_number, with_new, takes_one, Goes, Rests, Waits, Lends, Opens, Fails, Takes, Loses, ServesLast, LastNone, LastStopped, LastServed, Happens, Nothing, IsStep, Serves, Cuts, Reaps, Crashes, OpensUp, StopsOpening, Ticks, RunsOutside, Asks, Drains}
+use Rattle.world_model.proofs.Lookups.{handled_said, fallen_said, cut_said, with_own, changed_own}
+use Rattle.world_model.proofs.Moves.{Tries, FromQueue, Again, IsDoing, IsOn, next_number, with_new, takes_one, Goes, Rests, Waits, Lends, Opens, Fails, Takes, Loses, ServesLast, LastNone, LastStopped, LastServed, Happens, Nothing, IsStep, Serves, Cuts, Reaps, Crashes, OpensUp, StopsOpening, Ticks, RunsOutside, Asks, Drains}
 use Rattle.world_model.proofs.SentLists.{sent_lists, spoken, with_same, changed_same, mapped_same, changed_more, sends_more, each_more}
 
 -- the loss of the connection may be heard in the same event
@@ -47,11 +48,33 @@ pub data Grows (lists : List (List Sent)) : List (List Sent) → Type 0 where
   AsBefore : Grows lists lists
   OneMore : Grows lists (lists ++ [] ∷ [])
 
+-- it is of the connection that the request has
+abbrev pub is_frame : Input → Bool
+is_frame (Took frame alive) = true
+is_frame (Gone event) = true
+is_frame _ = false
+
 -- a connection that an input brings
 pub data Brings (m : Machine) (lists : List (List Sent)) : Input → Type 0 where
   NoneNew : (input : Input) → brought input ≡ None → Brings m lists input
   IdleOne : (connection : ℕ) (ltxid : Ltxid) (link : Link) → link_at m.links connection ≡ Some link → Brings m lists (Lent connection ltxid)
   NewOne : lists ≡ sent_lists m.links ++ [] ∷ [] → Brings m lists (Opened (next_number m))
+
+-- behind a step: the loss of its connection is heard exactly where the request goes on and the connection is not open
+pub data Behind (setting : Setting) (first : Doing) (held : Hold) (opens : Bool) (ended : Option ℕ) : Doing → Type 0 where
+  AsFirst : (opens ≡ false → held ≡ hold.Keep → ⊥) → Behind setting first held opens ended first
+  LostBehind : (event tick : ℕ) → opens ≡ false → held ≡ hold.Keep → Behind setting first held opens ended (heard setting.terms event tick (record first { connection = None }) (Gone (unwrap_or ended 0)))
+
+-- which connection the input is of, and what becomes of it
+pub data HeardOn (setting : Setting) (m n : Machine) (who : ℕ) (first : Doing) (held : Hold) (after : Doing) : Option ℕ → Input → Type 0 where
+  OfNone : (had : Option ℕ) (input : Input) → brought input ≡ None → is_frame input ≡ false → after ≡ first → HeardOn setting m n who first held after had input
+  OfIdle : (had : Option ℕ) (connection : ℕ) (ltxid : Ltxid) → take_answer m.pool who ≡ take.Lent connection → after ≡ first → HeardOn setting m n who first held after had (Lent connection ltxid)
+  OfNew : (had : Option ℕ) → after ≡ first → HeardOn setting m n who first held after had (Opened (next_number m))
+  OfReply : (had : Option ℕ) (connection : ℕ) (link : Link) (reply : Reply) (left : List Reply) (frames : List Sent) → had ≡ Some connection → link_at m.links connection ≡ Some link → link.down ≡ reply ∷ left
+      → link_at n.links connection ≡ Some (sends m.event frames (takes (Took reply.frame link.is_open) reply left link)) → Behind setting first held link.is_open link.ended after
+      → HeardOn setting m n who first held after had (Took reply.frame link.is_open)
+  OfEnded : (had : Option ℕ) (connection : ℕ) (link : Link) → had ≡ Some connection → link_at m.links connection ≡ Some link → link.is_open ≡ false → link_at n.links connection ≡ Some link → after ≡ first
+      → HeardOn setting m n who first held after had (Gone (unwrap_or link.ended 0))
 
 -- Of this client: what its request hears on which connection, and where it stands then; and what it sends there.
 pub record HasStepped (setting : Setting) (m : Machine) (number : ℕ) (n : Machine) : Type 0 where
@@ -67,6 +90,8 @@ pub record HasStepped (setting : Setting) (m : Machine) (number : ℕ) (n : Mach
   pub after : Doing
   pub held : Hold
   pub goes_on : GoesOn setting (heard setting.terms m.event m.tick (record before { connection = connection }) input) (step_at setting.terms m.event m.tick (record before { connection = connection }) input).done.act.hold after held
+  pub heard_on : HeardOn setting m n number (heard setting.terms m.event m.tick (record before { connection = connection }) input) (step_at setting.terms m.event m.tick (record before { connection = connection }) input).done.act.hold after
+      before.connection input
   pub clients_are : n.clients ≡ with_client m.clients number (after_hold setting number client after held)
   pub pool : Slots
   pub lists : List (List Sent)
@@ -99,8 +124,9 @@ module _ (setting : Setting) (m : Machine) (number : ℕ) where
   one_step : (n : Machine) (client : Client) (before : Doing) (connection : Option ℕ) (input : Input) (pool : Slots) (links : List Link) → client_at m.clients number ≡ Some client
       → doing_of setting.terms m.event m.tick client ≡ Some before → connected before.connection input ≡ connection → Heard before connection input → Grows (sent_lists m.links) (sent_lists links) → Brings m (sent_lists links) input
       → n.clients ≡ after_step setting m.clients number (FirstOf before connection input) (ActOf before connection input).hold
-      → n.links ≡ changed (sends m.event (SaidOf pool before connection input)) links (unwrap_or connection 0) → HasStepped setting m number n
-  one_step n client before connection input pool links here does connects hears grows brings clients said = record {
+      → n.links ≡ changed (sends m.event (SaidOf pool before connection input)) links (unwrap_or connection 0)
+      → HeardOn setting m n number (FirstOf before connection input) (ActOf before connection input).hold (FirstOf before connection input) before.connection input → HasStepped setting m number n
+  one_step n client before connection input pool links here does connects hears grows brings clients said on = record {
     client = client;
     here = here;
     before = before;
@@ -113,6 +139,7 @@ module _ (setting : Setting) (m : Machine) (number : ℕ) where
     after = FirstOf before connection input;
     held = (ActOf before connection input).hold;
     goes_on = AtOnce;
+    heard_on = on;
     clients_are = clients ∙ stepped_client setting m.clients number client (FirstOf before connection input) (ActOf before connection input).hold here;
     pool = pool;
     lists = sent_lists links;
@@ -131,9 +158,13 @@ module _ (setting : Setting) (m : Machine) (number : ℕ) where
   unless_step : (a : Machine) (ended : Option ℕ) (alive : Bool) (client : Client) (before : Doing) (connection : Option ℕ) (input : Input) (pool : Slots) (links : List Link) → client_at m.clients number ≡ Some client
       → doing_of setting.terms m.event m.tick client ≡ Some before → connected before.connection input ≡ connection → Heard before connection input → Grows (sent_lists m.links) (sent_lists links) → Brings m (sent_lists links) input
       → a.clients ≡ after_step setting m.clients number (FirstOf before connection input) (ActOf before connection input).hold
-      → a.links ≡ changed (sends m.event (SaidOf pool before connection input)) links (unwrap_or connection 0) → HasStepped setting m number (if alive then a else lost_at_once setting a number ended (doing_at a.clients number))
-  unless_step a ended true client before connection input pool links here does connects hears grows brings clients said = one_step a client before connection input pool links here does connects hears grows brings clients said
-  unless_step a ended false client before connection input pool links here does connects hears grows brings clients said = by (ActOf before connection input).hold refl
+      → a.links ≡ changed (sends m.event (SaidOf pool before connection input)) links (unwrap_or connection 0)
+      → ((n : Machine) (after : Doing) → n.links ≡ a.links → Behind setting (FirstOf before connection input) (ActOf before connection input).hold alive ended after
+      → HeardOn setting m n number (FirstOf before connection input) (ActOf before connection input).hold after before.connection input)
+      → HasStepped setting m number (if alive then a else lost_at_once setting a number ended (doing_at a.clients number))
+  unless_step a ended true client before connection input pool links here does connects hears grows brings clients said on =
+      one_step a client before connection input pool links here does connects hears grows brings clients said (on a (FirstOf before connection input) refl (AsFirst (λ shut keep. let none : ⊥ = cc in none)))
+  unless_step a ended false client before connection input pool links here does connects hears grows brings clients said on = by (ActOf before connection input).hold refl
     where
       first : Doing
       first = FirstOf before connection input
@@ -147,10 +178,11 @@ module _ (setting : Setting) (m : Machine) (number : ℕ) where
           (ap (λ (all : List Client). client_at all number) (set ∙ ap (λ (h : Hold). with_client m.clients number (after_hold setting number client first h)) is)
           ∙ client_set m.clients number client (after_hold setting number client first held) here)
 
-      over : (held : Hold) → (ActOf before connection input).hold ≡ held → (after_hold setting number client first held).now ≡ None → HasStepped setting m number (lost_at_once setting a number ended (doing_at a.clients number))
-      over held is none =
+      over : (held : Hold) → (ActOf before connection input).hold ≡ held → (held ≡ hold.Keep → ⊥) → (after_hold setting number client first held).now ≡ None
+          → HasStepped setting m number (lost_at_once setting a number ended (doing_at a.clients number))
+      over held is lets none =
           subst (λ (one : Option Doing). HasStepped setting m number (lost_at_once setting a number ended one)) (sym (doing_now held is ∙ none))
-          (one_step a client before connection input pool links here does connects hears grows brings clients said)
+          (one_step a client before connection input pool links here does connects hears grows brings clients said (on a first refl (AsFirst (λ shut keep. lets (sym is ∙ keep)))))
 
       gone : Doing
       gone = heard setting.terms a.event a.tick (record first { connection = None }) (Gone (unwrap_or ended 0))
@@ -174,6 +206,7 @@ module _ (setting : Setting) (m : Machine) (number : ℕ) where
             after = gone;
             held = hold.Keep;
             goes_on = LostToo a.event a.tick (unwrap_or ended 0) is;
+            heard_on = on (lost_at_once setting a number ended (Some first)) gone refl (LostBehind a.event a.tick refl is);
             clients_are = stepped_client setting a.clients number one gone hold.Keep found ∙ (ap (λ (c : List Client). with_client c number next) so_far ∙ client_twice m.clients number one next);
             pool = pool;
             lists = sent_lists links;
@@ -185,8 +218,8 @@ module _ (setting : Setting) (m : Machine) (number : ℕ) where
 
       by : (held : Hold) → (ActOf before connection input).hold ≡ held → HasStepped setting m number (lost_at_once setting a number ended (doing_at a.clients number))
       by hold.Keep is = subst (λ (one : Option Doing). HasStepped setting m number (lost_at_once setting a number ended one)) (sym (doing_now hold.Keep is)) (kept is)
-      by hold.GiveBack is = over hold.GiveBack is refl
-      by hold.Drop is = over hold.Drop is refl
+      by hold.GiveBack is = over hold.GiveBack is (λ keep. let none : ⊥ = cc in none) refl
+      by hold.Drop is = over hold.Drop is (λ keep. let none : ⊥ = cc in none) refl
 
 -- EVENTS ------------------------------------------------------------------------------------------
 
@@ -220,29 +253,39 @@ module _ (setting : Setting) (m : Machine) where
   some_none : (connection : Option ℕ) (number : ℕ) (send : List Up) → connection ≡ Some number → connection ≡ None → send ≡ []
   some_none connection number send has none = absurd (let never : ⊥ = cc in never)
 
+  -- the connection of a reply that is taken, with what is sent behind it
+  taken_there : (frames : List Sent) (connection : ℕ) (doing : Doing) (link taken : Link) → IsOn m doing connection link
+      → link_at (changed (sends m.event frames) (with_link m.links connection taken) (unwrap_or doing.connection 0)) connection ≡ Some (sends m.event frames taken)
+  taken_there frames connection doing link taken on =
+      ap (λ (had : Option ℕ). link_at (changed (sends m.event frames) (with_link m.links connection taken) (unwrap_or had 0)) connection) on.has
+      ∙ changed_own (sends m.event frames) (with_link m.links connection taken) connection taken (with_own m.links connection link taken on.there)
+
   goes_step : (number : ℕ) (a : Machine) → Goes setting m number a → MayStep setting m a
   goes_step number _ Rests = Still refl refl
   goes_step number _ (Waits doing is answer) =
       Stepped number (one_step setting m number _ is.client doing doing.connection Waiting (after_take m.pool number) m.links is.here is.does refl
-      (may_so doing wants.Slot Waiting is.wants refl, λ none. waited_silent doing.talk (waits_from doing.talk.phase m.tick) m.tick) AsBefore (NoneNew Waiting refl) refl refl)
+      (may_so doing wants.Slot Waiting is.wants refl, λ none. waited_silent doing.talk (waits_from doing.talk.phase m.tick) m.tick) AsBefore (NoneNew Waiting refl) refl refl (OfNone doing.connection Waiting refl refl refl))
   goes_step number _ (Lends doing connection link ltxid is answer there held) =
       Stepped number (one_step setting m number _ is.client doing (Some connection) (Lent connection ltxid) (after_take m.pool number) m.links is.here is.does refl
-      (may_so doing wants.Slot (Lent connection ltxid) is.wants refl, some_none (Some connection) connection _ refl) AsBefore (IdleOne connection ltxid link there) refl refl)
+      (may_so doing wants.Slot (Lent connection ltxid) is.wants refl, some_none (Some connection) connection _ refl) AsBefore (IdleOne connection ltxid link there) refl refl (OfIdle doing.connection connection ltxid answer refl))
   goes_step number _ (Opens doing wanted pool is tries runs) =
       Stepped number (one_step setting m number _ is.client doing (Some (next_number m)) (Opened (next_number m)) (with_new m pool).pool (m.links ++ new_link ∷ []) is.here is.does refl
       ((tries_may number (next_number m) doing wanted pool is tries).0, some_none (Some (next_number m)) (next_number m) _ refl)
-      (subst (λ (lists : List (List Sent)). Grows (sent_lists m.links) lists) (sym (map-append (λ (link : Link). link.sent) m.links (new_link ∷ []))) OneMore) (NewOne (map-append (λ (link : Link). link.sent) m.links (new_link ∷ []))) refl refl)
+      (subst (λ (lists : List (List Sent)). Grows (sent_lists m.links) lists) (sym (map-append (λ (link : Link). link.sent) m.links (new_link ∷ []))) OneMore) (NewOne (map-append (λ (link : Link). link.sent) m.links (new_link ∷ []))) refl refl (OfNew doing.connection refl))
   goes_step number _ (Fails doing wanted pool is tries down) =
       Stepped number (one_step setting m number _ is.client doing doing.connection TryFailed pool m.links is.here is.does refl
-      ((tries_may number 0 doing wanted pool is tries).1, λ none. tried_silent doing.talk m.tick) AsBefore (NoneNew TryFailed refl) refl refl)
+      ((tries_may number 0 doing wanted pool is tries).1, λ none. tried_silent doing.talk m.tick) AsBefore (NoneNew TryFailed refl) refl refl (OfNone doing.connection TryFailed refl refl refl))
   goes_step number _ (Takes doing connection link reply left is on down) =
       let taken : Link = takes (Took reply.frame link.is_open) reply left link in
       Stepped number (unless_step setting m number (takes_one setting m number doing connection link reply left) link.ended link.is_open is.client doing doing.connection (Took reply.frame link.is_open) m.pool
       (with_link m.links connection taken) is.here is.does refl (may_so doing wants.Frame (Took reply.frame link.is_open) is.wants refl, some_none doing.connection connection _ on.has)
-      (grown (with_link m.links connection taken) (with_same m.links connection link taken on.there refl)) (NoneNew (Took reply.frame link.is_open) refl) refl refl)
+      (grown (with_link m.links connection taken) (with_same m.links connection link taken on.there refl)) (NoneNew (Took reply.frame link.is_open) refl) refl refl
+      (λ n after same behind. OfReply doing.connection connection link reply left (SaidOf setting m number m.pool doing doing.connection (Took reply.frame link.is_open)) on.has on.there down
+      (ap (λ (all : List Link). link_at all connection) same ∙ taken_there (SaidOf setting m number m.pool doing doing.connection (Took reply.frame link.is_open)) connection doing link taken on) behind))
   goes_step number _ (Loses doing connection link is on none closed) =
       Stepped number (one_step setting m number _ is.client doing None (Gone (unwrap_or link.ended 0)) m.pool m.links is.here is.does refl
-      (may_so doing wants.Frame (Gone (unwrap_or link.ended 0)) is.wants refl, λ never. refl) AsBefore (NoneNew (Gone (unwrap_or link.ended 0)) refl) refl refl)
+      (may_so doing wants.Frame (Gone (unwrap_or link.ended 0)) is.wants refl, λ never. refl) AsBefore (NoneNew (Gone (unwrap_or link.ended 0)) refl) refl refl
+      (OfEnded doing.connection connection link on.has on.there closed on.there refl))
 
   fallen_same : (links : List Link) → sent_lists (map (fallen_link m.event) links) ≡ sent_lists links
   fallen_same links = mapped_same (fallen_link m.event) links (λ link. (fallen_said m.event link).sent)

@@ -55,7 +55,7 @@ awaits_same owner phase a b said out = ap (λ (sent : List Sent). test sent b.ta
     test : List Sent → List Reply → Bool
     test sent taken = (count_reps sent == length taken + 1) && option_map_or (λ one. is_answered one.frame && (owned_by owner one && is_awaited phase one)) (last_or None sent) false
 
-not_zero : (links : List Link) (number : ℕ) (link : Link) → link_at links number ≡ Some link → number ≢ 0
+pub not_zero : (links : List Link) (number : ℕ) (link : Link) → link_at links number ≡ Some link → number ≢ 0
 not_zero links zero link is same = let none : ⊥ = cc in none
 not_zero links (suc index) link is same = let none : ⊥ = omega arith in none
 

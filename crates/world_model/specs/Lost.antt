@@ -49,6 +49,16 @@ abbrev pub outcome_on : Course → Option Ltxid → Option Outcome
 outcome_on course None = None
 outcome_on course (Some x) = last_or None (filter (λ outcome. same_ltxid outcome.ltxid x) course.report.outcomes)
 
+-- L0: a connection that was lost is no longer open, and no request has it
+abbrev pub is_without : ℕ → Course → Bool
+is_without number course = option_map_or (λ other. not (other == number)) course.connection true
+
+abbrev pub is_gone : List Link → List Course → ℕ → Bool
+is_gone links courses number = option_map_or (λ link. not link.is_open) (link_at links number) false && list_all (is_without number) courses
+
+abbrev pub stay_gone : Traced → Bool
+stay_gone t = list_all (λ course. list_all (is_gone t.machine.links (courses_of t)) (lost_links course)) (courses_of t)
+
 -- L1 ----------------------------------------------------------------------------------------------
 
 abbrev pub submitted_on : Course → Link → Bool
@@ -179,6 +189,7 @@ abbrev pub have_events : Traced → Bool
 have_events t = list_all (has_event t) (courses_of t)
 
 pub record Lost (t : Traced) : Type 0 where
+  pub gone : IsTrue (stay_gone t)
   pub lost : IsTrue (are_lost t)
   pub pending : IsTrue (are_pending t)
   pub told : IsTrue (are_told t)

@@ -7,6 +7,7 @@ ghost use Rattle.world_model.specs.Script.{are_conversations, are_kept, all_sent
 ghost use Rattle.world_model.specs.Hold.{are_had, are_queued, are_held, are_idle, slots_held, are_opened, are_by_held};
 ghost use Rattle.world_model.specs.Number.{are_near, are_counted as are_numbered, are_told, are_served_near, are_ahead, blocks_next, entries_numbered, known_so_far, none_blocked};
 ghost use Rattle.world_model.specs.Shown.{in_rows, answers_stand};
+ghost use Rattle.world_model.specs.Lost.{stay_gone, outcomes_lost, go_unasked, ask_rightly, have_events};
 ghost use Rattle.world_model.specs.Basic.{have_risen, kept_ticks, items_rise, items_differ, is_down, are_ended, sessions_differ, are_made, are_counted, are_named, living_now, commits_counted, lives};
 
 /// The items of a connection are in the order of their events, which are past. An event has one item.
@@ -226,6 +227,29 @@ pub fn calls_go_in_rows()
 /// entry is there and says so; and no session is so far from it that the answer was anything else, but that it is forgotten.
 pub fn answers_stay()
     ensures { IsKeptOfAll answers_stand }
+{}
+
+/// A connection that a request lost is no longer open, and no request has it, if the whole invariant held before.
+pub fn lost_connections_stay_shut()
+    ensures { IsKeptOfAll stay_gone }
+{}
+
+/// Each Outcome that a request sent asks the identifier held on a connection that it lost, if the whole invariant held before.
+pub fn requests_ask_what_they_lost()
+    ensures { IsKeptOfAll ask_rightly }
+{}
+
+/// Each outcome that a request took is of the identifier held on a connection that it lost, and the identifier that it goes by is none
+/// of them, if the whole invariant held before.
+pub fn outcomes_are_of_lost_connections()
+    ensures lost { IsKeptOfAll outcomes_lost }
+    ensures unasked { IsKeptOfAll go_unasked }
+{}
+
+/// An error that tells of an event tells of that which ended the connection whose identifier was asked last, if the whole invariant held
+/// before.
+pub fn errors_tell_their_events()
+    ensures { IsKeptOfAll have_events }
 {}
 
 /// The record of identifiers and entries as a whole.
