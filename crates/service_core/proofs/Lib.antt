@@ -1,7 +1,11 @@
 mod Asks
 mod BaseRows
 mod Beginning
+mod Beside
 mod Blocking
+mod CallsHalted
+mod CallsOutside
+mod CallsRan
 mod Ending
 mod Falling
 mod Faulty
@@ -13,10 +17,14 @@ mod Opened
 mod Reaching
 mod Read
 mod Reopening
+mod Replied
 mod Served
 mod Serves
 mod Splits
 mod Standing
+mod StoppedOne
 mod Stopping
 mod Taken
+mod Throughout
 mod Told
+mod Went

@@ -96,7 +96,7 @@ module _ (grants : Grants) (disk end : DiskState) (core later : Core) (held rest
   own = taken_held grants disk core held notes connection session made up taken.session_is
 
   stay : StaysSo core later session new
-  stay = stays_so frame now (1 + sequences_in frame) told core later disk end session new made up.fits own served
+  stay = stays_so frame now (1 + sequences_in frame) told core later disk end session new own.reads own.noted up.fits served
 
   apart_from : (other : ℕ) (another : Session) → held_at rest other ≡ Some (Some another) → another.ltxid.session ≢ session.ltxid.session
   apart_from other another at = others_apart grants disk core held rest notes connection other session another made up taken.session_is taken.gone at

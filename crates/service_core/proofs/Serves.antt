@@ -21,7 +21,7 @@ use Rattle.service_core.specs.Taking.{IsTaken, kept_of}
 use Rattle.service_core.specs.Within.{Within}
 use Rattle.service_core.proofs.Served.{served_base, served_came, served_does, served_up}
 use Rattle.service_core.proofs.Standing.{goes_from, seen_with}
-use Rattle.service_core.proofs.Stopping.{stopped_base, stopped_came, stopped_does, stopped_down}
+use Rattle.service_core.proofs.StoppedOne.{one_base, one_came, one_does, one_down}
 
 told_same : (told : Option Down) → told_of told ≡ telling_of told
 told_same None = refl
@@ -77,13 +77,13 @@ module _ (old : Within) (core : Core) (is_up : old.core ≡ Some core) (sound : 
     of_both P is = subst (λ (c : Option Core). P (with_stopped c empty)) (sym gone_is) (subst (λ (h : Held). P (with_stopped None h)) (sym empty_is) is)
 
     soundly : IsSoundWithin (with_stopped None [])
-    soundly = stopped_down old.grants old.disk end core old.held rest old.notes made connection now frame session kept kept_is up taken stopped reads_now
+    soundly = one_down old.grants old.disk end core old.held rest old.notes made connection now frame session kept kept_is up taken stopped reads_now
 
     pub stops_soundly : IsSoundWithin (with_stopped gone empty)
     stops_soundly = of_both IsSoundWithin soundly
 
     pub stops_on_base : HaveOneBase old.disk.now.seen end.now.seen
-    stops_on_base = stopped_base old.grants old.disk end core old.held rest old.notes made connection now frame session kept kept_is up taken stopped reads_now
+    stops_on_base = one_base old.grants old.disk end core old.held rest old.notes made connection now frame session kept kept_is up taken stopped reads_now
 
     pub stops : old.notes.is_spent ≡ false → old.notes.calls < 2 ^ 48 → (may_store frame ≡ false → ⊥)
         → Goes (SeesIn old) (SeesIn (with_stopped gone empty)) (λ before behind. ServedOne before connection now frame Stopped (LeavesIn (with_stopped gone empty)) behind)
@@ -94,8 +94,8 @@ module _ (old : Within) (core : Core) (is_up : old.core ≡ Some core) (sound : 
         let came = subst (λ (c : Option Core). Stands old.grants old.disk c old.held old.notes start history) is_up stands in
         record {
           later = history ++ Served (session_of session.ltxid) now frame Stopped ∷ [];
-          stands = stopped_came old.grants old.disk end core old.held rest old.notes made connection now frame session kept kept_is up taken stopped reads_now start history came;
+          stands = one_came old.grants old.disk end core old.held rest old.notes made connection now frame session kept kept_is up taken stopped reads_now start history came;
           does =
               subst (λ (c : Option Core). ServedOne (seen_with start history (state_of old.disk c old.held old.notes)) connection now frame Stopped (LeavesIn (with_stopped None [])) (seen_with start (history ++ Served (session_of session.ltxid) now frame Stopped ∷ []) (state_of end None [] (with_stopped None []).notes))) (sym is_up)
-              (stopped_does old.grants old.disk end core old.held rest old.notes made connection now frame session kept kept_is up taken stopped reads_now start history came live few stores);
+              (one_does old.grants old.disk end core old.held rest old.notes made connection now frame session kept kept_is up taken stopped reads_now start history came live few stores);
         }))

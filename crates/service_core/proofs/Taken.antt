@@ -31,7 +31,7 @@ use Rattle.service_core.specs.Seeing.{Attends, Came, StandsUp, state_of, store_o
 use Rattle.service_core.specs.Sound.{IsHeld, IsUp, unmade}
 use Rattle.service_core.specs.Taking.{IsSessionOf}
 use Rattle.service_core.proofs.Splits.{Between, more_between}
-use Rattle.service_core.proofs.Standing.{one_less, seen_with}
+use Rattle.service_core.proofs.Standing.{HasNoMore, one_less, seen_with}
 use Rattle.service_core.specs.InnerHonest.{store_is}
 
 -- ---- a plain server's core
@@ -111,12 +111,12 @@ pub record StaysSo (core later : Core) (session new : Session) : Type 0 where
   pub reads : List Read
   pub noted : AreReadings new.txn.readings reads
 
-pub stays_so : (frame : Up) (now most : ℕ) (told : Telling) (core later : Core) (disk end : DiskState) (session new : Session) (made : ℕ) → Fits core disk → IsHeld core made session
+pub stays_so : (frame : Up) (now most : ℕ) (told : Telling) (core later : Core) (disk end : DiskState) (session new : Session) (reads : List Read) → AreReadings session.txn.readings reads → Fits core disk
     → HasServed (served_as frame now) most told session core disk new later end → StaysSo core later session new
-stays_so frame now most told core later disk end session new made fits held served =
+stays_so frame now most told core later disk end session new reads noted fits served =
     let beside = has_plain core disk fits in
-    let steps = served.steps beside.plain held.reads beside.stands held.noted in
-    let stays = serve_stays beside.plain (sess_of session held.reads) now frame steps.0 (sess_of new steps.1.1.reads) told steps.1.1.steps in
+    let steps = served.steps beside.plain reads beside.stands noted in
+    let stays = serve_stays beside.plain (sess_of session reads) now frame steps.0 (sess_of new steps.1.1.reads) told steps.1.1.steps in
     record {
       grants = sym steps.1.0.grants ∙ ap (λ (b : Base). b.grants) stays.base ∙ beside.stands.grants;
       incarnation = ap (λ (o : Opening). o.incarnation) (sym steps.1.0.opening) ∙ stays.incarnation ∙ ap (λ (o : Opening). o.incarnation) beside.stands.opening;
@@ -140,6 +140,31 @@ attends_more sessions last session attends =
     let more = more_between sessions (sess_of session attends.reads) last (between_of sessions session attends) in
     record { reads = attends.reads; noted = attends.noted; front = more.front; back = more.back; split = more.split }
 
+-- the plain server makes the next session
+pub next_ready : (disk : DiskState) (core : Core) (held rest : Held) (sessions : ℕ) (start : Base) (history : List Happened) → HasNoMore held rest → Came start history (StandsUp disk core held sessions)
+    → Came start history (IsReady disk core rest (sessions + 1) (unmade core (sessions + 1)))
+next_ready disk core held rest sessions start history fewer came =
+    record {
+      server = with_next;
+      runs = subst (λ (h : List Happened). Runs start h with_next) (append-nil history) (Then history [] came.server with_next came.runs (Makes came.stands.power));
+      is_base = came.is_base;
+      stands = record {
+        stands = record {
+          power = came.stands.power;
+          plain = came.stands.plain;
+          count = ap (λ n. n + 1) came.stands.count;
+          attends = λ other another at. attends_more came.server.sessions (next_session came.server) another (came.stands.attends other another (fewer other another at));
+        };
+        own = record { reads = []; noted = λ at. tt; front = came.server.sessions; back = []; split = ap (λ (s : Sess). came.server.sessions ++ s ∷ []) next_is };
+      };
+    }
+  where
+    with_next : Server
+    with_next = record came.server { sessions = came.server.sessions ++ next_session came.server ∷ []; count = came.server.count + 1 }
+
+    next_is : next_session came.server ≡ sess_of (unmade core (sessions + 1)) []
+    next_is = λ i. next_session (record came.server { core = record came.server.core { opening = came.stands.plain.opening i }; count = came.stands.count i })
+
 module _ (grants : Grants) (disk : DiskState) (core : Core) (held rest : Held) (notes : Notes) (connection : ℕ) (session : Session) (made : ℕ) (start : Base) (history : List Happened) (gone : Holds connection None held rest) where
   pub made_ready : IsSessionOf core held notes.sessions connection session made → Came start history (StandsUp disk core held notes.sessions) → Came start history (IsReady disk core rest made session)
   made_ready (inl is) came = record {
@@ -151,34 +176,11 @@ module _ (grants : Grants) (disk : DiskState) (core : Core) (held rest : Held) (
       own = came.stands.attends connection session is.0;
     };
   }
-  made_ready (inr is) came =
-      let next : next_session came.server ≡ sess_of session [] = next_is in
-      record {
-        server = with_next;
-        runs = subst (λ (h : List Happened). Runs start h with_next) (append-nil history) (Then history [] came.server with_next came.runs (Makes came.stands.power));
-        is_base = came.is_base;
-        stands = record {
-          stands = record {
-            power = came.stands.power;
-            plain = came.stands.plain;
-            count = ap (λ n. n + 1) came.stands.count ∙ sym is.2;
-            attends = λ other another at. attends_more came.server.sessions (next_session came.server) another (came.stands.attends other another (one_less connection held rest gone other another at));
-          };
-          own = record { reads = []; noted = subst (λ (s : Session). AreReadings s.txn.readings []) (sym is.1) (λ at. tt); front = came.server.sessions; back = []; split = ap (λ (s : Sess). came.server.sessions ++ s ∷ []) next };
-        };
-      }
-    where
-      with_next : Server
-      with_next = record came.server { sessions = came.server.sessions ++ next_session came.server ∷ []; count = came.server.count + 1 }
-
-      next_is : next_session came.server ≡ sess_of session []
-      next_is =
-          (λ i. next_session (record came.server { core = record came.server.core { opening = came.stands.plain.opening i }; count = came.stands.count i }))
-          ∙ ap (λ (s : Session). sess_of s []) (sym is.1)
+  made_ready (inr is) came = subst (λ (s : Session). Came start history (IsReady disk core rest made s)) (sym is.1) (subst (λ n. Came start history (IsReady disk core rest n (unmade core (notes.sessions + 1)))) (sym is.2) (next_ready disk core held rest notes.sessions start history (one_less connection held rest gone) came))
 
 -- ---- what is shown of it
 
-incarnation_is : (grants : Grants) (disk : DiskState) (core : Core) (held : Held) (notes : Notes) → IsUp grants disk core held notes → (store_of disk.now.seen).incarnation ≡ core.source.incarnation
+pub incarnation_is : (grants : Grants) (disk : DiskState) (core : Core) (held : Held) (notes : Notes) → IsUp grants disk core held notes → (store_of disk.now.seen).incarnation ≡ core.source.incarnation
 incarnation_is grants disk core held notes up = ap (λ (s : Store). s.incarnation) (store_is disk.now.seen up.fits.journal up.fits.reads) ∙ sym up.fits.source.incarnation
 
 pub session_shown : (grants : Grants) (disk : DiskState) (core : Core) (held : Held) (notes : Notes) (connection : ℕ) (session : Session) (made : ℕ) (start : Base) (history : List Happened) → IsUp grants disk core held notes

@@ -6,4 +6,5 @@ pub mod Seeing
 pub mod Sound
 pub mod Starting
 pub mod Taking
+pub mod Through
 pub mod Within

@@ -1,6 +1,6 @@
 -- What a service keeps to, whatever came before: while it is up, what its sessions share fits its disk, and its sessions
 -- are of this opening; while it is down, each image that a crash may leave is that of a journal.
-use Rattle.std.specs.Prelude.{◌≡◌, ◌+◌, ◌-◌, ◌<◌, ◌≤◌, ◌^◌, ℕ, true, false, List, [], Option, Some, None, Ok}
+use Rattle.std.specs.Prelude.{◌≡◌, ◌+◌, ◌<◌, ◌≤◌, ◌^◌, ℕ, true, false, List, [], Option, Some, None, Ok}
 use Rattle.disk_model.specs.Moment.{MayLeave}
 use Rattle.disk_model.specs.Disk.{DiskState, IsSettled}
 use Rattle.mutable_values.specs.declared.grants.Grants.{Grants}

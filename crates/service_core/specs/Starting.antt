@@ -1,5 +1,5 @@
 -- What a service is made of, and as which one it is made.
-use Rattle.std.specs.Prelude.{◌≡◌, ◌<◌, ◌≤◌, ◌^◌, true, false, [], None, Ok, map}
+use Rattle.std.specs.Prelude.{◌≡◌, ◌≤◌, ◌^◌, true, false, [], None, Ok, map}
 use Rattle.disk_model.specs.Disk.{DiskState, IsSettled}
 use Rattle.mutable_values.specs.declared.grants.Grants.{Grants}
 use Rattle.commit_log.specs.declared.journal.Journal.{Journal}

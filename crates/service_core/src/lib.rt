@@ -9,8 +9,9 @@ mod making;
 mod notes;
 mod one;
 mod opening;
+mod outside;
+mod service;
 mod serving;
 mod up;
 
 pub use one::OneService;
-pub use opening::open;

@@ -27,7 +27,7 @@ use table_store::{TableRow, Tables};
 ///
 /// It reads the whole store, n log n for n rows and entries, and keeps no entry. Each sequence goes on
 /// behind its last reservation.
-pub fn open<D: Disk>(
+pub(crate) fn open<D: Disk>(
     alloc: Global,
     disk: &mut D,
     horizon: u64,

@@ -1,5 +1,6 @@
 //! A frame, served by its connection's session.
-ghost use Rattle.std.specs.Prelude.{◌≡◌, ◌≢◌, ◌<◌, ◌^◌, None, Some, OnOk, false};
+ghost use Rattle.std.specs.Prelude.{◌≡◌, ◌≢◌, ◌+◌, ◌<◌, ◌^◌, None, Some, OnOk, false};
+ghost use Rattle.svc_values.specs.Identifiers.{ltxid_of};
 ghost use Rattle.canon_bytes.specs.UpBytes.{IsMadeUp};
 ghost use Rattle.server_model.specs.Seen.{Seen, Lives};
 ghost use Rattle.server_model.specs.ServiceCalls.{ServedOne};
@@ -17,6 +18,20 @@ use server_session::{Core, Session};
 use std::alloc::Global;
 use svc_values::{Down, Ltxid, NoMemory, Up};
 
+/// The first identifier of the next session, which is counted.
+pub(crate) fn next_ltxid(core: &Core, made: &mut u64) -> Ltxid
+    requires { made.old < 2 ^ 63 }
+    ensures next { result ≡ ltxid_of (record { incarnation = core.now.source.incarnation; session = made.old + 1 }) 0 }
+    ensures counted { made.new ≡ made.old + 1 }
+{
+    *made += 1;
+    Ltxid {
+        incarnation: core.source.incarnation(),
+        session: *made,
+        number: 0,
+    }
+}
+
 /// Takes a connection out with its session: the one that it has, or the next, which is made.
 fn take_session(
     alloc: Global,
@@ -31,15 +46,7 @@ fn take_session(
 {
     match held.take(connection) {
         Some(Some(session)) => session,
-        Some(None) => {
-            *made += 1;
-            let ltxid = Ltxid {
-                incarnation: core.source.incarnation(),
-                session: *made,
-                number: 0,
-            };
-            Session::new(alloc, ltxid)
-        }
+        Some(None) => Session::new(alloc, next_ltxid(core, made)),
         None => unreachable!(),
     }
 }
