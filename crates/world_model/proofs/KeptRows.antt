@@ -57,13 +57,13 @@ use Rattle.world_model.proofs.Tests.{eq_from}
 
 -- OF A REQUEST ------------------------------------------------------------------------------------
 
-abbrev rows_at : Course → List (List Sent) → ℕ → Bool
+abbrev pub rows_at : Course → List (List Sent) → ℕ → Bool
 rows_at course lists number = sents_pass (row_test course number) lists number
 
-abbrev course_rows : List Link → Course → Bool
+abbrev pub course_rows : List Link → Course → Bool
 course_rows links course = list_all (λ number. option_map_or (λ link. is_row course (is_current course number) (calls_on course link)) (link_at links number) false) (held_in course.steps)
 
-by_rows : (links : List Link) (course : Course) (numbers : List ℕ)
+pub by_rows : (links : List Link) (course : Course) (numbers : List ℕ)
     → list_all (λ number. option_map_or (λ link. is_row course (is_current course number) (calls_on course link)) (link_at links number) false) numbers ≡ list_all (rows_at course (sent_lists links)) numbers
 by_rows links course [] = refl
 by_rows links course (number ∷ numbers) =
@@ -109,7 +109,7 @@ module _ (t : Traced) (m : Machine) (number : ℕ) (n : Machine) (step : HasStep
   abbrev course : Course
   course = course_now t.setting number (length step.client.past) step.before
 
-  before_rows : in_rows t ≡ true → course_rows t.machine.links course ≡ true
+  pub before_rows : in_rows t ≡ true → course_rows t.machine.links course ≡ true
   before_rows old = by step.client.now refl step.client.next step.does
     where
       by : (now : Option Doing) → step.client.now ≡ now → (next : Option Request) → option_or now (option_map (begun t.setting.terms m.event m.tick) next) ≡ Some step.before → course_rows t.machine.links course ≡ true
@@ -146,7 +146,7 @@ module _ (t : Traced) (m : Machine) (number : ℕ) (n : Machine) (step : HasStep
       by None is None does = absurd (let none : ⊥ = cc in none)
 
   -- what is out on its connection
-  before_on : are_held t ≡ true → in_grammar t ≡ true → (connection : ℕ) → step.before.connection ≡ Some connection → OnIt t.machine.links mine step.before.connection step.before.talk.phase
+  pub before_on : are_held t ≡ true → in_grammar t ≡ true → (connection : ℕ) → step.before.connection ≡ Some connection → OnIt t.machine.links mine step.before.connection step.before.talk.phase
   before_on held grammar connection has = by step.client.now refl step.client.next step.does
     where
       found : (link : Option Link) → link_at t.machine.links connection ≡ link → option_map_or (waits_on course) link false ≡ true → OnIt t.machine.links mine step.before.connection step.before.talk.phase

@@ -85,7 +85,7 @@ step_held had number step steps none is later = by step.done.input refl
     by (Gone event) is = stays (ap brought is) None (ap (connected had) is) (λ one never. absurd (let none : ⊥ = cc in none))
 
 -- the connection that is left by the inputs was brought by one
-left_held : (had : Option ℕ) (number : ℕ) (steps : List Step) → IsOther had number → left_by had steps ≡ Some number → was_held number steps ≡ true
+pub left_held : (had : Option ℕ) (number : ℕ) (steps : List Step) → IsOther had number → left_by had steps ≡ Some number → was_held number steps ≡ true
 left_held had number [] none is = absurd (none number is refl)
 left_held had number (step ∷ steps) none is = step_held had number step steps none is (λ next none is. left_held next number steps none is)
 

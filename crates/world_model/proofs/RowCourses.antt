@@ -81,12 +81,12 @@ strange_row owner (sent ∷ sents) strange =
 
 -- A REPLAY SHOWS NOTHING --------------------------------------------------------------------------
 
-call_shows : (terms : Terms) (talk : Talk) (state : Living) (alive : Bool) (before : List Up) (now : ℕ) (next : Option Call) → (sends_or_ends terms talk state alive before None now next).1.shown ≡ None
+pub call_shows : (terms : Terms) (talk : Talk) (state : Living) (alive : Bool) (before : List Up) (now : ℕ) (next : Option Call) → (sends_or_ends terms talk state alive before None now next).1.shown ≡ None
 call_shows terms talk state alive before now None = refl
 call_shows terms talk state true before now (Some call) = refl
 call_shows terms talk state false before now (Some call) = refl
 
-marked_shows : (terms : Terms) (talk : Talk) (state : Repeating) (alive : Bool) (before : List Up) (now : ℕ) (one : Option Recorded) → (sends_marked terms talk state alive before now one).1.shown ≡ None
+pub marked_shows : (terms : Terms) (talk : Talk) (state : Repeating) (alive : Bool) (before : List Up) (now : ℕ) (one : Option Recorded) → (sends_marked terms talk state alive before now one).1.shown ≡ None
 marked_shows terms talk state alive before now None = call_shows terms talk (submitted state) alive before now (next_call talk)
 marked_shows terms talk state alive before now (Some one) = refl
 

@@ -6,7 +6,7 @@ ghost use Rattle.world_model.specs.Ready.{are_ready};
 ghost use Rattle.world_model.specs.Script.{are_conversations, are_kept, all_sent, are_owned, carry_draws, follow_scripts, report_rightly};
 ghost use Rattle.world_model.specs.Hold.{are_had, are_queued, are_held, are_idle, slots_held, are_opened, are_by_held};
 ghost use Rattle.world_model.specs.Number.{are_near, are_counted as are_numbered, are_told, are_served_near, are_ahead, blocks_next, entries_numbered, known_so_far, none_blocked};
-ghost use Rattle.world_model.specs.Shown.{in_rows, answers_stand};
+ghost use Rattle.world_model.specs.Shown.{are_given, in_rows, answers_stand};
 ghost use Rattle.world_model.specs.Lost.{stay_gone, outcomes_lost, go_unasked, ask_rightly, have_events};
 ghost use Rattle.world_model.specs.Basic.{have_risen, kept_ticks, items_rise, items_differ, is_down, are_ended, sessions_differ, are_made, are_counted, are_named, living_now, commits_counted, lives};
 
@@ -221,6 +221,12 @@ pub fn entries_are_known()
 /// ended with Committed or Conflict, of those that were shown before its first call without a mark.
 pub fn calls_go_in_rows()
     ensures { StaysTrue in_rows }
+{}
+
+/// If the whole invariant held before: each call that was shown is that of an item, which a connection that the request held has for this
+/// call, with these answers and draws; or it ends with Committed, and an outcome was taken that said committed and completed.
+pub fn shown_calls_were_answered()
+    ensures { IsKeptOfAll are_given }
 {}
 
 /// What was answered of an identifier stands, if the whole invariant held before. Uncommitted, it is blocked; committed, its

@@ -1,0 +1,273 @@
+-- Of Shown: each call that was shown is from an item, or from an outcome, at the start and behind each event.
+use Rattle.std.proofs.Common.{◌≡◌, refl, sym, ap, subst, ◌∙◌, Bool, true, false, ℕ, ◌+◌, ◌&&◌, ◌||◌, fold, length, append_assoc, List, [], ◌∷◌, ◌++◌, map, Option, Some, None, ⊎_elim, arith}
+use Rattle.std.specs.Prelude.{◌==◌, slice_get, option_map}
+use Rattle.std.specs.List.{list_all, list_any, cons_option}
+use Rattle.std.specs.Option.{option_or, option_map_or}
+use Rattle.std.proofs.lemmas.Bool.{and_parts, and_from, or_right, or_cases}
+use Rattle.std.proofs.lemmas.List.{append-nil, map-append, length-map}
+use Rattle.std.proofs.lemmas.List.Folds.{list_any-append}
+use Rattle.std.proofs.lemmas.List.Sums.{fold-append}
+use Rattle.svc_values.specs.declared.call.Call.{Call}
+use Rattle.svc_values.specs.Calls.{is_lone_commit}
+use Rattle.svc_values.specs.Endings.{ends_committed}
+use Rattle.outage_schedule.specs.declared.document.Request.{Request}
+use Rattle.outage_schedule.specs.declared.request.Outcome.{Outcome}
+use Rattle.outage_schedule.specs.declared.request.ShownCall.{ShownCall}
+use Rattle.client_model.specs.declared.act.Shown.{Shown}
+use Rattle.client_model.specs.Account.{Outcome as Heard, Account, account_of, unheard, hears, after_step}
+use Rattle.client_model.specs.Conversation.{Done}
+use Rattle.client_model.specs.States.{Asking}
+use Rattle.client_model.specs.Terms.{Terms}
+use Rattle.run_clauses.specs.Reports.{shown_call, told_outcome}
+use Rattle.run_clauses.specs.Tried.{holds}
+use Rattle.world_model.specs.Clients.{Step, Doing, Client, begun, past_of}
+use Rattle.world_model.specs.Frames.{Owner, Handled}
+use Rattle.world_model.specs.Invariant.{Orderly}
+use Rattle.world_model.specs.KeptLaws.{IsKeptOfAll}
+use Rattle.world_model.specs.Links.{Link, link_at}
+use Rattle.world_model.specs.Machines.{Machine}
+use Rattle.world_model.specs.Number.{is_told, served_near}
+use Rattle.world_model.specs.Reached.{traced_start}
+use Rattle.world_model.specs.Sames.{owned_by}
+use Rattle.world_model.specs.Settings.{Setting, setting_of}
+use Rattle.world_model.specs.Shown.{calls_on, is_current, is_row, in_row, first_of, is_scripts, is_shown_item, link_shows, outcome_shows, is_from, all_from, has_completed, is_given, all_given, are_given}
+use Rattle.world_model.specs.Traced.{Traced, Course, course_now, course_over, courses_of_clients, courses_of}
+use Rattle.world_model.specs.Wire.{is_sent_front, is_reply_front, handled_from, one_is_out}
+use Rattle.world_model.specs.Words.{brought, held_in, dones_of}
+use Rattle.world_model.proofs.AllLinks.{at_link}
+use Rattle.world_model.proofs.AllLists.{weaker_all}
+use Rattle.world_model.proofs.ClientSteps.{HasStepped, MayStep, Still, Closed, Stepped, happens_step}
+use Rattle.world_model.proofs.CoursesGrow.{HasMore, or_left}
+use Rattle.world_model.proofs.CoursesStep.{all_step}
+use Rattle.world_model.proofs.GivenMore.{shows_by, all_more, all_push}
+use Rattle.world_model.proofs.Happened.{Followed, follow_happens, at_event}
+use Rattle.world_model.proofs.Held.{doing_course}
+use Rattle.world_model.proofs.KeptRows.{course_rows, before_rows, before_on}
+use Rattle.world_model.proofs.KeptSendings.{any_of_all, resting_none}
+use Rattle.world_model.proofs.LinkCounts.{Known}
+use Rattle.world_model.proofs.LinkLives.{counts_commits}
+use Rattle.world_model.proofs.OutcomesGrow.{OutcomesMore, outcomes_more, behind_heard}
+use Rattle.world_model.proofs.OwnedKept.{left_held}
+use Rattle.world_model.proofs.RowLast.{row_of}
+use Rattle.world_model.proofs.RowSteps.{ShownStep, NoneMore, OneMore, shown_step, shown_after, first_after}
+use Rattle.world_model.proofs.SendingSteps.{after_held}
+use Rattle.world_model.proofs.ServedGrows.{IsLonger, happens_longer}
+use Rattle.world_model.proofs.ShownNow.{IsShownOn, Completed, ShownNow, FromItem, FromOutcome, shown_now}
+use Rattle.world_model.proofs.StepFacts.{account_now, first_step, first_doing, before_talks, request_after, behind_first}
+use Rattle.world_model.proofs.Strangers.{same_owner_is}
+use Rattle.world_model.proofs.Tests.{eq_from}
+
+-- OUTCOMES ----------------------------------------------------------------------------------------
+
+-- of a request that took further steps
+outcomes_later : (terms : Terms) (doing later : Doing) → later.request ≡ doing.request → HasMore doing.steps later.steps → OutcomesMore (account_now terms doing) (account_now terms later)
+outcomes_later terms doing later request further =
+    let calls : List Call = doing.request.calls in
+    let folds : OutcomesMore (account_now terms doing) (fold (after_step terms calls) (account_now terms doing) (dones_of further.more)) = outcomes_more terms calls (dones_of further.more) (account_now terms doing) in
+    let dones : dones_of later.steps ≡ dones_of doing.steps ++ dones_of further.more = ap dones_of further.are ∙ map-append (λ (step : Step). step.done) doing.steps further.more in
+    let same : account_now terms later ≡ fold (after_step terms calls) (account_now terms doing) (dones_of further.more) =
+    ap (λ (r : Request). account_of terms r.calls (dones_of later.steps)) request
+    ∙ (ap (λ (d : List Done). account_of terms calls d) dones ∙ fold-append (after_step terms calls) unheard (dones_of doing.steps) (dones_of further.more)) in
+    record { more = folds.more; are = ap (λ (a : Account). a.outcomes) same ∙ folds.are }
+
+any_at : (test : ℕ → Bool) (numbers : List ℕ) (number : ℕ) → list_any (λ other. other == number) numbers ≡ true → test number ≡ true → list_any test numbers ≡ true
+any_at test [] number is here = absurd (let none : ⊥ = cc in none)
+any_at test (first ∷ numbers) number is here = by (first == number) refl is (λ later. any_at test numbers number later here)
+  where
+    by : (same : Bool) → (first == number) ≡ same → (same || list_any (λ other. other == number) numbers) ≡ true → (list_any (λ other. other == number) numbers ≡ true → list_any test numbers ≡ true) → list_any test (first ∷ numbers) ≡ true
+    by true same is later = or_left (test first) (list_any test numbers) (subst (λ (k : ℕ). test k ≡ true) (sym (eq_from first number same)) here)
+    by false same is later = or_right (test first) (list_any test numbers) (later is)
+
+-- THE STEP ----------------------------------------------------------------------------------------
+
+abbrev given_test : Traced → Course → Bool
+given_test t course = all_given t course 0 course.report.calls
+
+module _ (old new : Traced) (inv : Orderly old) (rows : list_all (course_rows old.machine.links) (courses_of old) ≡ true) (given : list_all (given_test old) (courses_of old) ≡ true)
+    (longer : (number : ℕ) (link : Link) → link_at old.machine.links number ≡ Some link → IsLonger new.machine.links number link) where
+  abbrev m : Machine
+  m = at_event old.machine
+
+  others_given : (course : Course) → given_test old course ≡ true → given_test new course ≡ true
+  others_given course =
+      all_more old new longer course course refl [] (sym (append-nil (held_in course.steps))) [] (sym (append-nil course.report.outcomes)) refl 0 course.report.calls
+
+  known : (number : ℕ) (link : Link) → link_at old.machine.links number ≡ Some link → Known link
+  known number link there = record {
+    sent = at_link is_sent_front old.machine.links number link inv.wire.sent there;
+    replies = at_link is_reply_front old.machine.links number link inv.wire.replies there;
+    handled = at_link (λ l. handled_from 0 l.served) old.machine.links number link inv.wire.handled there;
+    out = at_link one_is_out old.machine.links number link inv.wire.out there;
+    near = at_link served_near old.machine.links number link inv.number.served there;
+    counts = at_link counts_commits old.machine.links number link inv.basic.commits there;
+    held = at_link is_told old.machine.links number link inv.number.told there;
+  }
+
+  module _ (number : ℕ) (n : Machine) (step : HasStepped old.setting m number n) where
+    abbrev mine : Owner
+    mine = record { client = number; place = length step.client.past }
+
+    abbrev before_course : Course
+    before_course = course_now old.setting number (length step.client.past) step.before
+
+    abbrev shown_before : List Shown
+    shown_before = (account_now old.setting.terms step.before).shown
+
+    before_given : given_test old before_course ≡ true
+    before_given = by step.client.now refl step.client.next step.does
+      where
+        by : (now : Option Doing) → step.client.now ≡ now → (next : Option Request) → option_or now (option_map (begun old.setting.terms m.event m.tick) next) ≡ Some step.before → given_test old before_course ≡ true
+        by (Some one) is next does = let same : one ≡ step.before = cc in doing_course (given_test old) old number step.client step.before given step.here (is ∙ ap Some same)
+        by None is (Some request) does =
+            let same : begun old.setting.terms m.event m.tick request ≡ step.before = cc in
+            subst (λ (d : Doing). given_test old (course_now old.setting number (length step.client.past) d) ≡ true) same refl
+        by None is None does = absurd (let none : ⊥ = cc in none)
+
+    -- its connection is one that it held
+    was_held : (at : ℕ) → step.before.connection ≡ Some at → list_any (λ other. other == at) (held_in step.before.steps) ≡ true
+    was_held at has = left_held None at step.before.steps (λ one never same. let none : ⊥ = cc in none) ((before_talks old.setting m inv.script.talks number n step).has ∙ has)
+
+    scripts : (at : ℕ) (link : Link) → step.before.connection ≡ Some at → link_at m.links at ≡ Some link → list_all (λ sent. is_scripts before_course sent sent.frame) (row_of mine link.sent) ≡ true
+    scripts at link has there =
+        let row : option_map_or (λ l. is_row before_course (is_current before_course at) (calls_on before_course l)) (link_at old.machine.links at) false ≡ true =
+        any_of_all (λ k. option_map_or (λ l. is_row before_course (is_current before_course k) (calls_on before_course l)) (link_at old.machine.links k) false) (held_in step.before.steps) at (before_rows old m number n step step.here rows) (was_held at has) in
+        let here : is_row before_course (is_current before_course at) (row_of mine link.sent) ≡ true = subst (λ (found : Option Link). option_map_or (λ l. is_row before_course (is_current before_course at) (calls_on before_course l)) found false ≡ true) there row in
+        let one = and_parts (in_row (option_map_or (λ sent. sent.call) (first_of (row_of mine link.sent)) 0) (row_of mine link.sent)) _ here in
+        (and_parts (list_all (λ sent. is_scripts before_course sent sent.frame) (row_of mine link.sent)) _ one.1).0
+
+    all_steps : HasMore step.before.steps step.after.steps
+    all_steps = record {
+      more = first_step old.setting m inv.script.talks number n step ∷ (behind_first old.setting m inv.script.talks number n step).more;
+      are = (behind_first old.setting m inv.script.talks number n step).are
+          ∙ append_assoc step.before.steps (first_step old.setting m inv.script.talks number n step ∷ []) (behind_first old.setting m inv.script.talks number n step).more;
+    }
+
+    outs : OutcomesMore (account_now old.setting.terms step.before) (account_now old.setting.terms step.after)
+    outs = outcomes_later old.setting.terms step.before step.after (request_after old.setting m inv.script.talks number n step) all_steps
+
+    module _ (d : Course) (owner : d.owner ≡ mine) (steps : d.steps ≡ step.after.steps) (calls : d.report.calls ≡ map shown_call (account_now old.setting.terms step.after).shown)
+        (outcomes : d.report.outcomes ≡ map told_outcome (account_now old.setting.terms step.after).outcomes) (request : d.request ≡ step.after.request) where
+      request_same : d.request.calls ≡ step.before.request.calls
+      request_same = ap (λ (r : Request). r.calls) (request ∙ request_after old.setting m inv.script.talks number n step)
+
+      held_are : held_in d.steps ≡ held_in step.before.steps ++ cons_option (brought step.input) []
+      held_are = ap held_in steps ∙ after_held old.setting m inv.script.talks number n step
+
+      so_far : all_given new d 0 before_course.report.calls ≡ true
+      so_far =
+          all_more old new longer before_course d owner (cons_option (brought step.input) []) held_are (map told_outcome outs.more)
+          (outcomes ∙ (ap (λ (o : List Heard). map told_outcome o) outs.are ∙ map-append told_outcome (account_now old.setting.terms step.before).outcomes outs.more)) request_same 0 before_course.report.calls before_given
+
+      from_item : (shown : Shown) (at : ℕ) → step.before.connection ≡ Some at → IsShownOn m.links mine step.before.request.calls (length shown_before) shown at → is_given new d (length shown_before) (slice_get d.request.calls (length shown_before)) (shown_call shown) ≡ true
+      from_item shown at has found =
+          let next = longer at found.link found.there in
+          let here : shows_by mine new.machine.links (length shown_before) found.call (shown_call shown) at ≡ true =
+          subst (λ (l : Option Link). option_map_or (λ link. list_any (λ (one : Handled). owned_by mine one.sent && ((one.sent.call == length shown_before) && is_shown_item found.call (shown_call shown) one.served.item)) link.served) l false ≡ true) (sym next.there)
+          (next.all (λ (one : Handled). owned_by mine one.sent && ((one.sent.call == length shown_before) && is_shown_item found.call (shown_call shown) one.served.item)) found.among) in
+          let held : list_any (λ other. other == at) (held_in d.steps) ≡ true =
+          ap (λ (all : List ℕ). list_any (λ other. other == at) all) held_are
+          ∙ (list_any-append (λ other. other == at) (held_in step.before.steps) (cons_option (brought step.input) [])
+          ∙ or_left (list_any (λ other. other == at) (held_in step.before.steps)) (list_any (λ other. other == at) (cons_option (brought step.input) [])) (was_held at has)) in
+          subst (λ (c : Option Call). is_given new d (length shown_before) c (shown_call shown) ≡ true) (sym (ap (λ (all : List Call). slice_get all (length shown_before)) request_same ∙ found.script))
+          (or_left (list_any (link_shows new d (length shown_before) found.call (shown_call shown)) (held_in d.steps)) (ends_committed shown.answers && has_completed d)
+          (any_at (link_shows new d (length shown_before) found.call (shown_call shown)) (held_in d.steps) at held
+          (subst (λ (o : Owner). shows_by o new.machine.links (length shown_before) found.call (shown_call shown) at ≡ true) (sym owner) here)))
+
+      -- the outcome is among those that were taken
+      completed_now : (shown : Shown) (asking : Asking) → (first_step old.setting m inv.script.talks number n step).done.act.shown ≡ Some shown
+          → Completed old.setting m inv.script.talks number n step asking (account_now old.setting.terms step.before) shown → has_completed d ≡ true
+      completed_now shown asking is completed =
+          let a : Account = account_now old.setting.terms step.before in
+          let x : Heard = record { ltxid = asking.ltxid; committed = true; completed = true } in
+          let done : Done = (first_step old.setting m inv.script.talks number n step).done in
+          let heard : (account_now old.setting.terms (first_doing old.setting m inv.script.talks number n step)).outcomes ≡ a.outcomes ++ x ∷ [] =
+          ap (λ (b : Account). b.outcomes) (first_after old.setting m inv.script.talks number n step)
+          ∙ (behind_heard old.setting.terms step.before.request.calls a done
+          ∙ (ap (λ (s : Option Shown). (hears old.setting.terms a step.input m.tick s).outcomes) is ∙ completed.outcomes)) in
+          let later : OutcomesMore (account_now old.setting.terms (first_doing old.setting m inv.script.talks number n step)) (account_now old.setting.terms step.after) =
+          outcomes_later old.setting.terms (first_doing old.setting m inv.script.talks number n step) step.after (request_after old.setting m inv.script.talks number n step) (behind_first old.setting m inv.script.talks number n step) in
+          let all : d.report.outcomes ≡ (map told_outcome a.outcomes ++ told_outcome x ∷ []) ++ map told_outcome later.more =
+          outcomes
+          ∙ (ap (λ (o : List Heard). map told_outcome o) (later.are ∙ ap (λ (o : List Heard). o ++ later.more) heard)
+          ∙ (map-append told_outcome (a.outcomes ++ x ∷ []) later.more ∙ ap (λ (o : List Outcome). o ++ map told_outcome later.more) (map-append told_outcome a.outcomes (x ∷ [])))) in
+          let test = λ (o : Outcome). o.committed && o.completed in
+          ap (λ (o : List Outcome). list_any test o) all
+          ∙ (list_any-append test (map told_outcome a.outcomes ++ told_outcome x ∷ []) (map told_outcome later.more)
+          ∙ or_left (list_any test (map told_outcome a.outcomes ++ told_outcome x ∷ [])) (list_any test (map told_outcome later.more))
+          (list_any-append test (map told_outcome a.outcomes) (told_outcome x ∷ []) ∙ or_right (list_any test (map told_outcome a.outcomes)) (list_any test (told_outcome x ∷ [])) refl))
+
+      is_now : (shown : Shown) → (first_step old.setting m inv.script.talks number n step).done.act.shown ≡ Some shown → ShownNow old.setting m inv.script.talks number n step shown
+          → is_given new d (length shown_before) (slice_get d.request.calls (length shown_before)) (shown_call shown) ≡ true
+      is_now shown is (FromItem at has found) = from_item shown at has found
+      is_now shown is (FromOutcome asking phase completed) =
+          subst (λ (c : Option Call). is_given new d (length shown_before) c (shown_call shown) ≡ true) (sym (ap (λ (all : List Call). slice_get all (length shown_before)) request_same ∙ completed.script))
+          (or_right (list_any (link_shows new d (length shown_before) completed.call (shown_call shown)) (held_in d.steps)) (ends_committed shown.answers && has_completed d)
+          (and_from (ends_committed shown.answers) (has_completed d) (ap ends_committed completed.commits) (completed_now shown asking is completed)))
+
+      steps_given : given_test new d ≡ true
+      steps_given = by (shown_step old.setting m inv.script.talks number n step)
+        where
+          by : ShownStep shown_before (account_now old.setting.terms (first_doing old.setting m inv.script.talks number n step)).shown (first_step old.setting m inv.script.talks number n step).done.act.shown → given_test new d ≡ true
+          by (NoneMore same) =
+              subst (λ (all : List ShownCall). all_given new d 0 all ≡ true) (sym (calls ∙ ap (λ (s : List Shown). map shown_call s) (shown_after old.setting m inv.script.talks number n step ∙ same))) so_far
+          by (OneMore shown is more) =
+              let long : length (map shown_call shown_before) ≡ length shown_before = length-map shown_before shown_call in
+              let place : length shown_before ≡ 0 + length (map shown_call shown_before) = omega arith in
+              subst (λ (all : List ShownCall). all_given new d 0 all ≡ true)
+              (sym (calls ∙ (ap (λ (s : List Shown). map shown_call s) (shown_after old.setting m inv.script.talks number n step ∙ more) ∙ map-append shown_call shown_before (shown ∷ []))))
+              (all_push new d 0 (length shown_before) before_course.report.calls (shown_call shown) place so_far
+              (is_now shown is
+              (shown_now old.setting m inv.script.talks number n step same_owner_is (λ at has. before_on old m number n step step.here inv.hold.held inv.wire.grammar at has) (λ at link there. known at link there)
+              scripts shown is)))
+
+  may_give : MayStep old.setting m new.machine → list_all (given_test new) (courses_of_clients old.setting 1 new.machine.clients) ≡ true
+  may_give (Still same sents) =
+      subst (λ (c : List Client). list_all (given_test new) (courses_of_clients old.setting 1 c) ≡ true) (sym same) (weaker_all (given_test old) (given_test new) (courses_of old) others_given given)
+  may_give (Closed same sents) =
+      subst (λ (c : List Client). list_all (given_test new) (courses_of_clients old.setting 1 c) ≡ true) (sym same) (weaker_all (given_test old) (given_test new) (courses_of old) others_given given)
+  may_give (Stepped number step) =
+      all_step old.setting (given_test old) (given_test new) (record { client = number; place = length step.client.past }) (λ course differs. others_given course) m number new.machine step refl
+      (λ keep. steps_given number new.machine step (course_now old.setting number (length step.client.past) step.after) refl refl refl refl refl)
+      (λ over. steps_given number new.machine step (course_over number (length step.client.past) (past_of old.setting.terms step.after)) refl refl refl refl refl) given
+
+-- WHAT IS SO BEFORE -------------------------------------------------------------------------------
+
+outcome_given : (course : Course) (ltxid_shown : Outcome → Bool) → list_any (λ (outcome : Outcome). outcome.committed && (outcome.completed && ltxid_shown outcome)) course.report.outcomes ≡ true → has_completed course ≡ true
+outcome_given course ltxid_shown is = any_weaker course.report.outcomes is
+  where
+    one : (a b c : Bool) → (a && (b && c)) ≡ true → (a && b) ≡ true
+    one a b c is = let parts = and_parts a (b && c) is in and_from a b parts.0 (and_parts b c parts.1).0
+
+    any_weaker : (all : List Outcome) → list_any (λ (outcome : Outcome). outcome.committed && (outcome.completed && ltxid_shown outcome)) all ≡ true → list_any (λ (outcome : Outcome). outcome.committed && outcome.completed) all ≡ true
+    any_weaker [] is = absurd (let none : ⊥ = cc in none)
+    any_weaker (x ∷ all) is =
+        ⊎_elim (λ first. or_left (x.committed && x.completed) (list_any (λ (outcome : Outcome). outcome.committed && outcome.completed) all) (one x.committed x.completed (ltxid_shown x) first))
+        (λ later. or_right (x.committed && x.completed) (list_any (λ (outcome : Outcome). outcome.committed && outcome.completed) all) (any_weaker all later))
+        (or_cases (x.committed && (x.completed && ltxid_shown x)) (list_any (λ (outcome : Outcome). outcome.committed && (outcome.completed && ltxid_shown outcome)) all) is)
+
+from_given : (t : Traced) (course : Course) (index : ℕ) (call : Option Call) (shown : ShownCall) → is_from t course index call shown ≡ true → is_given t course index call shown ≡ true
+from_given t course index None shown is = is
+from_given t course index (Some call) shown is =
+    ⊎_elim (λ item. or_left (list_any (link_shows t course index call shown) (held_in course.steps)) (ends_committed shown.answers && has_completed course) item)
+    (λ told.
+    let one = and_parts (is_lone_commit call) _ told in
+    let two = and_parts (ends_committed shown.answers) _ one.1 in
+    or_right (list_any (link_shows t course index call shown) (held_in course.steps)) (ends_committed shown.answers && has_completed course)
+    (and_from (ends_committed shown.answers) (has_completed course) two.0 (outcome_given course (λ outcome. list_any (λ ids. holds ids outcome.ltxid) course.report.tried) two.1)))
+    (or_cases (list_any (link_shows t course index call shown) (held_in course.steps)) (outcome_shows course call shown) is)
+
+all_from_given : (t : Traced) (course : Course) (index : ℕ) (shown : List ShownCall) → all_from t course index shown ≡ true → all_given t course index shown ≡ true
+all_from_given t course index [] all = refl
+all_from_given t course index (one ∷ shown) all =
+    let parts = and_parts (is_from t course index (slice_get course.request.calls index) one) (all_from t course (index + 1) shown) all in
+    and_from (is_given t course index (slice_get course.request.calls index) one) (all_given t course (index + 1) shown) (from_given t course index (slice_get course.request.calls index) one parts.0) (all_from_given t course (index + 1) shown parts.1)
+
+pub given_law : IsKeptOfAll are_given
+given_law = record {
+  at_start = λ document. resting_none (setting_of document) 1 (given_test (traced_start document)) document.clients;
+  at_event = λ granted before after old new event note items left one inv.
+      let by : Followed old.setting old.machine event note items left new.machine = follow_happens old.setting old.machine event note items left new.machine one.follows in
+      subst (λ (setting : Setting). list_all (given_test new) (courses_of_clients setting 1 new.machine.clients) ≡ true) (sym one.setting)
+      (may_give old new inv.orderly inv.shown.rows (weaker_all (λ course. all_from old course 0 course.report.calls) (given_test old) (courses_of old) (λ course. all_from_given old course 0 course.report.calls) inv.shown.shown)
+      (happens_longer old.setting (at_event old.machine) items left by.kind new.machine by.happens) (happens_step old.setting (at_event old.machine) items left by.kind new.machine by.happens));
+}
