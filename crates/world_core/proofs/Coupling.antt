@@ -10,6 +10,7 @@ use Rattle.outage_schedule.specs.declared.event.Event.TheVariants as event
 use Rattle.outage_schedule.specs.declared.note.Note.{Note}
 use Rattle.outage_schedule.specs.declared.note.Note.TheVariants as note
 use Rattle.outage_schedule.specs.declared.note.Reached.{Reached}
+use Rattle.outage_schedule.specs.declared.item.Served.{Served}
 use Rattle.server_model.specs.Runs.{Happened}
 use Rattle.server_model.specs.Seen.{Seen}
 use Rattle.server_model.specs.ServiceCalls.{CameFrom, WasAsked}
@@ -22,10 +23,11 @@ use Rattle.world_model.specs.Outside.{ticked}
 use Rattle.world_model.specs.Walking.{follow}
 use Rattle.world_model.specs.ServiceDid.{ServiceDid}
 use Rattle.world_model.specs.Coupled.{living_of, HasStored, SameServer, Coupled}
+use Rattle.world_model.specs.KeptLaws.{OrderlyIsKept}
 use Rattle.world_model.specs.OneEvent.{OneEvent, session_outside, drawn_outside}
 use Rattle.world_core.specs.declared.traffic.Traffic.{Traffic}
 use Rattle.world_core.specs.Underway.{IsUnderway, Leads}
-use Rattle.world_core.specs.Making.{Makes}
+use Rattle.world_core.specs.Making.{IsReady, IsAt, Made, Makes}
 
 -- VIEWS -------------------------------------------------------------------------------------------
 
@@ -135,19 +137,23 @@ one_alone seen t event note m coupled follows did none_outside none_drawn server
 abbrev pub begun : Machine → Machine
 begun m = record m { event = m.event + 1 }
 
+-- the event was made, and what was orderly still is
+pub made : OrderlyIsKept → (sees sees_later : Seen → Type 0) (before after : Traffic) (event : Event) (note : Note) (items : List Served) (seen new : Seen) (t later : Traced) → IsAt sees before seen t
+    → OneEvent seen t event note items [] new later → sees_later new → IsReady new.state → IsUnderway after later.machine → Made seen t sees_later after event note items
+made kept sees sees_later before after event note items seen new t later is one seen_so ready underway =
+    (new, (later, (one, record { seen_so = seen_so; ready = ready; coupled = one.coupled_after; underway = underway; orderly = kept.at_event seen new t later event note items [] one is.orderly })))
+
+-- the same, where the service had no part in it
+pub made_alone : OrderlyIsKept → (sees : Seen → Type 0) (before after : Traffic) (event : Event) (note : Note) (seen : Seen) (t : Traced) (m : Machine) → IsAt sees before seen t
+    → OneEvent seen t event note [] [] seen (moved t m) → IsUnderway after m → Made seen t sees after event note []
+made_alone kept sees before after event note seen t m is one underway = made kept sees sees before after event note [] seen seen t (moved t m) is one is.seen_so is.ready underway
+
 -- TICKS -------------------------------------------------------------------------------------------
 
-pub ticks : (sees : Seen → Type 0) (before after : Traffic) → ((m : Machine) → IsUnderway before m → IsUnderway after (ticked (begun m))) → Makes sees before sees after event.Tick note.Tick []
-ticks sees before after goes seen t is = (
-  seen,
-  (
-    moved t (ticked (begun t.machine)),
-    (
-      one_alone seen t event.Tick note.Tick (ticked (begun t.machine)) is.coupled refl refl refl refl refl refl,
-      record { seen_so = is.seen_so; ready = is.ready; coupled = stays_coupled seen t (ticked (begun t.machine)) is.coupled refl refl; underway = goes t.machine is.underway },
-    ),
-  ),
-)
+pub ticks : OrderlyIsKept → (sees : Seen → Type 0) (before after : Traffic) → ((m : Machine) → IsUnderway before m → IsUnderway after (ticked (begun m))) → Makes sees before sees after event.Tick note.Tick []
+ticks kept sees before after goes seen t is =
+    let m = ticked (begun t.machine) in
+    made_alone kept sees before after event.Tick note.Tick seen t m is (one_alone seen t event.Tick note.Tick m is.coupled refl refl refl refl refl refl) (goes t.machine is.underway)
 
 -- CUTS --------------------------------------------------------------------------------------------
 
@@ -193,18 +199,10 @@ cut_alike m after number up down (Some reached) (Some link) there e =
     let same = only_same (same_reached reached (reached_of link up down)) (after_cut m number up down link) after e in
     (ap (λ x. x.server) same, ap (λ x. views x.links) same ∙ view_with m.links number link (cut_link m.event up down link) (open_found (link_at m.links number) link there) (view_cut m.event up down link))
 
-pub cut_makes : (sees : Seen → Type 0) (before after : Traffic) (number up down : ℕ) (reached : Option Reached) → ((m : Machine) → IsUnderway before m → Leads (follow_cut (begun m) number up down reached) after)
+pub cut_makes : OrderlyIsKept → (sees : Seen → Type 0) (before after : Traffic) (number up down : ℕ) (reached : Option Reached) → ((m : Machine) → IsUnderway before m → Leads (follow_cut (begun m) number up down reached) after)
     → Makes sees before sees after (event.Cut number up down) (note.Cut number reached) []
-cut_makes sees before after number up down reached goes seen t is =
+cut_makes kept sees before after number up down reached goes seen t is =
     let led = goes t.machine is.underway in
     let alike = cut_alike (begun t.machine) led.0 number up down reached (open_at t.machine.links number) refl led.1.0 in
-    let follows : follow t.setting t.machine (event.Cut number up down) (note.Cut number reached) [] ≡ Some (led.0, []) = rw (eq-eqb number number refl, led.1.0) refl in (
-      seen,
-      (
-        moved t led.0,
-        (
-          one_alone seen t (event.Cut number up down) (note.Cut number reached) led.0 is.coupled follows refl refl refl alike.0 alike.1,
-          record { seen_so = is.seen_so; ready = is.ready; coupled = stays_coupled seen t led.0 is.coupled alike.0 alike.1; underway = led.1.1 },
-        ),
-      ),
-    )
+    let follows : follow t.setting t.machine (event.Cut number up down) (note.Cut number reached) [] ≡ Some (led.0, []) = rw (eq-eqb number number refl, led.1.0) refl in
+    made_alone kept sees before after (event.Cut number up down) (note.Cut number reached) seen t led.0 is (one_alone seen t (event.Cut number up down) (note.Cut number reached) led.0 is.coupled follows refl refl refl alike.0 alike.1) led.1.1

@@ -18,6 +18,7 @@ use Rattle.world_model.specs.Crashing.{fallen_link, fallen_server, falls, crashe
 use Rattle.world_model.specs.Links.{Link, link_at, open_from}
 use Rattle.world_model.specs.Machines.{Server, Machine}
 use Rattle.world_model.specs.Noting.{only_if}
+use Rattle.world_model.specs.KeptLaws.{OrderlyIsKept}
 use Rattle.world_model.specs.OneEvent.{OneEvent}
 use Rattle.world_model.specs.ServiceDid.{front_served}
 use Rattle.world_model.specs.Serving.{front_at}
@@ -27,24 +28,17 @@ use Rattle.world_core.specs.declared.traffic.Traffic.{Traffic}
 use Rattle.world_core.specs.Underway.{IsUnderway}
 use Rattle.world_core.specs.Making.{MakesWhere}
 use Rattle.world_core.specs.Stopping.{InOrderUnder, ServedLast, LeadsLast}
-use Rattle.world_core.proofs.Coupling.{moved, begun, one_alone, stays_coupled}
+use Rattle.world_core.proofs.Coupling.{begun, one_alone, made, made_alone}
 use Rattle.world_core.proofs.Opening.{any_server}
 
 -- the server is down
-pub crashes_none : (sees : Seen → Type 0) (before after : Traffic) (number calls pick : ℕ) → ((seen : Seen) → sees seen → seen.state.is_up ≡ false) → ((m : Machine) → IsUnderway before m → IsUnderway after (begun m))
+pub crashes_none : OrderlyIsKept → (sees : Seen → Type 0) (before after : Traffic) (number calls pick : ℕ) → ((seen : Seen) → sees seen → seen.state.is_up ≡ false) → ((m : Machine) → IsUnderway before m → IsUnderway after (begun m))
     → MakesWhere (InOrderUnder number calls) sees before sees after (event.Crash number calls pick) (note.Crash number true) []
-crashes_none sees before after number calls pick down goes seen t is ordered =
+crashes_none kept sees before after number calls pick down goes seen t is ordered =
     let server_down : t.machine.server.is_up ≡ false = is.coupled.server.is_up ∙ down seen is.seen_so in
-    let follows : follow t.setting t.machine (event.Crash number calls pick) (note.Crash number true) [] ≡ Some (begun t.machine, []) = rw (eq-eqb number number refl, server_down) refl in (
-      seen,
-      (
-        moved t (begun t.machine),
-        (
-          one_alone seen t (event.Crash number calls pick) (note.Crash number true) (begun t.machine) is.coupled follows (rw server_down refl) refl refl refl refl,
-          record { seen_so = is.seen_so; ready = is.ready; coupled = stays_coupled seen t (begun t.machine) is.coupled refl refl; underway = goes t.machine is.underway },
-        ),
-      ),
-    )
+    let follows : follow t.setting t.machine (event.Crash number calls pick) (note.Crash number true) [] ≡ Some (begun t.machine, []) = rw (eq-eqb number number refl, server_down) refl in
+    made_alone kept sees before after (event.Crash number calls pick) (note.Crash number true) seen t (begun t.machine) is
+    (one_alone seen t (event.Crash number calls pick) (note.Crash number true) (begun t.machine) is.coupled follows (rw server_down refl) refl refl refl refl) (goes t.machine is.underway)
 
 -- NOTHING LIVES -----------------------------------------------------------------------------------
 
@@ -147,7 +141,7 @@ module _ (seen between new : Seen) (t : Traced) (number calls pick : ℕ) (items
     outside_draws = sym (append-nil t.outside_draws);
   }
 
-pub crashes_served : (sees sees_between sees_later : Seen → Type 0) (leaves : Store → Type 0) (before between after : Traffic) (number calls pick : ℕ) (items : List Served)
+pub crashes_served : OrderlyIsKept → (sees sees_between sees_later : Seen → Type 0) (leaves : Store → Type 0) (before between after : Traffic) (number calls pick : ℕ) (items : List Served)
     → ((seen : Seen) → sees seen → seen.state.is_up ≡ true)
     → ((seen : Seen) → sees_later seen → IsHistory seen)
     → ((seen : Seen) → sees_later seen → leaves seen.state.store)
@@ -155,26 +149,15 @@ pub crashes_served : (sees sees_between sees_later : Seen → Type 0) (leaves : 
     → Goes sees_between sees_later (λ old new. Crashed old pick new)
     → ((m : Machine) → IsUnderway between m → IsUnderway after (record m { links = map (fallen_link m.event) m.links; pool = fold after_gone m.pool (open_from 1 m.links) }))
     → MakesWhere (InOrderUnder number calls) sees before sees_later after (event.Crash number calls pick) (note.Crash number false) items
-crashes_served sees sees_between sees_later leaves before between after number calls pick items up honest remains leads falls_so goes seen t is ordered =
+crashes_served kept sees sees_between sees_later leaves before between after number calls pick items up honest remains leads falls_so goes seen t is ordered =
     let led = leads seen t is ordered in
     let m = led.1.0 in
     let last = led.1.1.1.0 in
     let fell = falls_so led.0 led.1.1.0 in
     let new = fell.0 in
     let crashed : Crashed led.0 pick new = fell.1.1 in
-    let is_up = up seen is.seen_so in
-    let fallen = falls (is_failover pick) m in (
-      new,
-      (
-        traced_behind t fallen new,
-        (
-          crash_event seen led.0 new t number calls pick items leaves m is.coupled is_up (honest new fell.1.0) last crashed (remains new fell.1.0),
-          record {
-            seen_so = fell.1.0;
-            ready = record { live = crashed.is_spent; quiet = crashed.is_quiet ∙ last.ready.1 ∙ is.ready.quiet; unstopped = crashed.stop.0; settled = λ down. crashed.down.1 };
-            coupled = crash_coupled seen led.0 new t number calls pick items leaves m is.coupled is_up (honest new fell.1.0) last crashed (remains new fell.1.0);
-            underway = any_server after (record m { links = map (fallen_link m.event) m.links; pool = fold after_gone m.pool (open_from 1 m.links) }) fallen.server (goes m led.1.1.1.1);
-          },
-        ),
-      ),
-    )
+    let fallen = falls (is_failover pick) m in
+    made kept sees sees_later before after (event.Crash number calls pick) (note.Crash number false) items seen new t (traced_behind t fallen new) is
+    (crash_event seen led.0 new t number calls pick items leaves m is.coupled (up seen is.seen_so) (honest new fell.1.0) last crashed (remains new fell.1.0)) fell.1.0
+    (record { live = crashed.is_spent; quiet = crashed.is_quiet ∙ last.ready.1 ∙ is.ready.quiet; unstopped = crashed.stop.0; settled = λ down. crashed.down.1 })
+    (any_server after (record m { links = map (fallen_link m.event) m.links; pool = fold after_gone m.pool (open_from 1 m.links) }) fallen.server (goes m led.1.1.1.1))

@@ -10,6 +10,7 @@ use Rattle.world_model.specs.Walking.{follow}
 use Rattle.svc_values.specs.declared.frame.Up.TheVariants as up
 use Rattle.pool_core.specs.Slots.{Slots, is_among, after_drain}
 use Rattle.world_model.specs.Links.{Link, link_at, with_link, changed, sends}
+use Rattle.world_model.specs.KeptLaws.{OrderlyIsKept}
 use Rattle.world_model.specs.Machines.{Machine}
 use Rattle.world_model.specs.Outside.{closed_by_drain, drained, follow_drain}
 use Rattle.world_core.specs.declared.connection.Connection.{Connection}
@@ -19,7 +20,7 @@ use Rattle.world_core.specs.Linked.{Stand, MaySend, connection_at}
 use Rattle.world_core.specs.Underway.{AreClosable, all_closed, IsUnderway, Leads}
 use Rattle.world_core.specs.Making.{Makes}
 use Rattle.world_core.proofs.Underway.{changed_kept}
-use Rattle.world_core.proofs.Coupling.{views, view, view_with, moved, begun, one_alone, stays_coupled}
+use Rattle.world_core.proofs.Coupling.{views, view, view_with, begun, one_alone, made_alone}
 
 first_false : (a b : Bool) → (a || b) ≡ false → (a ≡ false) × (b ≡ false)
 first_false true b e = absurd (let nothing : ⊥ = cc in nothing)
@@ -75,19 +76,11 @@ some_machine : (test : Bool) (a b : Machine) → only_if test a ≡ Some b → b
 some_machine true a b e = let same : a ≡ b = cc in sym same
 some_machine false a b e = absurd (let nothing : ⊥ = cc in nothing)
 
-pub drains : (sees : Seen → Type 0) (before after : Traffic) (closed : ℕ) → ((m : Machine) → IsUnderway before m → Leads (follow_drain (begun m) closed) after) → Makes sees before sees after event.Drain (note.Drain closed) []
-drains sees before after closed goes seen t is =
+pub drains : OrderlyIsKept → (sees : Seen → Type 0) (before after : Traffic) (closed : ℕ) → ((m : Machine) → IsUnderway before m → Leads (follow_drain (begun m) closed) after) → Makes sees before sees after event.Drain (note.Drain closed) []
+drains kept sees before after closed goes seen t is =
     let led = goes t.machine is.underway in
     let same : led.0 ≡ drained (begun t.machine) = some_machine (closed == length t.machine.pool.idle) (drained (begun t.machine)) led.0 led.1.0 in
     let server : led.0.server ≡ t.machine.server = ap (λ m. m.server) same in
     let alike : views led.0.links ≡ views t.machine.links = ap (λ m. views m.links) same ∙ closed_alike (t.machine.event + 1) t.machine.links t.machine.pool.idle in
-    let follows : follow t.setting t.machine event.Drain (note.Drain closed) [] ≡ Some (led.0, []) = rw led.1.0 refl in (
-      seen,
-      (
-        moved t led.0,
-        (
-          one_alone seen t event.Drain (note.Drain closed) led.0 is.coupled follows refl refl refl server alike,
-          record { seen_so = is.seen_so; ready = is.ready; coupled = stays_coupled seen t led.0 is.coupled server alike; underway = led.1.1 },
-        ),
-      ),
-    )
+    let follows : follow t.setting t.machine event.Drain (note.Drain closed) [] ≡ Some (led.0, []) = rw led.1.0 refl in
+    made_alone kept sees before after event.Drain (note.Drain closed) seen t led.0 is (one_alone seen t event.Drain (note.Drain closed) led.0 is.coupled follows refl refl refl server alike) led.1.1

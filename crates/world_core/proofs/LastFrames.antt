@@ -1,6 +1,6 @@
 -- The frame that is served under a stop: answered, stopped, or none.
-use Rattle.std.proofs.Common.{◌≡◌, ◌≤◌, ◌<◌, ◌-◌, ◌^◌, ℕ, ◌+◌, ◌==◌, Bool, true, false, List, [], ◌∷◌, ◌++◌, Option, Some, None, refl, sym, ap, ◌∙◌, subst, arith, eq-eqb, inl, inr}
-use Rattle.std.specs.Prelude.{◌⊎◌, ◌*◌, ◌&&◌, ◌||◌, not, is_none, nat_le, if◌then◌else◌}
+use Rattle.std.proofs.Common.{◌≡◌, ◌≤◌, ◌<◌, ℕ, ◌+◌, ◌==◌, Bool, true, false, List, [], ◌∷◌, ◌++◌, Option, Some, None, refl, sym, ap, ◌∙◌, subst, arith, eq-eqb, inl, inr}
+use Rattle.std.specs.Prelude.{◌*◌, ◌&&◌, ◌||◌, not, is_none, nat_le, if◌then◌else◌}
 use Rattle.std.specs.Option.{option_map_or}
 use Rattle.std.proofs.lemmas.Bool.{le-leb, lt-ltb}
 use Rattle.std.proofs.lemmas.List.{append-nil}
@@ -22,16 +22,19 @@ use Rattle.server_model.specs.Seen.{Store, Seen, IsHistory}
 use Rattle.server_model.specs.ServiceCalls.{Gains, ServedOne, may_store, with_stop}
 use Rattle.world_model.specs.Coupled.{living_of, SameServer, Coupled}
 use Rattle.world_model.specs.Crashing.{is_crashed_item, is_stopped, is_over, has_stored, with_doubt, after_stopped, serves_last}
+use Rattle.world_model.specs.Hold.{is_connect}
 use Rattle.world_model.specs.Links.{Link}
 use Rattle.world_model.specs.Machines.{Server, Machine}
 use Rattle.world_model.specs.ServiceDid.{front_served, item_telling}
 use Rattle.world_model.specs.Serving.{Front, front_at, outcome_frame, is_item_of, is_served_by, commits_after, after_served}
 use Rattle.world_model.specs.Traced.{Traced}
 use Rattle.world_core.specs.Answering.{session_served, served_item, crashed_item}
-use Rattle.world_core.specs.InOrder.{Answers, Connects, Begins, Replies, Blocks, Tells, Ends, Closes, is_connect, ServedWith}
+use Rattle.world_core.specs.InOrder.{Answers, Connects, Begins, Replies, Blocks, Tells, Ends, Closes, ServedWith}
 use Rattle.world_core.specs.Stopping.{StopsInOrder, ServedLast}
 use Rattle.world_core.proofs.Coupling.{begun, none_came, none_asked}
-use Rattle.world_core.proofs.Serving.{item_now, front_there, which, session_from, answered_last, served_so}
+use Rattle.world_core.proofs.Serving.{item_now, which, session_from, answered_last, served_so}
+use Rattle.world_core.proofs.Fronts.{front_there}
+use Rattle.world_core.proofs.Ordered.{ServesInOrder}
 use Rattle.world_core.proofs.Stops.{stops_behind}
 use Rattle.world_core.proofs.Written.{reads, Which, bools_same, same_named, named_session, stays_up}
 
@@ -131,7 +134,7 @@ by_tests : (m : Machine) (number after : ℕ) (front : Front) (served : Served) 
 by_tests m number after front served stopped passes is_s s is_o o = rw (is_s ∙ s, is_o ∙ o) refl
 
 module _ (seen new : Seen) (t : Traced) (number after : ℕ) (front : Front) (leaves : Store → Type 0) (exact : AreExact) (coupled : Coupled seen t) (up : seen.state.is_up ≡ true) (there : front_at t.machine.links number ≡ Some front)
-    (order : StopsInOrder seen t number after front) (history : IsHistory new) where
+    (ordered : ServesInOrder (with_stop seen (Some after)) t number front) (stops : StopsInOrder seen t number after front) (history : IsHistory new) where
   abbrev m : Machine
   m = begun t.machine
 
@@ -151,15 +154,15 @@ module _ (seen new : Seen) (t : Traced) (number after : ℕ) (front : Front) (le
       let coupled_stopped = stop_coupled seen t (Some after) coupled in
       let session = did.session in
       let served = item_now t.machine front session reply in
-      let answered = order.ordered.answered reply new history did in
+      let answered = ordered.answered reply new history did in
       let read = reads exact session number front.link.commits frame reply answered.answers in
-      let by = served_so exact stopped_seen new t number front reply coupled_stopped there order.ordered history did in
+      let by = served_so exact stopped_seen new t number front reply coupled_stopped there ordered history did in
       let stays = stays_up t.machine.server served.item in
       let happened : ServedFrame session t.machine.tick frame (telling_of reply) ∷ [] ≡ front_served t.machine.tick (front_at t.machine.links number) (served ∷ []) =
       ap (λ (told : Telling). ServedFrame session t.machine.tick frame told ∷ []) (sym read.tells) ∙ ap (λ found. front_served t.machine.tick found (served ∷ [])) (sym there) in
       let item = ordinary (served.event == m.event) (is_served_by m.server front.link frame session) (is_item_of frame served.item) (eq-eqb m.event m.event refl) by.is_served read.is_item in
       let reaches : has_stored m.server served.item ≡ true → nat_le m.server.per_record after ≡ true = λ stored.
-      let few = did.cause.reached after refl (order.recorded reply new did stored) (not_told reply) in
+      let few = did.cause.reached after refl (stops.recorded reply new did stored) (not_told reply) in
       le-leb m.server.per_record after (subst (λ n. n ≤ after) (sym coupled.server.per_record) few) in
       record {
         follows = ap (serves_last m number after (served ∷ [])) there
@@ -168,7 +171,7 @@ module _ (seen new : Seen) (t : Traced) (number after : ℕ) (front : Front) (le
         others = (refl, refl, refl);
         start = did.keeps.start;
         history = did.history ∙ ap (λ h. seen.history ++ h) happened;
-        lasts = lasts_with session (telling_of reply) did.history (answered_last session t.machine.tick frame reply) (session_from stopped_seen t number front session new.state.sessions coupled_stopped up order.ordered.now there did.of_connection);
+        lasts = lasts_with session (telling_of reply) did.history (answered_last session t.machine.tick frame reply) (session_from stopped_seen t number front session new.state.sessions coupled_stopped up ordered.now there did.of_connection);
         per_record = did.keeps.per_record;
         ready = (did.keeps.is_spent, did.keeps.is_quiet, did.keeps.is_opened, few_calls seen.state.calls new.state.calls did.keeps.calls);
         left = λ store leaves_it same. subst (λ s. Gains (front_served t.machine.tick (front_at t.machine.links number) (served ∷ [])) seen.state.store s) (sym (same (did.is_up ∙ read.is_up)))
@@ -211,9 +214,8 @@ named_by server known session sessions (inl (named, same)) some = named
 named_by server known session sessions (inr (unnamed, next)) some = absurd (let clash : true ≡ false = sym (ap (λ (k : Option SessionId). is_none k) unnamed) ∙ some in let nothing : ⊥ = cc in nothing)
 
 -- faults have risen
-apart_by : (old new : ℕ) → old < 2 ^ 64 - 1 → (old < new) ⊎ (new ≡ 2 ^ 64 - 1) → new ≡ old → ⊥
-apart_by old new below (inl rose) same = omega (arith, rose, same)
-apart_by old new below (inr end) same = omega (arith, below, end, same)
+apart_by : (old new : ℕ) → old < new → new ≡ old → ⊥
+apart_by old new rose same = omega (arith, rose, same)
 
 same_stop : (a b : ℕ) → ◌≡◌ {A = Option ℕ} (Some a) (Some b) → b ≡ a
 same_stop a b e = let same : a ≡ b = cc in sym same
@@ -225,10 +227,10 @@ abbrev pub crashed_now : Machine → Front → SessionId → Served
 crashed_now machine front session = record { event = machine.event + 1; session = session; item = crashed_item front.first.frame }
 
 pub last_stopped : (seen new : Seen) (t : Traced) (number after : ℕ) (front : Front) (leaves : Store → Type 0) → AreExact → Coupled seen t → seen.state.is_up ≡ true → seen.state.is_quiet ≡ true → front_at t.machine.links number ≡ Some front
-    → StopsInOrder seen t number after front → (did : ServedOne (with_stop seen (Some after)) number t.machine.tick front.first.frame Stopped leaves new)
+    → ServesInOrder (with_stop seen (Some after)) t number front → (did : ServedOne (with_stop seen (Some after)) number t.machine.tick front.first.frame Stopped leaves new)
     → (session_served front.link.session None ≡ did.session)
     × ServedLast seen t number after (crashed_now t.machine front did.session ∷ []) leaves new (after_stopped (begun t.machine) number front (crashed_now t.machine front did.session))
-last_stopped seen new t number after front leaves exact coupled up quiet there order did =
+last_stopped seen new t number after front leaves exact coupled up quiet there ordered did =
     let m = begun t.machine in
     let frame = front.first.frame in
     let session = did.session in
@@ -238,16 +240,16 @@ last_stopped seen new t number after front leaves exact coupled up quiet there o
     let is = crashed exact t.machine.server front.link frame session (may_by (may_store frame) (λ none. (did.silent none).0 refl)) in
     let living : seen.state.living number ≡ Some front.link.session = coupled.living number ∙ ap living_of at.0 ∙ ap (λ b. if b then Some front.link.session else None) at.1 in
     let known = which t.machine.server (with_stop seen (Some after)) front.link.session session number new.state.sessions coupled_stopped.server up living did.of_connection in
-    let named = named_by t.machine.server front.link.session session new.state.sessions known (order.ordered.is_first ∙ is.first) in
+    let named = named_by t.machine.server front.link.session session new.state.sessions known (ordered.is_first ∙ is.first) in
     let rose = did.cause.rose refl in
-    let cause = did.cause.quiet quiet (λ same. apart_by seen.state.faults new.state.faults order.faults rose same) in
+    let cause = did.cause.quiet quiet (λ same. apart_by seen.state.faults new.state.faults rose same) in
     let fewer : after < t.machine.server.per_record * (1 + sequences_in frame) =
     subst (λ n. after < n * (1 + sequences_in frame)) (sym coupled.server.per_record) (subst (λ n. n < seen.state.per_record * (1 + sequences_in frame)) (same_stop after cause.0 cause.1) cause.2) in
     let stopped : is_stopped m after front served ≡ true =
     both_true _ _ (both_true _ _ (eq-eqb m.event m.event refl) (is.by ∙ same_named exact front.link.session session named)) (both_true _ _ is.is_item (lt-ltb after (t.machine.server.per_record * (1 + sequences_in frame)) fewer)) in
     let happened : ServedFrame session t.machine.tick frame Stopped ∷ [] ≡ front_served t.machine.tick (front_at t.machine.links number) (served ∷ []) =
     ap (λ (told : Telling). ServedFrame session t.machine.tick frame told ∷ []) (sym (is.tells (commits_after front.link served.item))) ∙ ap (λ found. front_served t.machine.tick found (served ∷ [])) (sym there) in
-    let from = session_from (with_stop seen (Some after)) t number front session new.state.sessions coupled_stopped up order.ordered.now there did.of_connection in (
+    let from = session_from (with_stop seen (Some after)) t number front session new.state.sessions coupled_stopped up ordered.now there did.of_connection in (
       named_session front.link.session session None named,
       record {
         follows = ap (serves_last m number after (served ∷ [])) there ∙ by_stop m number after front served stopped;

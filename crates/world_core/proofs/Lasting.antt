@@ -22,7 +22,9 @@ use Rattle.world_core.specs.Stopping.{ServedLast, InOrderUnder, LeadsLast}
 use Rattle.world_core.proofs.Coupling.{begun}
 use Rattle.world_core.proofs.Opening.{any_server}
 use Rattle.world_core.proofs.Reaping.{link_same}
-use Rattle.world_core.proofs.Serving.{item_now, front_there, served_so, with_twice}
+use Rattle.world_core.proofs.Serving.{item_now, served_so, with_twice}
+use Rattle.world_core.proofs.Fronts.{front_there}
+use Rattle.world_core.proofs.Ordered.{serves_in_order}
 use Rattle.world_core.proofs.ServedFrames.{no_frame, some_frame, served_is, served_with, taken_off}
 use Rattle.world_core.proofs.Written.{reads}
 use Rattle.world_core.proofs.LastFrames.{stop_coupled, last_none, last_answered, last_stopped, crashed_now}
@@ -76,23 +78,24 @@ leads_answered sees sees_between sees_later leaves before between later number a
         let gone = goes stopped.0 stopped.1.0 in
         let new = gone.0 in
         let history = honest new gone.1.0 in
-        let order = ordered front there in
+        let under = ordered front there in
+        let order = serves_in_order (with_stop seen (Some after)) t number front is.orderly there under.answered in
         let did : ServedWith (with_stop seen (Some after)) number t.machine.tick front.first.frame reply new =
         subst (λ old. ServedWith old number t.machine.tick front.first.frame reply new) stopped.1.1
         (subst (λ f. ServedWith stopped.0 number t.machine.tick f reply new) same (subst (λ now. ServedWith stopped.0 number now frame reply new) (sym gives.1.tick) (served_with stopped.0 new number between.tick frame reply leaves gone.1.1))) in
         let written = writes (taken_off t.machine number front) front (link_same t.machine.links number front.link (record front.link { up = front.later }) at.0) gives.1 in
-        let by_session = served_so exact (with_stop seen (Some after)) new t number front reply (stop_coupled seen t (Some after) is.coupled) there order.ordered history did in
+        let by_session = served_so exact (with_stop seen (Some after)) new t number front reply (stop_coupled seen t (Some after) is.coupled) there order history did in
         let one = item_now t.machine front did.session reply in
         let is_one : served ≡ one = served_is served m.event did.session one.item written.event (written.session ∙ by_session.session_is) (written.item ∙ ap (λ f. served_item f reply) same) in
         let once = subst (λ links. IsUnderway later (record m { links = links; pool = pool_after t.machine.pool number served.item }))
         (with_twice t.machine.links number (record front.link { up = front.later }) (answered_link m.event front served reply)) written.links in
         let stands = subst (λ s. IsUnderway later (record m { links = with_link t.machine.links number (answered_link m.event front s reply); pool = pool_after t.machine.pool number s.item })) is_one once in
-        let read = reads exact did.session number front.link.commits front.first.frame reply (order.ordered.answered reply new history did).answers in
+        let read = reads exact did.session number front.link.commits front.first.frame reply (order.answered reply new history did).answers in
         let link = handled m.event front one in
         let same_handled : answered_link m.event front one reply ≡ link = ap (λ r. answered_link m.event front one r) (sym read.replies) in
         let underway = any_server later (record m { links = with_link t.machine.links number link; pool = pool_after t.machine.pool number one.item }) (server_after t.machine.server one.item)
         (subst (λ (l : Link). IsUnderway later (record m { links = with_link t.machine.links number l; pool = pool_after t.machine.pool number one.item })) same_handled stands) in
-        let last = last_answered seen new t number after front leaves exact is.coupled (up seen is.seen_so) there order history reply did in
+        let last = last_answered seen new t number after front leaves exact is.coupled (up seen is.seen_so) there order under history reply did in
         subst (λ s. Last sees_later leaves later seen t number after (s ∷ [])) (sym is_one) (new, (after_served m number front one, (gone.1.0, (last, underway))))
 
 -- it was stopped
@@ -118,7 +121,7 @@ leads_stopped sees sees_between sees_later leaves before between later number af
         subst (λ old. ServedOne old number t.machine.tick front.first.frame Stopped leaves new) stopped.1.1
         (subst (λ f. ServedOne stopped.0 number t.machine.tick f Stopped leaves new) same (subst (λ now. ServedOne stopped.0 number now frame Stopped leaves new) (sym gives.1.tick) gone.1.1)) in
         let written = writes (taken_off t.machine number front) front (link_same t.machine.links number front.link (record front.link { up = front.later }) at.0) gives.1 in
-        let last = last_stopped seen new t number after front leaves exact is.coupled (up seen is.seen_so) is.ready.quiet there (ordered front there) did in
+        let last = last_stopped seen new t number after front leaves exact is.coupled (up seen is.seen_so) is.ready.quiet there (serves_in_order (with_stop seen (Some after)) t number front is.orderly there (ordered front there).answered) did in
         let one = crashed_now t.machine front did.session in
         let is_one : served ≡ one = served_is served m.event did.session one.item written.event (written.session ∙ last.0) (written.item ∙ ap crashed_item same) in
         let once = subst (λ links. IsUnderway later (record m { links = links })) (with_twice t.machine.links number (record front.link { up = front.later }) (after_front front served None)) written.links in
@@ -133,4 +136,4 @@ pub set_coupled : (seen set : Seen) (t : Traced) (after : ℕ) → set ≡ with_
 set_coupled seen set t after is coupled = subst (λ s. Coupled s t) (sym is) (stop_coupled seen t (Some after) coupled)
 
 pub set_in_order : (seen set : Seen) (t : Traced) (number after : ℕ) → set ≡ with_stop seen (Some after) → InOrderUnder number after seen t → InOrder set t number
-set_in_order seen set t number after is ordered = subst (λ s. InOrder s t number) (sym is) (λ front there. (ordered front there).ordered)
+set_in_order seen set t number after is ordered = subst (λ s. InOrder s t number) (sym is) (λ front there. (ordered front there).answered)

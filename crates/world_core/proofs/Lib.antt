@@ -15,6 +15,8 @@ pub mod Draining
 pub mod Written
 pub mod Stops
 pub mod Storing
+pub mod Fronts
+pub mod Ordered
 pub mod Serving
 pub mod ServedFrames
 pub mod Questions

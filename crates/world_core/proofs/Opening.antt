@@ -12,31 +12,25 @@ use Rattle.world_model.specs.Traced.{Traced}
 use Rattle.world_model.specs.Opening.{may_open, opened}
 use Rattle.world_model.specs.Walking.{follow}
 use Rattle.world_model.specs.Coupled.{SameServer, Coupled}
+use Rattle.world_model.specs.KeptLaws.{OrderlyIsKept}
+use Rattle.world_model.specs.OneEvent.{OneEvent}
 use Rattle.world_core.specs.declared.traffic.Traffic.{Traffic}
 use Rattle.world_core.specs.Underway.{IsUnderway}
 use Rattle.world_core.specs.Making.{Makes}
 use Rattle.world_core.proofs.Readiness.{opened_ready}
-use Rattle.world_core.proofs.Coupling.{moved, begun, one_alone, stays_coupled, none_came, none_asked}
+use Rattle.world_core.proofs.Coupling.{moved, begun, one_alone, made, made_alone, none_came, none_asked}
 
 -- what is underway knows nothing of the server
 pub any_server : (held : Traffic) (m : Machine) (server : Server) → IsUnderway held m → IsUnderway held (record m { server = server })
 any_server held m server is = record { event = is.event; tick = is.tick; links = is.links; pool = is.pool; opened = is.opened }
 
 -- it was up
-pub ups_none : (sees : Seen → Type 0) (before after : Traffic) → ((seen : Seen) → sees seen → seen.state.is_up ≡ true) → ((m : Machine) → IsUnderway before m → IsUnderway after (begun m))
+pub ups_none : OrderlyIsKept → (sees : Seen → Type 0) (before after : Traffic) → ((seen : Seen) → sees seen → seen.state.is_up ≡ true) → ((m : Machine) → IsUnderway before m → IsUnderway after (begun m))
     → Makes sees before sees after event.Up (note.Up None) []
-ups_none sees before after up goes seen t is =
+ups_none kept sees before after up goes seen t is =
     let server_up : t.machine.server.is_up ≡ true = is.coupled.server.is_up ∙ up seen is.seen_so in
-    let follows : follow t.setting t.machine event.Up (note.Up None) [] ≡ Some (begun t.machine, []) = rw server_up refl in (
-      seen,
-      (
-        moved t (begun t.machine),
-        (
-          one_alone seen t event.Up (note.Up None) (begun t.machine) is.coupled follows refl refl refl refl refl,
-          record { seen_so = is.seen_so; ready = is.ready; coupled = stays_coupled seen t (begun t.machine) is.coupled refl refl; underway = goes t.machine is.underway },
-        ),
-      ),
-    )
+    let follows : follow t.setting t.machine event.Up (note.Up None) [] ≡ Some (begun t.machine, []) = rw server_up refl in
+    made_alone kept sees before after event.Up (note.Up None) seen t (begun t.machine) is (one_alone seen t event.Up (note.Up None) (begun t.machine) is.coupled follows refl refl refl refl refl) (goes t.machine is.underway)
 
 -- the next incarnation is one that may open
 may_open_next : (server : Server) (store incarnation : ℕ) → server.incarnation ≤ store → store ≤ server.incarnation + server.stopped → incarnation ≡ store + 1 → may_open server incarnation ≡ true
@@ -71,14 +65,14 @@ opened_coupled old new t horizon incarnation coupled history did told = record {
 }
 
 -- it was opened
-pub ups_some : (sees sees_later : Seen → Type 0) (before after : Traffic) (horizon incarnation : ℕ)
+pub ups_some : OrderlyIsKept → (sees sees_later : Seen → Type 0) (before after : Traffic) (horizon incarnation : ℕ)
     → ((seen : Seen) → sees seen → seen.state.is_up ≡ false)
     → ((seen : Seen) → sees_later seen → IsHistory seen)
     → ((seen : Seen) → sees_later seen → seen.state.is_up ≡ true → incarnation ≡ seen.state.store.incarnation)
     → Goes sees sees_later (λ old new. Opened old horizon new)
     → ((m : Machine) → IsUnderway before m → IsUnderway after (begun m))
     → Makes sees before sees_later after event.Up (note.Up (Some incarnation)) []
-ups_some sees sees_later before after horizon incarnation down honest told goes leads seen t is =
+ups_some kept sees sees_later before after horizon incarnation down honest told goes leads seen t is =
     let gone = goes seen is.seen_so in
     let new = gone.0 in
     let did : Opened seen horizon new = gone.1.1 in
@@ -90,31 +84,25 @@ ups_some sees sees_later before after horizon incarnation down honest told goes 
     let may = may_open_next t.machine.server seen.state.store.incarnation incarnation near.0 near.1 next in
     let m = opened_machine t.machine incarnation in
     let follows : follow t.setting t.machine event.Up (note.Up (Some incarnation)) [] ≡ Some (m, []) = rw (server_down, may) refl in
-    let coupled : Coupled new (moved t m) = opened_coupled seen new t horizon incarnation is.coupled (honest new gone.1.0) did is_now in (
-      new,
-      (
-        moved t m,
-        (
-          record {
-            follows = follows;
-            happened = [];
-            did = refl;
-            history = did.keeps.history ∙ sym (append-nil seen.history);
-            start = did.keeps.start;
-            coupled_before = is.coupled;
-            coupled_after = coupled;
-            more_entries = [];
-            entries = sym (append-nil t.entries);
-            own = none_came [];
-            more_blocked = [];
-            blocked = sym (append-nil t.blocked);
-            asked = none_asked [];
-            setting = refl;
-            image = refl;
-            outside = sym (append-nil t.outside);
-            outside_draws = sym (append-nil t.outside_draws);
-          },
-          record { seen_so = gone.1.0; ready = opened_ready seen new did.keeps is.ready did.is_up.0; coupled = coupled; underway = any_server after (begun t.machine) (opened t.machine.server incarnation) (leads t.machine is.underway) },
-        ),
-      ),
-    )
+    let coupled : Coupled new (moved t m) = opened_coupled seen new t horizon incarnation is.coupled (honest new gone.1.0) did is_now in
+    let one : OneEvent seen t event.Up (note.Up (Some incarnation)) [] [] new (moved t m) = record {
+      follows = follows;
+      happened = [];
+      did = refl;
+      history = did.keeps.history ∙ sym (append-nil seen.history);
+      start = did.keeps.start;
+      coupled_before = is.coupled;
+      coupled_after = coupled;
+      more_entries = [];
+      entries = sym (append-nil t.entries);
+      own = none_came [];
+      more_blocked = [];
+      blocked = sym (append-nil t.blocked);
+      asked = none_asked [];
+      setting = refl;
+      image = refl;
+      outside = sym (append-nil t.outside);
+      outside_draws = sym (append-nil t.outside_draws);
+    } in
+    made kept sees sees_later before after event.Up (note.Up (Some incarnation)) [] seen new t (moved t m) is one gone.1.0 (opened_ready seen new did.keeps is.ready did.is_up.0)
+    (any_server after (begun t.machine) (opened t.machine.server incarnation) (leads t.machine is.underway))

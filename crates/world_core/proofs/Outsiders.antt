@@ -22,7 +22,9 @@ use Rattle.server_model.specs.Seen.{Seen, IsHistory}
 use Rattle.server_model.specs.ServiceCalls.{CameFrom, WasAsked, IsOf, RunsAre, begins_outside, RanOutside, next_session as next_at_service}
 use Rattle.service_calls.specs.Answers.{runs_of}
 use Rattle.service_calls.specs.Kept.{Goes}
+use Rattle.world_model.specs.KeptLaws.{OrderlyIsKept}
 use Rattle.world_model.specs.OneEvent.{OneEvent, drawn_outside}
+use Rattle.world_model.specs.Basic.{are_made}
 use Rattle.world_model.specs.Coupled.{living_of, HasStored, entries_in, SameServer, Coupled}
 use Rattle.world_model.specs.Links.{Link, link_at}
 use Rattle.world_model.specs.Machines.{Server, Machine, next_session}
@@ -31,28 +33,20 @@ use Rattle.world_model.specs.Traced.{Traced}
 use Rattle.world_model.specs.Walking.{follow}
 use Rattle.world_core.specs.declared.traffic.Traffic.{Traffic}
 use Rattle.world_core.specs.Underway.{IsUnderway}
-use Rattle.world_core.specs.Making.{HasMade, MakesWhere}
+use Rattle.world_core.specs.Making.{Makes}
 use Rattle.world_core.proofs.Readiness.{stays_ready, up_not_down}
-use Rattle.world_core.proofs.Coupling.{moved, begun, one_alone, stays_coupled}
+use Rattle.world_core.proofs.Coupling.{begun, one_alone, made, made_alone}
 use Rattle.world_core.proofs.Opening.{any_server}
 use Rattle.world_core.proofs.Stops.{AreFrom, stops_behind}
 use Rattle.world_core.proofs.Storing.{others_counted, came_of, next_apart}
 
 -- the server is down
-pub outsides_none : (sees : Seen → Type 0) (before after : Traffic) (calls : List Call) → ((seen : Seen) → sees seen → seen.state.is_up ≡ false) → ((m : Machine) → IsUnderway before m → IsUnderway after (begun m))
-    → MakesWhere HasMade sees before sees after (event.Outside calls) (note.Outside None) []
-outsides_none sees before after calls down goes seen t is made =
+pub outsides_none : OrderlyIsKept → (sees : Seen → Type 0) (before after : Traffic) (calls : List Call) → ((seen : Seen) → sees seen → seen.state.is_up ≡ false) → ((m : Machine) → IsUnderway before m → IsUnderway after (begun m))
+    → Makes sees before sees after (event.Outside calls) (note.Outside None) []
+outsides_none kept sees before after calls down goes seen t is =
     let server_down : t.machine.server.is_up ≡ false = is.coupled.server.is_up ∙ down seen is.seen_so in
-    let follows : follow t.setting t.machine (event.Outside calls) (note.Outside None) [] ≡ Some (begun t.machine, []) = rw server_down refl in (
-      seen,
-      (
-        moved t (begun t.machine),
-        (
-          one_alone seen t (event.Outside calls) (note.Outside None) (begun t.machine) is.coupled follows refl refl refl refl refl,
-          record { seen_so = is.seen_so; ready = is.ready; coupled = stays_coupled seen t (begun t.machine) is.coupled refl refl; underway = goes t.machine is.underway },
-        ),
-      ),
-    )
+    let follows : follow t.setting t.machine (event.Outside calls) (note.Outside None) [] ≡ Some (begun t.machine, []) = rw server_down refl in
+    made_alone kept sees before after (event.Outside calls) (note.Outside None) seen t (begun t.machine) is (one_alone seen t (event.Outside calls) (note.Outside None) (begun t.machine) is.coupled follows refl refl refl refl refl) (goes t.machine is.underway)
 
 -- WHAT RAN ----------------------------------------------------------------------------------------
 
@@ -142,7 +136,7 @@ traced_behind t new draws = record t {
 }
 
 -- the server is up, and so many calls ran
-module _ (old new : Seen) (t : Traced) (calls : List Call) (ran : OutsideNote) (exact : AreExact) (coupled : Coupled old t) (up : old.state.is_up ≡ true) (made : HasMade old t) (history : IsHistory new)
+module _ (old new : Seen) (t : Traced) (calls : List Call) (ran : OutsideNote) (exact : AreExact) (coupled : Coupled old t) (up : old.state.is_up ≡ true) (are : are_made t ≡ true) (history : IsHistory new)
     (did : RanOutside old calls t.machine.tick ran.ltxid (runs_of ran) new) where
   abbrev session : SessionId
   session = next_at_service old
@@ -165,7 +159,7 @@ module _ (old new : Seen) (t : Traced) (calls : List Call) (ran : OutsideNote) (
       (λ other living.
       ap (λ e. entries_in e other) did.gains.entries
       ∙ others_counted exact session other old.state.store.entries did.gains.more_entries (came_of session happened did.gains.more_entries whole.of (came_later (begins_outside session t.machine.tick) did.more did.gains.more_entries did.gains.own))
-      (λ is. next_apart t made number link there (living ∙ ap (λ s. Some (Some s)) (is ∙ same))))
+      (λ is. next_apart t are number link there (living ∙ ap (λ s. Some (Some s)) (is ∙ same))))
       (coupled.stored number link there)
 
   pub outside_coupled : (draws : List Draw) → Coupled new (traced_behind t new draws)
@@ -207,30 +201,19 @@ module _ (old new : Seen) (t : Traced) (calls : List Call) (ran : OutsideNote) (
     outside_draws = refl;
   }
 
-pub outsides_some : (sees sees_later : Seen → Type 0) (before after : Traffic) (calls : List Call) (ran : OutsideNote) → AreExact
+pub outsides_some : OrderlyIsKept → (sees sees_later : Seen → Type 0) (before after : Traffic) (calls : List Call) (ran : OutsideNote) → AreExact
     → ((seen : Seen) → sees seen → seen.state.is_up ≡ true)
     → ((seen : Seen) → sees_later seen → IsHistory seen)
     → Goes sees sees_later (λ old new. RanOutside old calls after.tick ran.ltxid (runs_of ran) new)
     → ((m : Machine) → IsUnderway before m → IsUnderway after (begun m))
-    → MakesWhere HasMade sees before sees_later after (event.Outside calls) (note.Outside (Some ran)) []
-outsides_some sees sees_later before after calls ran exact up honest goes leads seen t is made =
+    → Makes sees before sees_later after (event.Outside calls) (note.Outside (Some ran)) []
+outsides_some kept sees sees_later before after calls ran exact up honest goes leads seen t is =
     let gone = goes seen is.seen_so in
     let new = gone.0 in
     let is_up = up seen is.seen_so in
     let later = leads t.machine is.underway in
     let did : RanOutside seen calls t.machine.tick ran.ltxid (runs_of ran) new = subst (λ now. RanOutside seen calls now ran.ltxid (runs_of ran) new) (sym later.tick) gone.1.1 in
-    let draws = drawn_outside (note.Outside (Some ran)) in (
-      new,
-      (
-        traced_behind t new draws,
-        (
-          outside_event seen new t calls ran exact is.coupled is_up made (honest new gone.1.0) did,
-          record {
-            seen_so = gone.1.0;
-            ready = stays_ready seen new did.keeps is.ready (up_not_down new.state did.others.1);
-            coupled = outside_coupled seen new t calls ran exact is.coupled is_up made (honest new gone.1.0) did draws;
-            underway = any_server after (begun t.machine) (outside_server t.machine.server) later;
-          },
-        ),
-      ),
-    )
+    let draws = drawn_outside (note.Outside (Some ran)) in
+    made kept sees sees_later before after (event.Outside calls) (note.Outside (Some ran)) [] seen new t (traced_behind t new draws) is
+    (outside_event seen new t calls ran exact is.coupled is_up is.orderly.basic.made (honest new gone.1.0) did) gone.1.0 (stays_ready seen new did.keeps is.ready (up_not_down new.state did.others.1))
+    (any_server after (begun t.machine) (outside_server t.machine.server) later)

@@ -23,30 +23,24 @@ use Rattle.world_model.specs.Serving.{outcome_frame}
 use Rattle.world_model.specs.Traced.{Traced}
 use Rattle.world_model.specs.Walking.{follow}
 use Rattle.world_model.specs.Coupled.{SameServer, Coupled}
+use Rattle.world_model.specs.KeptLaws.{OrderlyIsKept}
+use Rattle.world_model.specs.OneEvent.{OneEvent}
 use Rattle.world_core.specs.declared.traffic.Traffic.{Traffic}
 use Rattle.world_core.specs.Answering.{result_of}
 use Rattle.world_core.specs.Underway.{IsUnderway}
 use Rattle.world_core.specs.Making.{Makes}
 use Rattle.world_core.proofs.Readiness.{stays_ready, up_not_down}
-use Rattle.world_core.proofs.Coupling.{moved, begun, one_alone, stays_coupled, none_came, none_asked}
+use Rattle.world_core.proofs.Coupling.{begun, one_alone, made, made_alone, none_came, none_asked}
 use Rattle.world_core.proofs.Opening.{any_server}
 use Rattle.world_core.proofs.Stops.{stops_behind}
 
 -- the server is down
-pub asks_none : (sees : Seen → Type 0) (before after : Traffic) (x : Ltxid) → AreExact → ((seen : Seen) → sees seen → seen.state.is_up ≡ false) → ((m : Machine) → IsUnderway before m → IsUnderway after (begun m))
+pub asks_none : OrderlyIsKept → (sees : Seen → Type 0) (before after : Traffic) (x : Ltxid) → AreExact → ((seen : Seen) → sees seen → seen.state.is_up ≡ false) → ((m : Machine) → IsUnderway before m → IsUnderway after (begun m))
     → Makes sees before sees after (event.Ask x) (note.Ask x None) []
-asks_none sees before after x exact down goes seen t is =
+asks_none kept sees before after x exact down goes seen t is =
     let server_down : t.machine.server.is_up ≡ false = is.coupled.server.is_up ∙ down seen is.seen_so in
-    let follows : follow t.setting t.machine (event.Ask x) (note.Ask x None) [] ≡ Some (begun t.machine, []) = rw ((exact.identifiers x x).1 refl, server_down) refl in (
-      seen,
-      (
-        moved t (begun t.machine),
-        (
-          one_alone seen t (event.Ask x) (note.Ask x None) (begun t.machine) is.coupled follows refl refl refl refl refl,
-          record { seen_so = is.seen_so; ready = is.ready; coupled = stays_coupled seen t (begun t.machine) is.coupled refl refl; underway = goes t.machine is.underway },
-        ),
-      ),
-    )
+    let follows : follow t.setting t.machine (event.Ask x) (note.Ask x None) [] ≡ Some (begun t.machine, []) = rw ((exact.identifiers x x).1 refl, server_down) refl in
+    made_alone kept sees before after (event.Ask x) (note.Ask x None) seen t (begun t.machine) is (one_alone seen t (event.Ask x) (note.Ask x None) (begun t.machine) is.coupled follows refl refl refl refl refl) (goes t.machine is.underway)
 
 -- the frame that tells a verdict
 same_frame : (told : Verdict) → outcome_frame (result_of told) ≡ down_of told
@@ -107,13 +101,13 @@ asked_coupled old new t x told coupled up history did = record {
   image = rw did.keeps.start coupled.image;
 }
 
-pub asks_some : (sees sees_later : Seen → Type 0) (before after : Traffic) (x : Ltxid) (told : Verdict) → AreExact
+pub asks_some : OrderlyIsKept → (sees sees_later : Seen → Type 0) (before after : Traffic) (x : Ltxid) (told : Verdict) → AreExact
     → ((seen : Seen) → sees seen → seen.state.is_up ≡ true)
     → ((seen : Seen) → sees_later seen → IsHistory seen)
     → Goes sees sees_later (λ old new. AskedOne old x told new)
     → ((m : Machine) → IsUnderway before m → IsUnderway after (begun m))
     → Makes sees before sees_later after (event.Ask x) (note.Ask x (Some (result_of told))) []
-asks_some sees sees_later before after x told exact up honest goes leads seen t is =
+asks_some kept sees sees_later before after x told exact up honest goes leads seen t is =
     let gone = goes seen is.seen_so in
     let new = gone.0 in
     let did : AskedOne seen x told new = gone.1.1 in
@@ -122,36 +116,25 @@ asks_some sees sees_later before after x told exact up honest goes leads seen t 
     let m = asked_machine t.machine x (result_of told) in
     let follows : follow t.setting t.machine (event.Ask x) (note.Ask x (Some (result_of told))) [] ≡ Some (m, []) = rw ((exact.identifiers x x).1 refl, server_up) refl in
     let coupled : Coupled new (traced_behind t m new) = asked_coupled seen new t x told is.coupled is_up (honest new gone.1.0) did in
-    let more = block_added seen.state.store.blocked new.state.store.blocked x (Says (down_of told)) did.adds.blocked in (
-      new,
-      (
-        traced_behind t m new,
-        (
-          record {
-            follows = follows;
-            happened = Asked x (Says (down_of told)) ∷ [];
-            did = ap (λ frame. Asked x (Says frame) ∷ []) (sym (same_frame told));
-            history = did.history;
-            start = did.keeps.start;
-            coupled_before = is.coupled;
-            coupled_after = coupled;
-            more_entries = [];
-            entries = did.adds.entries.0 ∙ sym is.coupled.entries ∙ sym (append-nil t.entries);
-            own = none_came (Asked x (Says (down_of told)) ∷ []);
-            more_blocked = more.0;
-            blocked = more.1.0 ∙ ap (λ b. b ++ more.0) (sym is.coupled.blocked);
-            asked = more.1.1;
-            setting = refl;
-            image = refl;
-            outside = sym (append-nil t.outside);
-            outside_draws = sym (append-nil t.outside_draws);
-          },
-          record {
-            seen_so = gone.1.0;
-            ready = stays_ready seen new did.keeps is.ready (up_not_down new.state did.others.1);
-            coupled = coupled;
-            underway = any_server after (begun t.machine) (after_asked t.machine.server x (result_of told)) (leads t.machine is.underway);
-          },
-        ),
-      ),
-    )
+    let more = block_added seen.state.store.blocked new.state.store.blocked x (Says (down_of told)) did.adds.blocked in
+    let one : OneEvent seen t (event.Ask x) (note.Ask x (Some (result_of told))) [] [] new (traced_behind t m new) = record {
+      follows = follows;
+      happened = Asked x (Says (down_of told)) ∷ [];
+      did = ap (λ frame. Asked x (Says frame) ∷ []) (sym (same_frame told));
+      history = did.history;
+      start = did.keeps.start;
+      coupled_before = is.coupled;
+      coupled_after = coupled;
+      more_entries = [];
+      entries = did.adds.entries.0 ∙ sym is.coupled.entries ∙ sym (append-nil t.entries);
+      own = none_came (Asked x (Says (down_of told)) ∷ []);
+      more_blocked = more.0;
+      blocked = more.1.0 ∙ ap (λ b. b ++ more.0) (sym is.coupled.blocked);
+      asked = more.1.1;
+      setting = refl;
+      image = refl;
+      outside = sym (append-nil t.outside);
+      outside_draws = sym (append-nil t.outside_draws);
+    } in
+    made kept sees sees_later before after (event.Ask x) (note.Ask x (Some (result_of told))) [] seen new t (traced_behind t m new) is one gone.1.0 (stays_ready seen new did.keeps is.ready (up_not_down new.state did.others.1))
+    (any_server after (begun t.machine) (after_asked t.machine.server x (result_of told)) (leads t.machine is.underway))

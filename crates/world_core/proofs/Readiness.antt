@@ -1,14 +1,13 @@
--- The service stays ready, and is stopped by no call.
-use Rattle.std.proofs.Common.{◌≡◌, ◌<◌, ◌-◌, ◌^◌, ◌==◌, ℕ, true, false, Option, Some, None, refl, sym, ◌∙◌, arith, inl, inr}
-use Rattle.std.proofs.lemmas.Bool.Decides.{eqb_tells}
-use Rattle.std.specs.Prelude.{◌⊎◌, ◌≢◌}
+-- The service stays ready, and no call of it is stopped.
+use Rattle.std.proofs.Common.{◌≡◌, ◌<◌, ℕ, true, false, Option, Some, None, refl, sym, ◌∙◌, arith}
+use Rattle.svc_values.specs.declared.entry.Ltxid.{Ltxid}
 use Rattle.server_model.specs.Outcomes.{Stopped}
-use Rattle.server_model.specs.Seen.{ServiceState, Store, Seen, Keeps, KeepsStore, Rose}
-use Rattle.server_model.specs.ServiceCalls.{ServedOne, KeepsOpening, StopsOnly, StoppedOpening}
+use Rattle.server_model.specs.Seen.{ServiceState, Store, Seen, Keeps, KeepsStore}
+use Rattle.server_model.specs.ServiceCalls.{ServedOne, KeepsOpening, StopsOnly, StoppedOpening, StoppedOutside, StoppedAsk}
 use Rattle.svc_values.specs.declared.frame.Up.{Up}
 use Rattle.service_calls.specs.Kept.{Goes}
 use Rattle.world_core.specs.declared.traffic.Traffic.{Traffic}
-use Rattle.world_core.specs.Making.{IsReady, OutOfFaults}
+use Rattle.world_core.specs.Making.{IsReady, IsSomewhere}
 
 pub up_not_down : (state : ServiceState) → state.is_up ≡ true → state.is_up ≡ false → state.is_settled ≡ true
 up_not_down state up down = absurd (let same : true ≡ false = sym up ∙ down in let nothing : ⊥ = cc in nothing)
@@ -33,37 +32,34 @@ opened_ready old new keeps ready up = record {
   settled = up_not_down new.state up;
 }
 
--- a stop with no stop set
-rises_not : (old new : ℕ) → new ≡ old → (old < new) ⊎ (new ≡ 2 ^ 64 - 1) → new ≡ 2 ^ 64 - 1
-rises_not old new same (inl rose) = absurd (omega (arith, same, rose))
-rises_not old new same (inr end) = end
+-- NO CALL IS STOPPED -----------------------------------------------------------------------------
 
-pub at_end : (old new : Seen) → Rose old new → (new.state.faults ≢ old.state.faults → ⊥) → new.state.faults ≡ 2 ^ 64 - 1
-at_end old new rose never = by (eqb_tells new.state.faults old.state.faults)
-  where
-    by : (((new.state.faults == old.state.faults) ≡ true) × (new.state.faults ≡ old.state.faults)) ⊎ (((new.state.faults == old.state.faults) ≡ false) × (new.state.faults ≡ old.state.faults → ⊥)) → new.state.faults ≡ 2 ^ 64 - 1
-    by (inl (told, same)) = rises_not old.state.faults new.state.faults same rose
-    by (inr (told, apart)) = absurd (never apart)
+risen : (old new : ℕ) → old < new → new ≡ old → ⊥
+risen old new rose same = omega (arith, rose, same)
 
 none_not : (stop : Option ℕ) (n : ℕ) → stop ≡ None → stop ≡ Some n → ⊥
 none_not stop n none some = let same : ◌≡◌ {A = Option ℕ} None (Some n) = sym none ∙ some in cc
 
-pub stops_only : (old new : Seen) → IsReady old.state → StopsOnly old new true → new.state.faults ≡ 2 ^ 64 - 1
-stops_only old new ready cause = at_end old new (cause.rose refl) (λ rose. cause.quiet ready.quiet rose ready.unstopped)
+pub stops_only : (old new : Seen) → IsReady old.state → StopsOnly old new true → ⊥
+stops_only old new ready cause = cause.quiet ready.quiet (risen old.state.faults new.state.faults (cause.rose refl)) ready.unstopped
 
-pub frame_stopped : (sees sees_later : Seen → Type 0) (leaves : Store → Type 0) (before : Traffic) (number now : ℕ) (frame : Up)
-    → Goes sees sees_later (λ old new. ServedOne old number now frame Stopped leaves new) → OutOfFaults sees before sees_later
-frame_stopped sees sees_later leaves before number now frame goes seen t is =
+-- no frame of a service that is ready is stopped
+pub frame_never_stops : (sees sees_later : Seen → Type 0) (leaves : Store → Type 0) (before : Traffic) (number now : ℕ) (frame : Up) → IsSomewhere sees before
+    → Goes sees sees_later (λ old new. ServedOne old number now frame Stopped leaves new) → ⊥
+frame_never_stops sees sees_later leaves before number now frame there goes =
+    let seen = there.0 in
+    let is = there.1.1 in
     let gone = goes seen is.seen_so in
-    let cause = gone.1.1.cause in (
-      gone.0,
-      (
-        gone.1.0,
-        at_end seen gone.0 (cause.rose refl) (λ rose. let by = cause.quiet is.ready.quiet rose in none_not seen.state.stop by.0 is.ready.unstopped by.1),
-      ),
-    )
+    let cause = gone.1.1.cause in
+    let by = cause.quiet is.ready.quiet (risen seen.state.faults gone.0.state.faults (cause.rose refl)) in
+    none_not seen.state.stop by.0 is.ready.unstopped by.1
 
-pub opening_stopped : (sees sees_later : Seen → Type 0) (leaves : Store → Type 0) (before : Traffic) (horizon : ℕ)
-    → Goes sees sees_later (λ old new. StoppedOpening old horizon leaves new) → OutOfFaults sees before sees_later
-opening_stopped sees sees_later leaves before horizon goes seen t is =
-    let gone = goes seen is.seen_so in (gone.0, (gone.1.0, stops_only seen gone.0 is.ready gone.1.1.cause))
+-- nor is an opening, nor calls or a question from outside
+pub opening_never_stops : (sees sees_later : Seen → Type 0) (leaves : Store → Type 0) (before : Traffic) (horizon : ℕ) → IsSomewhere sees before → Goes sees sees_later (λ old new. StoppedOpening old horizon leaves new) → ⊥
+opening_never_stops sees sees_later leaves before horizon there goes = let gone = goes there.0 there.1.1.seen_so in stops_only there.0 gone.0 there.1.1.ready gone.1.1.cause
+
+pub outside_never_stops : (sees sees_later : Seen → Type 0) (leaves : Store → Type 0) (before : Traffic) → IsSomewhere sees before → Goes sees sees_later (λ old new. StoppedOutside old leaves new) → ⊥
+outside_never_stops sees sees_later leaves before there goes = let gone = goes there.0 there.1.1.seen_so in stops_only there.0 gone.0 there.1.1.ready gone.1.1.cause
+
+pub ask_never_stops : (sees sees_later : Seen → Type 0) (leaves : Store → Type 0) (before : Traffic) (x : Ltxid) → IsSomewhere sees before → Goes sees sees_later (λ old new. StoppedAsk old x leaves new) → ⊥
+ask_never_stops sees sees_later leaves before x there goes = let gone = goes there.0 there.1.1.seen_so in stops_only there.0 gone.0 there.1.1.ready gone.1.1.cause

@@ -17,12 +17,14 @@ use Rattle.world_model.specs.Noting.{only_if}
 use Rattle.world_model.specs.Cutting.{has_orphan, reaped_link, follow_reap}
 use Rattle.world_model.specs.Walking.{follow}
 use Rattle.world_model.specs.Coupled.{living_of, HasStored, SameServer, Coupled}
+use Rattle.world_model.specs.KeptLaws.{OrderlyIsKept}
+use Rattle.world_model.specs.OneEvent.{OneEvent}
 use Rattle.world_core.specs.declared.traffic.Traffic.{Traffic}
 use Rattle.world_core.specs.Underway.{IsUnderway, Leads}
 use Rattle.world_core.specs.Making.{Makes}
 use Rattle.world_core.proofs.Places.{slice_same, slice_other}
 use Rattle.world_core.proofs.Readiness.{store_ready}
-use Rattle.world_core.proofs.Coupling.{moved, begun, one_alone, stays_coupled, none_came, none_asked}
+use Rattle.world_core.proofs.Coupling.{moved, begun, one_alone, made, made_alone, none_came, none_asked}
 
 -- ONE OF MANY -------------------------------------------------------------------------------------
 
@@ -86,23 +88,15 @@ reaped_at : (links : List Link) (number : ℕ) (link : Link) → link_at links n
 reaped_at links number link there = ap (λ found. option_map_or (λ one. with_link links number (reaped_link one)) found links) there
 
 -- none was there
-pub reaps_none : (sees : Seen → Type 0) (before after : Traffic) (number : ℕ) → ((m : Machine) → IsUnderway before m → Leads (follow_reap (begun m) number false) after)
+pub reaps_none : OrderlyIsKept → (sees : Seen → Type 0) (before after : Traffic) (number : ℕ) → ((m : Machine) → IsUnderway before m → Leads (follow_reap (begun m) number false) after)
     → Makes sees before sees after (event.Reap number) (note.Reap number false) []
-reaps_none sees before after number goes seen t is =
+reaps_none kept sees before after number goes seen t is =
     let led = goes t.machine is.underway in
     let same = only_true (same_bool false (has_orphan t.machine.links number)) (begun t.machine) led.0 led.1.0 in
     let follows : follow t.setting t.machine (event.Reap number) (note.Reap number false) [] ≡ Some (led.0, []) = rw (eq-eqb number number refl, led.1.0) refl in
     let server : led.0.server ≡ t.machine.server = ap (λ m. m.server) same.1 in
-    let alike = ap (λ m. m.links) same.1 in (
-      seen,
-      (
-        moved t led.0,
-        (
-          one_alone seen t (event.Reap number) (note.Reap number false) led.0 is.coupled follows refl refl refl server (rw alike refl),
-          record { seen_so = is.seen_so; ready = is.ready; coupled = stays_coupled seen t led.0 is.coupled server (rw alike refl); underway = led.1.1 },
-        ),
-      ),
-    )
+    let alike = ap (λ m. m.links) same.1 in
+    made_alone kept sees before after (event.Reap number) (note.Reap number false) seen t led.0 is (one_alone seen t (event.Reap number) (note.Reap number false) led.0 is.coupled follows refl refl refl server (rw alike refl)) led.1.1
 
 -- one was
 living_apart : (old new : Seen) (t : Traced) (number other : ℕ) (link : Link) → Coupled old t → Reaped old number new → link_at t.machine.links number ≡ Some link
@@ -130,9 +124,9 @@ stored_apart old t number other link one coupled there found = by (eqb_tells oth
 abbrev reaped_machine : Machine → ℕ → Link → Machine
 reaped_machine m number link = record (begun m) { links = with_link m.links number (reaped_link link) }
 
-pub reaps_one : (sees sees_later : Seen → Type 0) (before after : Traffic) (number : ℕ) → ((seen : Seen) → sees_later seen → IsHistory seen) → Goes sees sees_later (λ old new. Reaped old number new)
+pub reaps_one : OrderlyIsKept → (sees sees_later : Seen → Type 0) (before after : Traffic) (number : ℕ) → ((seen : Seen) → sees_later seen → IsHistory seen) → Goes sees sees_later (λ old new. Reaped old number new)
     → ((m : Machine) → IsUnderway before m → Leads (follow_reap (begun m) number true) after) → Makes sees before sees_later after (event.Reap number) (note.Reap number true) []
-reaps_one sees sees_later before after number honest goes leads seen t is =
+reaps_one kept sees sees_later before after number honest goes leads seen t is =
     let led = leads t.machine is.underway in
     let followed = only_true (same_bool true (has_orphan t.machine.links number)) (record (begun t.machine) { links = changed reaped_link t.machine.links number }) led.0 led.1.0 in
     let found = found_orphan (link_at t.machine.links number) (true_same (has_orphan t.machine.links number) followed.0) in
@@ -146,31 +140,24 @@ reaps_one sees sees_later before after number honest goes leads seen t is =
     let reaped : Reaped seen number new = gone.1.1 in
     let coupled : Coupled new (moved t m) = kept_coupled seen new t m is.coupled (honest new gone.1.0) reaped.keeps reaped.keeps_store refl
     (λ other. living_apart seen new t number other found.0 is.coupled reaped found.1)
-    (λ other one at. stored_apart seen t number other found.0 one is.coupled found.1 at) in (
-      new,
-      (
-        moved t m,
-        (
-          record {
-            follows = there.1;
-            happened = [];
-            did = refl;
-            history = reaped.keeps_store.history ∙ sym (append-nil seen.history);
-            start = reaped.keeps.start;
-            coupled_before = is.coupled;
-            coupled_after = coupled;
-            more_entries = [];
-            entries = sym (append-nil t.entries);
-            own = none_came [];
-            more_blocked = [];
-            blocked = sym (append-nil t.blocked);
-            asked = none_asked [];
-            setting = refl;
-            image = refl;
-            outside = sym (append-nil t.outside);
-            outside_draws = sym (append-nil t.outside_draws);
-          },
-          record { seen_so = gone.1.0; ready = store_ready seen new reaped.keeps reaped.keeps_store is.ready; coupled = coupled; underway = there.0 },
-        ),
-      ),
-    )
+    (λ other one at. stored_apart seen t number other found.0 one is.coupled found.1 at) in
+    let event_made : OneEvent seen t (event.Reap number) (note.Reap number true) [] [] new (moved t m) = record {
+      follows = there.1;
+      happened = [];
+      did = refl;
+      history = reaped.keeps_store.history ∙ sym (append-nil seen.history);
+      start = reaped.keeps.start;
+      coupled_before = is.coupled;
+      coupled_after = coupled;
+      more_entries = [];
+      entries = sym (append-nil t.entries);
+      own = none_came [];
+      more_blocked = [];
+      blocked = sym (append-nil t.blocked);
+      asked = none_asked [];
+      setting = refl;
+      image = refl;
+      outside = sym (append-nil t.outside);
+      outside_draws = sym (append-nil t.outside_draws);
+    } in
+    made kept sees sees_later before after (event.Reap number) (note.Reap number true) [] seen new t (moved t m) is event_made gone.1.0 (store_ready seen new reaped.keeps reaped.keeps_store is.ready) there.0

@@ -1,6 +1,6 @@
 -- A frame that is served in order: what the calls ask for and give.
 use Rattle.std.proofs.Common.{◌≡◌, ℕ, ◌+◌, true, false, List, [], ◌∷◌, Option, Some, None, refl, sym, ap, ◌∙◌, subst, eq-eqb}
-use Rattle.std.specs.Prelude.{IfSome, option_and_then, if◌then◌else◌}
+use Rattle.std.specs.Prelude.{IfSome, if◌then◌else◌}
 use Rattle.svc_values.specs.declared.entry.SessionId.{SessionId}
 use Rattle.svc_values.specs.declared.frame.Up.{Up}
 use Rattle.svc_values.specs.declared.frame.Down.{Down}
@@ -25,27 +25,26 @@ use Rattle.world_model.specs.Frames.{Sent}
 use Rattle.world_model.specs.Links.{Link, link_at, with_link, changed, ends}
 use Rattle.world_model.specs.Machines.{Machine}
 use Rattle.world_model.specs.Noting.{name_of}
-use Rattle.world_model.specs.Serving.{Front, first_of, front_of, front_at, is_blocked, after_front, pool_after}
+use Rattle.world_model.specs.Serving.{Front, first_of, front_at, is_blocked, after_front, pool_after}
 use Rattle.world_model.specs.Traced.{Traced}
 use Rattle.world_model.specs.Coupled.{living_of, Coupled}
-use Rattle.world_model.specs.OneEvent.{OneEvent}
+use Rattle.world_model.specs.KeptLaws.{OrderlyIsKept}
 use Rattle.world_core.specs.declared.traffic.Traffic.{Traffic}
 use Rattle.world_core.specs.Answering.{served_item}
 use Rattle.world_core.specs.InOrder.{no_store, ServedWith, InOrder}
 use Rattle.world_core.specs.Underway.{IsUnderway, FrontOf, answered_link, IsWritten}
-use Rattle.world_core.specs.Making.{IsAt, MakesInOrder}
-use Rattle.world_core.proofs.Serving.{GoesTo, front_there, item_now, served_so, serves_front, with_twice, ends_there}
+use Rattle.world_core.specs.Making.{Made, MakesInOrder}
+use Rattle.world_core.proofs.Serving.{GoesTo, item_now, served_so, serves_front, with_twice, ends_there}
+use Rattle.world_core.proofs.Fronts.{some_front, front_there, front_up}
+use Rattle.world_core.proofs.Ordered.{serves_in_order}
 use Rattle.world_core.proofs.Readiness.{stays_ready, up_not_down}
-use Rattle.world_core.proofs.Coupling.{moved, begun, one_alone, stays_coupled}
+use Rattle.world_core.proofs.Coupling.{begun, one_alone, made_alone}
 use Rattle.world_core.proofs.Reaping.{link_same}
 
 -- ON THE GROUND -----------------------------------------------------------------------------------
 
 pub no_frame : {A : Type 0} (frame : Up) → ◌≡◌ {A = Option Up} None (Some frame) → A
 no_frame frame e = absurd (let nothing : ⊥ = cc in nothing)
-
-some_front : (a b : Front) → ◌≡◌ {A = Option Front} (Some a) (Some b) → a ≡ b
-some_front a b e = cc
 
 pub some_frame : (a b : Up) → ◌≡◌ {A = Option Up} (Some a) (Some b) → a ≡ b
 some_frame a b e = cc
@@ -81,34 +80,26 @@ served_with old new number now frame reply leaves did = record {
   silent = did.silent;
 }
 
-pub serves_none : (sees : Seen → Type 0) (before after : Traffic) (number : ℕ) → ((m : Machine) → IsUnderway before m → FrontOf (begun m) number (front_at m.links number) None after)
+pub serves_none : OrderlyIsKept → (sees : Seen → Type 0) (before after : Traffic) (number : ℕ) → ((m : Machine) → IsUnderway before m → FrontOf (begun m) number (front_at m.links number) None after)
     → MakesInOrder sees before sees after number (event.Serve number) (note.Serve number None) []
-serves_none sees before after number goes seen t is ordered = by (front_at t.machine.links number) refl (goes t.machine is.underway)
+serves_none kept sees before after number goes seen t is ordered = by (front_at t.machine.links number) refl (goes t.machine is.underway)
   where
-    by : (found : Option Front) → front_at t.machine.links number ≡ found → FrontOf (begun t.machine) number found None after
-        → (seen_later : Seen) × ((later : Traced) × (OneEvent seen t (event.Serve number) (note.Serve number None) [] [] seen_later later × IsAt sees after seen_later later))
-    by None there gives = (
-      seen,
-      (
-        moved t (begun t.machine),
-        (
-          one_alone seen t (event.Serve number) (note.Serve number None) (begun t.machine) is.coupled (rw (eq-eqb number number refl, there) refl) (rw there refl) refl refl refl refl,
-          record { seen_so = is.seen_so; ready = is.ready; coupled = stays_coupled seen t (begun t.machine) is.coupled refl refl; underway = gives.1 },
-        ),
-      ),
-    )
+    by : (found : Option Front) → front_at t.machine.links number ≡ found → FrontOf (begun t.machine) number found None after → Made seen t sees after (event.Serve number) (note.Serve number None) []
+    by None there gives =
+        made_alone kept sees before after (event.Serve number) (note.Serve number None) seen t (begun t.machine) is
+        (one_alone seen t (event.Serve number) (note.Serve number None) (begun t.machine) is.coupled (rw (eq-eqb number number refl, there) refl) (rw there refl) refl refl refl refl) gives.1
     by (Some front) there gives = no_frame front.first.frame gives.0
 
 abbrev pub taken_off : Machine → ℕ → Front → Machine
 taken_off m number front = record (begun m) { links = with_link m.links number (record front.link { up = front.later }) }
 
-pub serves_some : (sees sees_later : Seen → Type 0) (leaves : Store → Type 0) (before between after : Traffic) (number : ℕ) (frame : Up) (reply : Option Down) (served : Served) → AreExact
+pub serves_some : OrderlyIsKept → (sees sees_later : Seen → Type 0) (leaves : Store → Type 0) (before between after : Traffic) (number : ℕ) (frame : Up) (reply : Option Down) (served : Served) → AreExact
     → ((seen : Seen) → sees_later seen → IsHistory seen)
     → Goes sees sees_later (λ old new. ServedOne old number between.tick frame (telling_of reply) leaves new)
     → ((m : Machine) → IsUnderway before m → FrontOf (begun m) number (front_at m.links number) (Some frame) between)
     → ((m : Machine) (front : Front) → link_at m.links number ≡ Some (record front.link { up = front.later }) → IsUnderway between m → IsWritten between m number front frame reply served after)
     → MakesInOrder sees before sees_later after number (event.Serve number) (note.Serve number (Some (name_of frame))) (served ∷ [])
-serves_some sees sees_later leaves before between after number frame reply served exact honest goes takes writes seen t is ordered = by (front_at t.machine.links number) refl (takes t.machine is.underway)
+serves_some kept sees sees_later leaves before between after number frame reply served exact honest goes takes writes seen t is ordered = by (front_at t.machine.links number) refl (takes t.machine is.underway)
   where
     by : (found : Option Front) → front_at t.machine.links number ≡ found → FrontOf (begun t.machine) number found (Some frame) between → GoesTo sees_later seen t number frame served after
     by None there gives = no_frame frame (sym gives.0)
@@ -122,7 +113,7 @@ serves_some sees sees_later leaves before between after number frame reply serve
         let did : ServedWith seen number t.machine.tick front.first.frame reply new =
         subst (λ f. ServedWith seen number t.machine.tick f reply new) same (subst (λ now. ServedWith seen number now frame reply new) (sym gives.1.tick) (served_with seen new number between.tick frame reply leaves gone.1.1)) in
         let written = writes (taken_off t.machine number front) front (link_same t.machine.links number front.link (record front.link { up = front.later }) at.0) gives.1 in
-        let order = ordered front there in
+        let order = serves_in_order seen t number front is.orderly there (ordered front there) in
         let ready = stays_ready seen new did.keeps is.ready (up_not_down new.state (did.is_up ∙ told_up reply)) in
         let by_session = served_so exact seen new t number front reply is.coupled there order history did in
         let one = item_now t.machine front did.session reply in
@@ -130,7 +121,7 @@ serves_some sees sees_later leaves before between after number frame reply serve
         let once = subst (λ links. IsUnderway after (record m { links = links; pool = pool_after t.machine.pool number served.item }))
         (with_twice t.machine.links number (record front.link { up = front.later }) (answered_link m.event front served reply)) written.links in
         let stands = subst (λ s. IsUnderway after (record m { links = with_link t.machine.links number (answered_link m.event front s reply); pool = pool_after t.machine.pool number s.item })) is_one once in
-        let result = serves_front sees_later seen new t number front reply after exact is.coupled there order history gone.1.0 ready did stands in
+        let result = serves_front kept sees sees_later seen new t number front reply before after exact is there order history gone.1.0 ready did stands in
         subst (λ s. GoesTo sees_later seen t number frame s after) (sym is_one) (subst (λ f. GoesTo sees_later seen t number f one after) (sym same) result)
 
 -- WHAT THE CALLS ASK FOR --------------------------------------------------------------------------
@@ -152,11 +143,6 @@ lives_there state seen t number frame between same coupled gives = by (front_at 
 made_first : (up : List Sent) (front : Front) (link : Link) → first_of link up ≡ Some front → AllByRecursion IsMadeUp (up_frames up) → IsMadeUp front.first.frame
 made_first [] front link e made = absurd (let nothing : ⊥ = cc in nothing)
 made_first (first ∷ later) front link e made = subst (λ (f : Front). IsMadeUp f.first.frame) (some_front _ front e) made.0
-
-front_up : (links : List Link) (number : ℕ) (front : Front) → front_at links number ≡ Some front → first_of front.link front.link.up ≡ Some front
-front_up links number front there =
-    let at = front_there links number front there in
-    sym (ap (λ b. if b then first_of front.link front.link.up else None) at.1) ∙ sym (ap (λ (l : Option Link). option_and_then front_of l) at.0) ∙ there
 
 pub frame_made : (m : Machine) (number : ℕ) (frame : Up) (before between : Traffic) → IsUnderway before m → FrontOf (begun m) number (front_at m.links number) (Some frame) between → IsMadeUp frame
 frame_made m number frame before between is gives = by (front_at m.links number) refl gives
@@ -183,7 +169,7 @@ made_there sees sees_later leaves before between number frame reply seen t sees_
         let new = gone.0 in
         let did : ServedWith seen number t.machine.tick front.first.frame reply new =
         subst (λ f. ServedWith seen number t.machine.tick f reply new) same (subst (λ now. ServedWith seen number now frame reply new) (sym gives.1.tick) (served_with seen new number between.tick frame reply leaves gone.1.1)) in
-        ((ordered front there).answered reply new (honest new gone.1.0) did).made
+        (ordered front there reply new (honest new gone.1.0) did).made
 
 -- WRITTEN DOWN ------------------------------------------------------------------------------------
 

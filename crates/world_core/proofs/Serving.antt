@@ -3,7 +3,7 @@ use Rattle.std.proofs.Common.{◌≡◌, ◌≤◌, arith, ℕ, zero, suc, ◌+�
 use Rattle.std.proofs.lemmas.Bool.Decides.{eqb_tells}
 use Rattle.std.proofs.lemmas.List.{append-nil}
 use Rattle.std.proofs.lemmas.List.Elements.{All-nil, All-cons}
-use Rattle.std.specs.Prelude.{◌⊎◌, ◌&&◌, not, cond, slice_set, option_and_then, if◌then◌else◌}
+use Rattle.std.specs.Prelude.{◌⊎◌, ◌&&◌, not, cond, slice_set, if◌then◌else◌}
 use Rattle.std.specs.Option.{option_map_or}
 use Rattle.svc_values.specs.declared.entry.SessionId.{SessionId}
 use Rattle.svc_values.specs.declared.frame.Up.{Up}
@@ -18,26 +18,28 @@ use Rattle.server_model.specs.Outcomes.{Telling, telling_of}
 use Rattle.server_model.specs.Runs.{Served as ServedFrame}
 use Rattle.server_model.specs.Seen.{Connections, Seen, IsHistory, with_connection, without_connection}
 use Rattle.server_model.specs.ServiceCalls.{IsOf, SessionOf}
-use Rattle.world_model.specs.Frames.{Sent}
 use Rattle.world_model.specs.Links.{Link, link_at, with_link, changed, ends}
-use Rattle.world_model.specs.Machines.{Server, Machine}
+use Rattle.world_model.specs.Machines.{Server, Machine, next_session}
 use Rattle.world_model.specs.Noting.{only_if, name_of, same_name}
-use Rattle.world_model.specs.Serving.{Front, first_of, front_of, front_at, is_item_of, is_served_by, serves, follow_serve, is_last, is_blocked, is_commit, commits_after, after_front, handled, reply_of, after_served, server_after, pool_after}
-use Rattle.world_model.specs.Basic.{living_now}
+use Rattle.world_model.specs.Serving.{Front, front_at, is_item_of, is_served_by, serves, follow_serve, is_last, is_blocked, is_commit, commits_after, after_front, handled, reply_of, after_served, server_after, pool_after}
+use Rattle.world_model.specs.Basic.{living_now, sessions_differ, are_made}
 use Rattle.world_model.specs.Traced.{Traced}
 use Rattle.world_model.specs.Walking.{follow}
 use Rattle.world_model.specs.ServiceDid.{front_served}
 use Rattle.world_model.specs.Coupled.{living_of, HasStored, entries_in, SameServer, Coupled}
+use Rattle.world_model.specs.KeptLaws.{OrderlyIsKept}
 use Rattle.world_model.specs.OneEvent.{OneEvent}
 use Rattle.world_core.specs.declared.traffic.Traffic.{Traffic}
 use Rattle.world_core.specs.Answering.{served_item}
-use Rattle.world_core.specs.InOrder.{IsAnswered, ServedWith, ServesInOrder, commits_in}
+use Rattle.world_core.specs.InOrder.{IsAnswered, ServedWith, commits_in}
 use Rattle.world_core.specs.Underway.{IsUnderway, answered_link}
-use Rattle.world_core.specs.Making.{IsReady, IsAt}
-use Rattle.world_core.proofs.Coupling.{View, view, living_in, living_view, begun}
+use Rattle.world_core.specs.Making.{IsReady, IsAt, Made}
+use Rattle.world_core.proofs.Coupling.{View, view, living_in, living_view, begun, made}
+use Rattle.world_core.proofs.Fronts.{front_there}
+use Rattle.world_core.proofs.Ordered.{ServesInOrder}
 use Rattle.world_core.proofs.Opening.{any_server}
 use Rattle.world_core.proofs.Stops.{stops_behind}
-use Rattle.world_core.proofs.Storing.{others_counted, came_of, living_is_now}
+use Rattle.world_core.proofs.Storing.{others_counted, came_of, next_apart, living_is_now, sessions_apart}
 use Rattle.world_core.proofs.Reaping.{link_same, link_other}
 use Rattle.world_core.proofs.Written.{names_same, reads, Which, ServedBy, served_by, stays_up}
 
@@ -55,27 +57,6 @@ with_twice links (suc index) a b = set_twice links index a b
 pub ends_there : (links : List Link) (number event : ℕ) (old after : Link) → link_at links number ≡ Some old → changed (ends event) (with_link links number after) number ≡ with_link links number (ends event after)
 ends_there links number event old after there =
     ap (λ found. option_map_or (λ link. with_link (with_link links number after) number (ends event link)) found (with_link links number after)) (link_same links number old after there) ∙ with_twice links number after (ends event after)
-
--- THE FRONT ---------------------------------------------------------------------------------------
-
-first_link : (link : Link) (up : List Sent) (front : Front) → first_of link up ≡ Some front → front.link ≡ link
-first_link link [] front e = absurd (let nothing : ⊥ = cc in nothing)
-first_link link (first ∷ later) front e = ap (λ (f : Option Front). link_or f) (sym e)
-  where
-    link_or : Option Front → Link
-    link_or None = link
-    link_or (Some f) = f.link
-
-front_link : (link : Link) (living : Bool) (front : Front) → (if living then first_of link link.up else None) ≡ Some front → (living ≡ true) × (front.link ≡ link)
-front_link link true front e = (refl, first_link link link.up front e)
-front_link link false front e = absurd (let nothing : ⊥ = cc in nothing)
-
-found_front : (found : Option Link) (front : Front) → option_and_then front_of found ≡ Some front → (found ≡ Some front.link) × (front.link.is_living ≡ true)
-found_front None front e = absurd (let nothing : ⊥ = cc in nothing)
-found_front (Some link) front e = let is = front_link link link.is_living front e in (ap (λ l. Some l) (sym is.1), ap (λ (l : Link). l.is_living) is.1 ∙ is.0)
-
-pub front_there : (links : List Link) (number : ℕ) (front : Front) → front_at links number ≡ Some front → (link_at links number ≡ Some front.link) × (front.link.is_living ≡ true)
-front_there links number front e = found_front (link_at links number) front e
 
 -- WHAT THE SERVICE KNOWS OF IT --------------------------------------------------------------------
 
@@ -175,10 +156,11 @@ has_there old new session (Some (Some other)) commits apart others has = others 
 pub some_link : (a b : Link) → ◌≡◌ {A = Option Link} (Some a) (Some b) → a ≡ b
 some_link a b e = cc
 
-stored_behind : (old new : Seen) (t : Traced) (number : ℕ) (front : Front) (served : Served) (reply : Option Down) (after : Link) → ((other : SessionId) → (other ≡ served.session → ⊥) → entries_in new.state.store.entries other ≡ entries_in old.state.store.entries other) → Coupled old t → IsAnswered old number served.session front.link.commits front.first.frame reply new
+stored_behind : (old new : Seen) (t : Traced) (number : ℕ) (front : Front) (served : Served) (reply : Option Down) (after : Link) → ((other : SessionId) → (other ≡ served.session → ⊥) → entries_in new.state.store.entries other ≡ entries_in old.state.store.entries other)
+    → ((other : ℕ) → (other ≡ number → ⊥) → old.state.living other ≡ Some (Some served.session) → ⊥) → Coupled old t → IsAnswered served.session front.link.commits front.first.frame reply new
     → is_commit served.item ≡ commits_in reply → link_at t.machine.links number ≡ Some front.link → view after ≡ view_behind front served
     → (other : ℕ) (link : Link) → link_at (with_link t.machine.links number after) other ≡ Some link → HasStored new.state.store.entries (living_of (Some link)) link.commits
-stored_behind old new t number front served reply after others coupled answered commits there looks other link found = by (eqb_tells other number)
+stored_behind old new t number front served reply after others aparts coupled answered commits there looks other link found = by (eqb_tells other number)
   where
     by : (((other == number) ≡ true) × (other ≡ number)) ⊎ (((other == number) ≡ false) × (other ≡ number → ⊥)) → HasStored new.state.store.entries (living_of (Some link)) link.commits
     by (inl (told, same)) =
@@ -187,7 +169,7 @@ stored_behind old new t number front served reply after others coupled answered 
         subst (λ v. HasStored new.state.store.entries (living_in (Some v)) v.commits) (sym looks ∙ ap view is) (has_here new served.session (is_last served.item) (commits_after front.link served.item) counted)
     by (inr (told, apart)) =
         let at = sym (link_other t.machine.links number other after apart) ∙ found in
-        has_there old new served.session (living_of (Some link)) link.commits (λ same. answered.apart other apart (coupled.living other ∙ ap living_of at ∙ same)) others (coupled.stored other link at)
+        has_there old new served.session (living_of (Some link)) link.commits (λ same. aparts other apart (coupled.living other ∙ ap living_of at ∙ same)) others (coupled.stored other link at)
 
 -- the state behind the frame
 abbrev traced_behind : Traced → Machine → Seen → Traced
@@ -196,8 +178,7 @@ traced_behind t m new = record t { machine = m; entries = new.state.store.entrie
 -- SERVED ------------------------------------------------------------------------------------------
 
 abbrev pub GoesTo : (Seen → Type 0) → Seen → Traced → ℕ → Up → Served → Traffic → Type 0
-GoesTo sees_later seen t number frame served after =
-    (seen_later : Seen) × ((later : Traced) × (OneEvent seen t (event.Serve number) (note.Serve number (Some (name_of frame))) (served ∷ []) [] seen_later later × IsAt sees_later after seen_later later))
+GoesTo sees_later seen t number frame served after = Made seen t sees_later after (event.Serve number) (note.Serve number (Some (name_of frame))) (served ∷ [])
 
 all_true : (a b c d : Bool) → a ≡ true → b ≡ true → c ≡ true → d ≡ true → (a && ((b && c) && d)) ≡ true
 all_true a b c d p q r s = rw (p, q, r, s) refl
@@ -213,6 +194,26 @@ session_from seen t number front session sessions coupled up now there (inl (nam
     let living : seen.state.living number ≡ Some front.link.session = coupled.living number ∙ ap living_of at.0 ∙ ap (λ b. if b then Some front.link.session else None) at.1 in
     same_least seen.state.store.incarnation session.incarnation (living_is_now t now number front.link session at.0 at.1 (some_known front.link.session (Some session) (sym living ∙ named)) ∙ (coupled.server.opened up).0)
 session_from seen t number front session sessions coupled up now there (inr (unnamed, next, count)) = same_least seen.state.store.incarnation session.incarnation (ap (λ (s : SessionId). s.incarnation) next)
+
+-- no other connection has it
+living_found : (found : Option Link) (session : SessionId) → living_of found ≡ Some (Some session) → (link : Link) × (found ≡ Some link)
+living_found None session living = absurd (let nothing : ⊥ = cc in nothing)
+living_found (Some link) session living = (link, refl)
+
+session_alone : AreExact → (seen : Seen) (t : Traced) (number : ℕ) (front : Front) (session : SessionId) (sessions : ℕ) → Coupled seen t → seen.state.is_up ≡ true → sessions_differ t ≡ true → are_made t ≡ true → front_at t.machine.links number ≡ Some front
+    → SessionOf seen number session sessions → (other : ℕ) → (other ≡ number → ⊥) → seen.state.living other ≡ Some (Some session) → ⊥
+session_alone exact seen t number front session sessions coupled up differ made there (inl (named, count)) other apart lives =
+    let at = front_there t.machine.links number front there in
+    let living : seen.state.living number ≡ Some front.link.session = coupled.living number ∙ ap living_of at.0 ∙ ap (λ b. if b then Some front.link.session else None) at.1 in
+    let has : living_of (link_at t.machine.links other) ≡ Some (Some session) = sym (coupled.living other) ∙ lives in
+    let one = living_found (link_at t.machine.links other) session has in
+    sessions_apart exact t differ number other front.link one.0 session at.0 one.1 (some_known front.link.session (Some session) (sym living ∙ named)) (ap living_of (sym one.1) ∙ has) (λ same. apart (sym same))
+session_alone exact seen t number front session sessions coupled up differ made there (inr (unnamed, next, count)) other apart lives =
+    let opened = coupled.server.opened up in
+    let same : session ≡ next_session t.machine.server = next ∙ ap (λ i. session_after i seen.state.sessions) (sym opened.0) ∙ ap (λ n. session_after t.machine.server.incarnation n) (sym opened.1.0) in
+    let has : living_of (link_at t.machine.links other) ≡ Some (Some session) = sym (coupled.living other) ∙ lives in
+    let one = living_found (link_at t.machine.links other) session has in
+    next_apart t made other one.0 one.1 (ap living_of (sym one.1) ∙ has ∙ ap (λ s. Some (Some s)) same)
 
 -- nothing was stopped
 pub answered_last : (session : SessionId) (now : ℕ) (frame : Up) (reply : Option Down) → stops_last (ServedFrame session now frame (telling_of reply) ∷ []) ≡ true
@@ -238,11 +239,12 @@ served_so exact seen new t number front reply coupled there ordered history did 
     let known = which t.machine.server seen front.link.session did.session number new.state.sessions coupled.server up living did.of_connection in
     served_by exact t.machine.server front.link front.link.commits did.session front.first.frame reply answered.answers new.state.sessions known ordered.is_first
 
-pub serves_front : (sees_later : Seen → Type 0) (seen new : Seen) (t : Traced) (number : ℕ) (front : Front) (reply : Option Down) (after : Traffic) → AreExact → Coupled seen t → front_at t.machine.links number ≡ Some front → ServesInOrder seen t number front
+pub serves_front : OrderlyIsKept → (sees sees_later : Seen → Type 0) (seen new : Seen) (t : Traced) (number : ℕ) (front : Front) (reply : Option Down) (before after : Traffic) → AreExact → IsAt sees before seen t → front_at t.machine.links number ≡ Some front → ServesInOrder seen t number front
     → IsHistory new → sees_later new → IsReady new.state → (did : ServedWith seen number t.machine.tick front.first.frame reply new)
     → IsUnderway after (record (begun t.machine) { links = with_link t.machine.links number (answered_link (t.machine.event + 1) front (item_now t.machine front did.session reply) reply); pool = pool_after t.machine.pool number (served_item front.first.frame reply) })
     → GoesTo sees_later seen t number front.first.frame (item_now t.machine front did.session reply) after
-serves_front sees_later seen new t number front reply after exact coupled there ordered history sees ready did underway =
+serves_front kept sees sees_later seen new t number front reply before after exact is there ordered history sees_new ready did underway =
+    let coupled = is.coupled in
     let m = begun t.machine in
     let session = did.session in
     let frame = front.first.frame in
@@ -250,6 +252,7 @@ serves_front sees_later seen new t number front reply after exact coupled there 
     let answered = ordered.answered reply new history did in
     let at = front_there t.machine.links number front there in
     let from_here = session_from seen t number front session new.state.sessions coupled (sym coupled.server.is_up ∙ ordered.is_up) ordered.now there did.of_connection in
+    let aparts = session_alone exact seen t number front session new.state.sessions coupled (sym coupled.server.is_up ∙ ordered.is_up) ordered.apart ordered.made there did.of_connection in
     let others = frame_others exact seen new number t.machine.tick frame reply did in
     let read = reads exact session number front.link.commits frame reply answered.answers in
     let by = served_so exact seen new t number front reply coupled there ordered history did in
@@ -268,41 +271,30 @@ serves_front sees_later seen new t number front reply after exact coupled there 
       stops = ap stops_last did.history ∙ stops_behind seen (ServedFrame session t.machine.tick frame (telling_of reply) ∷ []) coupled.sound coupled.history (sym coupled.server.is_up ∙ ordered.is_up) coupled.stops (answered_last session t.machine.tick frame reply) (from_here, tt);
       server = server_behind t.machine.server seen new number t.machine.tick frame reply served.item coupled.server ordered.is_up did (did.is_up ∙ read.is_up) by.sessions_are;
       living = living_behind seen new t.machine.links number front served link coupled.living (λ other. did.living other ∙ ap (λ (living : Connections). living other) (read.living seen.state.living)) at.0 looks;
-      stored = stored_behind seen new t number front served reply link others coupled answered read.commits_so at.0 looks;
+      stored = stored_behind seen new t number front served reply link others aparts coupled answered read.commits_so at.0 looks;
       entries = refl;
       blocked = refl;
       image = rw did.keeps.start coupled.image;
-    } in (
-      new,
-      (
-        later,
-        (
-          record {
-            follows = follows;
-            happened = ServedFrame session t.machine.tick frame (telling_of reply) ∷ [];
-            did = ap (λ (told : Telling). ServedFrame session t.machine.tick frame told ∷ []) (sym read.tells) ∙ ap (λ found. front_served t.machine.tick found (served ∷ [])) (sym there);
-            history = did.history;
-            start = did.keeps.start;
-            coupled_before = coupled;
-            coupled_after = coupled_later;
-            more_entries = did.adds.gains.more_entries;
-            entries = did.adds.gains.entries ∙ ap (λ e. e ++ did.adds.gains.more_entries) (sym coupled.entries);
-            own = did.adds.gains.own;
-            more_blocked = did.adds.gains.more_blocked;
-            blocked = did.adds.gains.blocked ∙ ap (λ e. e ++ did.adds.gains.more_blocked) (sym coupled.blocked);
-            asked = did.adds.gains.asked;
-            setting = refl;
-            image = refl;
-            outside = sym (append-nil t.outside);
-            outside_draws = sym (append-nil t.outside_draws);
-          },
-          record {
-            seen_so = sees;
-            ready = ready;
-            coupled = coupled_later;
-            underway = any_server after (record m { links = with_link t.machine.links number link; pool = pool_after t.machine.pool number served.item }) (server_after t.machine.server served.item)
-                (subst (λ (l : Link). IsUnderway after (record m { links = with_link t.machine.links number l; pool = pool_after t.machine.pool number served.item })) same_handled underway);
-          },
-        ),
-      ),
-    )
+    } in
+    let one : OneEvent seen t (event.Serve number) (note.Serve number (Some (name_of frame))) (served ∷ []) [] new later = record {
+      follows = follows;
+      happened = ServedFrame session t.machine.tick frame (telling_of reply) ∷ [];
+      did = ap (λ (told : Telling). ServedFrame session t.machine.tick frame told ∷ []) (sym read.tells) ∙ ap (λ found. front_served t.machine.tick found (served ∷ [])) (sym there);
+      history = did.history;
+      start = did.keeps.start;
+      coupled_before = coupled;
+      coupled_after = coupled_later;
+      more_entries = did.adds.gains.more_entries;
+      entries = did.adds.gains.entries ∙ ap (λ e. e ++ did.adds.gains.more_entries) (sym coupled.entries);
+      own = did.adds.gains.own;
+      more_blocked = did.adds.gains.more_blocked;
+      blocked = did.adds.gains.blocked ∙ ap (λ e. e ++ did.adds.gains.more_blocked) (sym coupled.blocked);
+      asked = did.adds.gains.asked;
+      setting = refl;
+      image = refl;
+      outside = sym (append-nil t.outside);
+      outside_draws = sym (append-nil t.outside_draws);
+    } in
+    made kept sees sees_later before after (event.Serve number) (note.Serve number (Some (name_of frame))) (served ∷ []) seen new t later is one sees_new ready
+    (any_server after (record m { links = with_link t.machine.links number link; pool = pool_after t.machine.pool number served.item }) (server_after t.machine.server served.item)
+    (subst (λ (l : Link). IsUnderway after (record m { links = with_link t.machine.links number l; pool = pool_after t.machine.pool number served.item })) same_handled underway))

@@ -8,34 +8,29 @@ use Rattle.outage_schedule.specs.declared.note.Note.TheVariants as note
 use Rattle.server_model.specs.Seen.{Store, Seen, IsHistory}
 use Rattle.server_model.specs.ServiceCalls.{is_failover, Crashed, SameLists, HasSoFar, Neither, Forgets, Both}
 use Rattle.service_calls.specs.Kept.{Goes}
+use Rattle.world_model.specs.Basic.{is_down}
 use Rattle.world_model.specs.Coupled.{living_of, SameServer, Coupled}
+use Rattle.world_model.specs.KeptLaws.{OrderlyIsKept}
+use Rattle.world_model.specs.OneEvent.{OneEvent}
 use Rattle.world_model.specs.Links.{Link, link_at}
 use Rattle.world_model.specs.Machines.{Server, Machine}
 use Rattle.world_model.specs.Traced.{Traced}
 use Rattle.world_model.specs.Walking.{follow}
 use Rattle.world_core.specs.declared.traffic.Traffic.{Traffic}
 use Rattle.world_core.specs.Underway.{IsUnderway}
-use Rattle.world_core.specs.Making.{MakesWhere}
-use Rattle.world_core.specs.Stopping.{BegunOpening, HasFallen}
-use Rattle.world_core.proofs.Coupling.{moved, begun, one_alone, stays_coupled, none_came, none_asked}
+use Rattle.world_core.specs.Making.{Makes}
+use Rattle.world_core.specs.Stopping.{BegunOpening}
+use Rattle.world_core.proofs.Coupling.{begun, one_alone, made, made_alone, none_came, none_asked}
 use Rattle.world_core.proofs.Opening.{any_server}
 use Rattle.world_core.proofs.Storing.{both, all_at}
 
 -- the server is up
-pub crashes_no_opening : (sees : Seen → Type 0) (before after : Traffic) (calls pick : ℕ) → ((seen : Seen) → sees seen → seen.state.is_up ≡ true) → ((m : Machine) → IsUnderway before m → IsUnderway after (begun m))
-    → MakesWhere HasFallen sees before sees after (event.UpCrash calls pick) (note.UpCrash false) []
-crashes_no_opening sees before after calls pick up goes seen t is fallen =
+pub crashes_no_opening : OrderlyIsKept → (sees : Seen → Type 0) (before after : Traffic) (calls pick : ℕ) → ((seen : Seen) → sees seen → seen.state.is_up ≡ true) → ((m : Machine) → IsUnderway before m → IsUnderway after (begun m))
+    → Makes sees before sees after (event.UpCrash calls pick) (note.UpCrash false) []
+crashes_no_opening kept sees before after calls pick up goes seen t is =
     let server_up : t.machine.server.is_up ≡ true = is.coupled.server.is_up ∙ up seen is.seen_so in
-    let follows : follow t.setting t.machine (event.UpCrash calls pick) (note.UpCrash false) [] ≡ Some (begun t.machine, []) = rw server_up refl in (
-      seen,
-      (
-        moved t (begun t.machine),
-        (
-          one_alone seen t (event.UpCrash calls pick) (note.UpCrash false) (begun t.machine) is.coupled follows refl refl refl refl refl,
-          record { seen_so = is.seen_so; ready = is.ready; coupled = stays_coupled seen t (begun t.machine) is.coupled refl refl; underway = goes t.machine is.underway },
-        ),
-      ),
-    )
+    let follows : follow t.setting t.machine (event.UpCrash calls pick) (note.UpCrash false) [] ≡ Some (begun t.machine, []) = rw server_up refl in
+    made_alone kept sees before after (event.UpCrash calls pick) (note.UpCrash false) seen t (begun t.machine) is (one_alone seen t (event.UpCrash calls pick) (note.UpCrash false) (begun t.machine) is.coupled follows refl refl refl refl refl) (goes t.machine is.underway)
 
 -- NO SESSION LIVES --------------------------------------------------------------------------------
 
@@ -122,7 +117,7 @@ server_behind server old new same down left fell =
       closed = λ is. (omega (arith, low, more), omega (arith, high, most));
     }
 
-stopped_coupled : (old new : Seen) (t : Traced) → Coupled old t → old.state.is_up ≡ false → HasFallen old t → IsHistory new → Left old new → new.state.is_up ≡ false → ((number : ℕ) → new.state.living number ≡ None) → Coupled new (traced_behind t new)
+stopped_coupled : (old new : Seen) (t : Traced) → Coupled old t → old.state.is_up ≡ false → is_down t ≡ true → IsHistory new → Left old new → new.state.is_up ≡ false → ((number : ℕ) → new.state.living number ≡ None) → Coupled new (traced_behind t new)
 stopped_coupled old new t coupled down fallen history left fell living =
     let none = are_down t.machine.server.is_up (list_all (λ link. not link.is_open && not link.is_living) t.machine.links) (coupled.server.is_up ∙ down) fallen in
     record {
@@ -137,55 +132,45 @@ stopped_coupled old new t coupled down fallen history left fell living =
       image = rw left.start coupled.image;
     }
 
-pub crashes_opening : (sees sees_between sees_later : Seen → Type 0) (leaves : Store → Type 0) (before after : Traffic) (horizon calls pick : ℕ) → is_failover pick ≡ false
+pub crashes_opening : OrderlyIsKept → (sees sees_between sees_later : Seen → Type 0) (leaves : Store → Type 0) (before after : Traffic) (horizon calls pick : ℕ) → is_failover pick ≡ false
     → ((seen : Seen) → sees seen → seen.state.is_up ≡ false)
     → ((seen : Seen) → sees_later seen → IsHistory seen)
     → ((seen : Seen) → sees_later seen → leaves seen.state.store)
     → Goes sees sees_between (λ old new. BegunOpening old horizon calls leaves new)
     → Goes sees_between sees_later (λ old new. Crashed old pick new)
     → ((m : Machine) → IsUnderway before m → IsUnderway after (begun m))
-    → MakesWhere HasFallen sees before sees_later after (event.UpCrash calls pick) (note.UpCrash true) []
-crashes_opening sees sees_between sees_later leaves before after horizon calls pick one down honest remains begins falls leads seen t is fallen =
+    → Makes sees before sees_later after (event.UpCrash calls pick) (note.UpCrash true) []
+crashes_opening kept sees sees_between sees_later leaves before after horizon calls pick one down honest remains begins falls leads seen t is =
     let begun_so = begins seen is.seen_so in
     let between = begun_so.0 in
     let fell = falls between begun_so.1.0 in
     let new = fell.0 in
     let crashed : Crashed between pick new = fell.1.1 in
-    let is_down = down seen is.seen_so in
-    let server_down : t.machine.server.is_up ≡ false = is.coupled.server.is_up ∙ is_down in
+    let closed = down seen is.seen_so in
+    let server_down : t.machine.server.is_up ≡ false = is.coupled.server.is_up ∙ closed in
     let left = left_by seen between new horizon calls pick leaves one begun_so.1.1 (remains new fell.1.0) crashed in
     let m = stopped_machine t.machine in
     let follows : follow t.setting t.machine (event.UpCrash calls pick) (note.UpCrash true) [] ≡ Some (m, []) = rw server_down refl in
-    let coupled : Coupled new (traced_behind t new) = stopped_coupled seen new t is.coupled is_down fallen (honest new fell.1.0) left crashed.down.0 crashed.living in (
-      new,
-      (
-        traced_behind t new,
-        (
-          record {
-            follows = follows;
-            happened = [];
-            did = refl;
-            history = left.history ∙ sym (append-nil seen.history);
-            start = left.start;
-            coupled_before = is.coupled;
-            coupled_after = coupled;
-            more_entries = [];
-            entries = left.lists.entries ∙ sym is.coupled.entries ∙ sym (append-nil t.entries);
-            own = none_came [];
-            more_blocked = [];
-            blocked = left.lists.blocked ∙ sym is.coupled.blocked ∙ sym (append-nil t.blocked);
-            asked = none_asked [];
-            setting = refl;
-            image = refl;
-            outside = sym (append-nil t.outside);
-            outside_draws = sym (append-nil t.outside_draws);
-          },
-          record {
-            seen_so = fell.1.0;
-            ready = record { live = crashed.is_spent; quiet = left.quiet ∙ is.ready.quiet; unstopped = crashed.stop.0; settled = λ is. crashed.down.1 };
-            coupled = coupled;
-            underway = any_server after (begun t.machine) (stopped_server t.machine.server) (leads t.machine is.underway);
-          },
-        ),
-      ),
-    )
+    let coupled : Coupled new (traced_behind t new) = stopped_coupled seen new t is.coupled closed is.orderly.basic.down (honest new fell.1.0) left crashed.down.0 crashed.living in
+    let event_made : OneEvent seen t (event.UpCrash calls pick) (note.UpCrash true) [] [] new (traced_behind t new) = record {
+      follows = follows;
+      happened = [];
+      did = refl;
+      history = left.history ∙ sym (append-nil seen.history);
+      start = left.start;
+      coupled_before = is.coupled;
+      coupled_after = coupled;
+      more_entries = [];
+      entries = left.lists.entries ∙ sym is.coupled.entries ∙ sym (append-nil t.entries);
+      own = none_came [];
+      more_blocked = [];
+      blocked = left.lists.blocked ∙ sym is.coupled.blocked ∙ sym (append-nil t.blocked);
+      asked = none_asked [];
+      setting = refl;
+      image = refl;
+      outside = sym (append-nil t.outside);
+      outside_draws = sym (append-nil t.outside_draws);
+    } in
+    made kept sees sees_later before after (event.UpCrash calls pick) (note.UpCrash true) [] seen new t (traced_behind t new) is event_made fell.1.0
+    (record { live = crashed.is_spent; quiet = left.quiet ∙ is.ready.quiet; unstopped = crashed.stop.0; settled = λ falls. crashed.down.1 })
+    (any_server after (begun t.machine) (stopped_server t.machine.server) (leads t.machine is.underway))

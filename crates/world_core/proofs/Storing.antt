@@ -1,7 +1,7 @@
 -- Entries that come from what one session did, and sessions that are apart.
 use Rattle.std.proofs.Common.{◌≡◌, ℕ, zero, suc, ◌+◌, ◌==◌, Bool, true, false, List, [], ◌∷◌, ◌++◌, Option, Some, None, refl, sym, ap, ◌∙◌, arith}
-use Rattle.std.specs.Prelude.{◌&&◌, ◌||◌, All, cond, filter_map, nat_lt, nat_le, slice_get, if◌then◌else◌}
-use Rattle.std.specs.List.{list_all, cons_option}
+use Rattle.std.specs.Prelude.{not, ◌&&◌, ◌||◌, All, cond, filter_map, nat_lt, nat_le, slice_get, if◌then◌else◌}
+use Rattle.std.specs.List.{list_all, list_any, cons_option}
 use Rattle.std.specs.Option.{option_map_or}
 use Rattle.std.proofs.lemmas.Bool.{lt-leb, eqb-true}
 use Rattle.std.proofs.lemmas.List.Sums.{sum_by-cons, sum_by-append}
@@ -16,11 +16,12 @@ use Rattle.server_model.specs.Laws.{CommitsAs}
 use Rattle.server_model.specs.Outcomes.{Silent, Says, Stopped}
 use Rattle.server_model.specs.Runs.{Happened, Served, Asked}
 use Rattle.server_model.specs.ServiceCalls.{CameFrom, IsOf}
-use Rattle.world_model.specs.Basic.{sessions_of, is_made, are_made, living_now}
+use Rattle.world_model.specs.Basic.{sessions_of, is_made, are_made, living_now, sessions_differ as sessions_differ_in}
 use Rattle.world_model.specs.Coupled.{entries_in, living_of}
 use Rattle.world_model.specs.Links.{Link, link_at}
 use Rattle.world_model.specs.Machines.{next_session}
 use Rattle.world_model.specs.Parts.{implies}
+use Rattle.world_model.specs.Sames.{all_with, each_pair}
 use Rattle.world_model.specs.Traced.{Traced}
 
 -- COUNTED -----------------------------------------------------------------------------------------
@@ -148,7 +149,7 @@ all_at test [] index link all there = absurd (let nothing : ⊥ = cc in nothing)
 all_at test (one ∷ links) zero link all there = ap test (sym (same_link one link there)) ∙ (both (test one) (list_all test links) all).0
 all_at test (one ∷ links) (suc index) link all there = all_at test links index link (both (test one) (list_all test links) all).1 there
 
-all_there : (test : Link → Bool) (links : List Link) (number : ℕ) (link : Link) → list_all test links ≡ true → link_at links number ≡ Some link → test link ≡ true
+pub all_there : (test : Link → Bool) (links : List Link) (number : ℕ) (link : Link) → list_all test links ≡ true → link_at links number ≡ Some link → test link ≡ true
 all_there test links zero link all there = absurd (let nothing : ⊥ = cc in nothing)
 all_there test links (suc index) link all there = all_at test links index link all there
 
@@ -164,3 +165,44 @@ now_by incarnation true (Some one) session lives is now = ap (λ (s : SessionId)
 pub living_is_now : (t : Traced) → living_now t ≡ true → (number : ℕ) (link : Link) (session : SessionId) → link_at t.machine.links number ≡ Some link → link.is_living ≡ true → link.session ≡ Some session → session.incarnation ≡ t.machine.server.incarnation
 living_is_now t now number link session there lives is =
     now_by t.machine.server.incarnation link.is_living link.session session lives is (all_there (is_now t.machine.server.incarnation) t.machine.links number link now there)
+
+-- NO TWO ARE ONE ----------------------------------------------------------------------------------
+
+abbrev are_two : SessionId → SessionId → Bool
+are_two a b = not (same_session a b)
+
+all_later : (test : SessionId → Bool) (later : List SessionId) → all_with test later ≡ true → list_all test later ≡ true
+all_later test [] all = refl
+all_later test (one ∷ later) all = let parts = both (test one) (all_with test later) all in rw (parts.0, all_later test later parts.1) refl
+
+pair_first : (known : Option SessionId) (later : List SessionId) (session : SessionId) → each_pair are_two (cons_option known later) ≡ true → known ≡ Some session → list_all (are_two session) later ≡ true
+pair_first None later session pairs is = absurd (let nothing : ⊥ = cc in nothing)
+pair_first (Some one) later session pairs is = ap (λ s. list_all (are_two s) later) (sym (some_named one session is)) ∙ all_later (are_two one) later (both (all_with (are_two one) later) (each_pair are_two later) pairs).0
+
+pair_rest : (known : Option SessionId) (later : List SessionId) → each_pair are_two (cons_option known later) ≡ true → each_pair are_two later ≡ true
+pair_rest None later pairs = pairs
+pair_rest (Some one) later pairs = (both (all_with (are_two one) later) (each_pair are_two later) pairs).1
+
+not_itself : AreExact → (session : SessionId) → are_two session session ≡ true → ⊥
+not_itself exact session told = let clash : true ≡ false = sym told ∙ ap not ((exact.sessions session session).1 refl) in cc
+
+two_at : AreExact → (links : List Link) (a b : ℕ) (one other : Link) (session : SessionId) → each_pair are_two (named links) ≡ true → slice_get links a ≡ Some one → slice_get links b ≡ Some other → one.session ≡ Some session → other.session ≡ Some session → (a ≡ b → ⊥) → ⊥
+two_at exact [] a b one other session pairs first second is also apart = let nothing : ⊥ = cc in nothing
+two_at exact (link ∷ links) zero zero one other session pairs first second is also apart = apart refl
+two_at exact (link ∷ links) zero (suc b) one other session pairs first second is also apart =
+    not_itself exact session (passes_at (are_two session) links b other session (pair_first link.session (named links) session pairs (ap (λ (l : Link). l.session) (same_link link one first) ∙ is)) second also)
+two_at exact (link ∷ links) (suc a) zero one other session pairs first second is also apart =
+    not_itself exact session (passes_at (are_two session) links a one session (pair_first link.session (named links) session pairs (ap (λ (l : Link). l.session) (same_link link other second) ∙ also)) first is)
+two_at exact (link ∷ links) (suc a) (suc b) one other session pairs first second is also apart =
+    two_at exact links a b one other session (pair_rest link.session (named links) pairs) first second is also (λ same. apart (ap suc same))
+
+two_there : AreExact → (links : List Link) (a b : ℕ) (one other : Link) (session : SessionId) → each_pair are_two (named links) ≡ true → link_at links a ≡ Some one → link_at links b ≡ Some other → one.session ≡ Some session → other.session ≡ Some session → (a ≡ b → ⊥) → ⊥
+two_there exact links zero b one other session pairs first second is also apart = let nothing : ⊥ = cc in nothing
+two_there exact links (suc a) zero one other session pairs first second is also apart = let nothing : ⊥ = cc in nothing
+two_there exact links (suc a) (suc b) one other session pairs first second is also apart = two_at exact links a b one other session pairs first second is also (λ same. apart (ap suc same))
+
+-- no two connections have one session
+pub sessions_apart : AreExact → (t : Traced) → sessions_differ_in t ≡ true → (a b : ℕ) (one other : Link) (session : SessionId) → link_at t.machine.links a ≡ Some one → link_at t.machine.links b ≡ Some other → one.session ≡ Some session
+    → living_of (Some other) ≡ Some (Some session) → (a ≡ b → ⊥) → ⊥
+sessions_apart exact t differ a b one other session first second is living apart =
+    two_there exact t.machine.links a b one other session (both (each_pair are_two (sessions_of t)) (list_all (λ s. not (list_any (same_session s) t.outside)) (sessions_of t)) differ).0 first second is (living_session other other.is_living session living) apart

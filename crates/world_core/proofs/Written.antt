@@ -20,13 +20,14 @@ use Rattle.outage_schedule.specs.declared.note.AskResult.TheVariants as told
 use Rattle.server_model.specs.Outcomes.{telling_of}
 use Rattle.server_model.specs.Seen.{Connections, with_connection, without_connection}
 use Rattle.server_model.specs.ServiceCalls.{living_after, is_up_after}
+use Rattle.world_model.specs.Hold.{is_connect}
 use Rattle.world_model.specs.Links.{Link}
 use Rattle.world_model.specs.Machines.{Server, next_session}
 use Rattle.world_model.specs.Noting.{name_of, same_name}
 use Rattle.world_model.specs.ServiceDid.{item_telling}
 use Rattle.world_model.specs.Serving.{is_item_of, is_served_by, reply_of, is_commit, is_last, server_after}
 use Rattle.world_core.specs.Answering.{session_served, served_item}
-use Rattle.world_core.specs.InOrder.{Answers, Connects, Begins, Replies, Blocks, Tells, Ends, Closes, is_connect, commits_in}
+use Rattle.world_core.specs.InOrder.{Answers, Connects, Begins, Replies, Blocks, Tells, Ends, Closes, commits_in}
 
 -- THE ITEM ----------------------------------------------------------------------------------------
 

@@ -1,5 +1,5 @@
 -- A frame that is served in order, as the plain server serves it.
-use Rattle.std.specs.Prelude.{◌≡◌, ◌+◌, ℕ, Bool, true, false, cond, IsTrue, List, Option, Some, None, IfSome, is_none}
+use Rattle.std.specs.Prelude.{◌≡◌, ◌+◌, ℕ, Bool, false, cond, List, Option, Some, None, IfSome}
 use Rattle.svc_values.specs.declared.answer.Answer.{Answer}
 use Rattle.svc_values.specs.declared.call.Call.{Call}
 use Rattle.svc_values.specs.declared.draw.Draw.{Draw}
@@ -18,7 +18,6 @@ use Rattle.server_model.specs.Seen.{Store, Seen, IsHistory}
 use Rattle.server_model.specs.ServiceCalls.{ServedOne}
 use Rattle.world_model.specs.Serving.{Front, front_at, identifier, outcome_frame}
 use Rattle.world_model.specs.Traced.{Traced}
-use Rattle.world_model.specs.Basic.{living_now}
 use Rattle.world_model.specs.Coupled.{entries_in}
 
 -- What a session that has answered so many commits answers to a frame: an identifier that comes with it has the number of them
@@ -33,10 +32,6 @@ pub data Answers (session : SessionId) (commits : ℕ) : Up → Option Down → 
   Ends : Answers session commits up.End None
   Closes : Answers session commits up.Close None
 
-abbrev pub is_connect : Up → Bool
-is_connect up.Connect = true
-is_connect _ = false
-
 -- the answer ends with Committed
 abbrev pub commits_in : Option Down → Bool
 commits_in (Some (down.Reply answers draws x)) = ends_committed answers
@@ -49,23 +44,18 @@ no_store store = ⊥
 abbrev pub ServedWith : Seen → ℕ → ℕ → Up → Option Down → Seen → Type 0
 ServedWith old number now frame reply new = ServedOne old number now frame (telling_of reply) no_store new
 
--- A frame on the connection of this number was answered as the plain server answers one in order. Behind it the store has as many
--- entries of the session as it has answered commits, this one included.
-pub record IsAnswered (old : Seen) (number : ℕ) (session : SessionId) (commits : ℕ) (frame : Up) (reply : Option Down) (new : Seen) : Type 0 where
+-- A frame was answered as the plain server answers one in order. Behind it the store has as many entries of the session as it has
+-- answered commits, this one included.
+pub record IsAnswered (session : SessionId) (commits : ℕ) (frame : Up) (reply : Option Down) (new : Seen) : Type 0 where
   pub answers : Answers session commits frame reply
   pub made : IfSome reply IsMadeDown
   pub counted : entries_in new.state.store.entries session ≡ commits + cond (commits_in reply) 1 0
-  -- no other connection has the session
-  pub apart : (other : ℕ) → (other ≡ number → ⊥) → old.state.living other ≡ Some (Some session) → ⊥
 
--- Where a frame may be served on the connection of this number, the server is up, the sessions that live are of its incarnation, the
--- frame is Connect exactly where its session has no name yet, and it is answered in order.
-pub record ServesInOrder (seen : Seen) (t : Traced) (number : ℕ) (front : Front) : Type 0 where
-  pub is_up : t.machine.server.is_up ≡ true
-  pub now : IsTrue (living_now t)
-  pub is_first : is_none front.link.session ≡ is_connect front.first.frame
-  pub answered : (reply : Option Down) (new : Seen) → IsHistory new → (served : ServedWith seen number t.machine.tick front.first.frame reply new)
-      → IsAnswered seen number served.session front.link.commits front.first.frame reply new
+-- whatever the frame in front is answered, it is in order
+abbrev pub AnswersInOrder : Seen → Traced → ℕ → Front → Type 0
+AnswersInOrder seen t number front =
+    (reply : Option Down) (new : Seen) → IsHistory new → (served : ServedWith seen number t.machine.tick front.first.frame reply new) → IsAnswered served.session front.link.commits front.first.frame reply new
 
+-- where a frame may be served on the connection of this number, it is answered so
 abbrev pub InOrder : Seen → Traced → ℕ → Type 0
-InOrder seen t number = (front : Front) → front_at t.machine.links number ≡ Some front → ServesInOrder seen t number front
+InOrder seen t number = (front : Front) → front_at t.machine.links number ≡ Some front → AnswersInOrder seen t number front

@@ -1,12 +1,12 @@
 -- An event of a run without its clients: machine and service go on together.
-use Rattle.std.specs.Prelude.{◌≡◌, ◌-◌, ◌^◌, ℕ, true, false, IsTrue, List, [], None}
+use Rattle.std.specs.Prelude.{◌≡◌, ℕ, true, false, List, [], None}
 use Rattle.outage_schedule.specs.declared.event.Event.{Event}
 use Rattle.outage_schedule.specs.declared.note.Note.{Note}
 use Rattle.outage_schedule.specs.declared.item.Served.{Served}
 use Rattle.server_model.specs.Seen.{ServiceState, Seen}
-use Rattle.world_model.specs.Basic.{are_made}
 use Rattle.world_model.specs.Traced.{Traced}
 use Rattle.world_model.specs.Coupled.{Coupled}
+use Rattle.world_model.specs.Invariant.{Orderly}
 use Rattle.world_model.specs.OneEvent.{OneEvent}
 use Rattle.world_core.specs.declared.traffic.Traffic.{Traffic}
 use Rattle.world_core.specs.Underway.{IsUnderway}
@@ -19,35 +19,34 @@ pub record IsReady (state : ServiceState) : Type 0 where
   pub unstopped : state.stop ≡ None
   pub settled : state.is_up ≡ false → state.is_settled ≡ true
 
--- The service may be seen so, it is ready, and this is underway as the machine is.
+-- The service may be seen so, it is ready, this is underway as the machine is, and the machine stands orderly.
 pub record IsAt (sees : Seen → Type 0) (traffic : Traffic) (seen : Seen) (t : Traced) : Type 0 where
   pub seen_so : sees seen
   pub ready : IsReady seen.state
   pub coupled : Coupled seen t
   pub underway : IsUnderway traffic t.machine
+  pub orderly : Orderly t
 
--- whatever was seen and wherever the machine stood, the event was made with this note and these items
+-- the service and the traffic stand somewhere
+abbrev pub IsSomewhere : (Seen → Type 0) → Traffic → Type 0
+IsSomewhere sees traffic = (seen : Seen) × ((t : Traced) × IsAt sees traffic seen t)
+
+-- the event was made with this note and these items, and machine and service stand behind it
+abbrev pub Made : Seen → Traced → (Seen → Type 0) → Traffic → Event → Note → List Served → Type 0
+Made seen t sees_later after event note items = (seen_later : Seen) × ((later : Traced) × (OneEvent seen t event note items [] seen_later later × IsAt sees_later after seen_later later))
+
+-- whatever was seen and wherever the machine stood, the event was made
 abbrev pub Makes : (Seen → Type 0) → Traffic → (Seen → Type 0) → Traffic → Event → Note → List Served → Type 0
-Makes sees before sees_later after event note items =
-    (seen : Seen) (t : Traced) → IsAt sees before seen t → (seen_later : Seen) × ((later : Traced) × (OneEvent seen t event note items [] seen_later later × IsAt sees_later after seen_later later))
+Makes sees before sees_later after event note items = (seen : Seen) (t : Traced) → IsAt sees before seen t → Made seen t sees_later after event note items
 
 -- the same, where this held
 abbrev pub MakesWhere : (Seen → Traced → Type 0) → (Seen → Type 0) → Traffic → (Seen → Type 0) → Traffic → Event → Note → List Served → Type 0
-MakesWhere Holds sees before sees_later after event note items =
-    (seen : Seen) (t : Traced) → IsAt sees before seen t → Holds seen t → (seen_later : Seen) × ((later : Traced) × (OneEvent seen t event note items [] seen_later later × IsAt sees_later after seen_later later))
+MakesWhere Holds sees before sees_later after event note items = (seen : Seen) (t : Traced) → IsAt sees before seen t → Holds seen t → Made seen t sees_later after event note items
 
--- the sessions so far are of this server, each below the next one
-abbrev pub HasMade : Seen → Traced → Type 0
-HasMade seen t = IsTrue (are_made t)
-
--- a frame is served in order
+-- a frame is answered in order
 abbrev pub MakesInOrder : (Seen → Type 0) → Traffic → (Seen → Type 0) → Traffic → ℕ → Event → Note → List Served → Type 0
 MakesInOrder sees before sees_later after number event note items = MakesWhere (λ seen t. InOrder seen t number) sees before sees_later after event note items
 
--- where the service and the traffic may stand, a frame is served in order
+-- where the service and the traffic may stand, a frame is answered in order
 abbrev pub IsInOrder : (Seen → Type 0) → Traffic → ℕ → Type 0
 IsInOrder sees traffic number = (seen : Seen) × ((t : Traced) × (IsAt sees traffic seen t × InOrder seen t number))
-
--- a call was stopped, and yet under no stop: its faults were counted to the end
-abbrev pub OutOfFaults : (Seen → Type 0) → Traffic → (Seen → Type 0) → Type 0
-OutOfFaults sees traffic sees_later = (seen : Seen) (t : Traced) → IsAt sees traffic seen t → (seen_later : Seen) × (sees_later seen_later × (seen_later.state.faults ≡ 2 ^ 64 - 1))

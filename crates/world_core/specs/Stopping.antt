@@ -1,11 +1,10 @@
 -- Events under a stop, each with a crash behind it.
-use Rattle.std.specs.Prelude.{◌≡◌, ◌≢◌, ◌⊎◌, ◌+◌, ◌-◌, ◌^◌, ◌<◌, ◌≤◌, ℕ, true, false, IsTrue, List, [], ◌++◌, Option, Some}
+use Rattle.std.specs.Prelude.{◌≡◌, ◌≢◌, ◌⊎◌, ◌+◌, ◌≤◌, ℕ, true, false, List, [], ◌++◌, Option, Some}
 use Rattle.svc_values.specs.declared.frame.Down.{Down}
 use Rattle.outage_schedule.specs.declared.item.Served.{Served}
 use Rattle.server_model.specs.Laws.{stops_last}
 use Rattle.server_model.specs.Seen.{Store, Seen}
 use Rattle.server_model.specs.ServiceCalls.{with_stop, Gains, Opened, StoppedOpening}
-use Rattle.world_model.specs.Basic.{is_down}
 use Rattle.world_model.specs.Crashing.{has_stored, serves_last}
 use Rattle.world_model.specs.Machines.{Machine}
 use Rattle.world_model.specs.ServiceDid.{front_served}
@@ -13,7 +12,7 @@ use Rattle.world_model.specs.Serving.{Front, front_at}
 use Rattle.world_model.specs.Traced.{Traced}
 use Rattle.world_core.specs.declared.traffic.Traffic.{Traffic}
 use Rattle.world_core.specs.Answering.{served_item}
-use Rattle.world_core.specs.InOrder.{ServedWith, ServesInOrder}
+use Rattle.world_core.specs.InOrder.{ServedWith, AnswersInOrder}
 use Rattle.world_core.specs.Underway.{IsUnderway}
 use Rattle.world_core.specs.Making.{IsReady, IsAt}
 
@@ -21,23 +20,13 @@ use Rattle.world_core.specs.Making.{IsReady, IsAt}
 abbrev pub BegunOpening : Seen → ℕ → ℕ → (Store → Type 0) → Seen → Type 0
 BegunOpening old below after leaves new = Opened (with_stop old (Some after)) below new ⊎ StoppedOpening (with_stop old (Some after)) below leaves new
 
--- while the server is down no session lives
-abbrev pub HasFallen : Seen → Traced → Type 0
-HasFallen seen t = IsTrue (is_down t)
-
 -- the service may be seen, and is ready
 abbrev pub IsSeen : (Seen → Type 0) → Type 0
 IsSeen sees = (seen : Seen) × (sees seen × IsReady seen.state)
 
--- the service and the traffic stand somewhere
-abbrev pub IsSomewhere : (Seen → Type 0) → Traffic → Type 0
-IsSomewhere sees traffic = (seen : Seen) × ((t : Traced) × IsAt sees traffic seen t)
-
--- A frame is served under a stop of so many device calls: in order, and what adds to the store adds a record. Faults are not yet counted
--- to the end.
+-- A frame is served under a stop of so many device calls: it is answered in order, and what adds to the store adds a record.
 pub record StopsInOrder (seen : Seen) (t : Traced) (number after : ℕ) (front : Front) : Type 0 where
-  pub faults : seen.state.faults < 2 ^ 64 - 1
-  pub ordered : ServesInOrder (with_stop seen (Some after)) t number front
+  pub answered : AnswersInOrder (with_stop seen (Some after)) t number front
   pub recorded : (reply : Option Down) (new : Seen) → ServedWith (with_stop seen (Some after)) number t.machine.tick front.first.frame reply new
       → has_stored t.machine.server (served_item front.first.frame reply) ≡ true → new.state.store.records ≢ seen.state.store.records
 

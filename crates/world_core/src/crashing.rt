@@ -10,6 +10,7 @@ use service_calls::{ServeFault, Service};
 use std::alloc::Global;
 use svc_values::NoMemory;
 use svc_values::laws::compares_exactly;
+use world_model::laws::orderly_is_kept;
 
 impl<S: Service + Drop> Ground<S> {
     /// Serves the frame that stands first on a connection, if one may be served there, under a stop
@@ -28,6 +29,7 @@ impl<S: Service + Drop> Ground<S> {
         requires may { MayCrash (S.state self.old.service) pick }
         ensures { IfOk result (λ made. MakesWhere (InOrderUnder connection after) (S.sees self.old.service) self.old.traffic (S.sees self.new.service) self.new.traffic (Event.Crash connection after pick) made.0 (option_to_list made.1)) }
     {
+        orderly_is_kept();
         if !self.service.is_up() {
             self.traffic.begin();
             let note = Note::Crash {

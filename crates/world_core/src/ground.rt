@@ -1,8 +1,8 @@
 //! The service of a run, and the traffic to it.
-ghost use Rattle.std.specs.Prelude.{◌≡◌, ◌<◌, ◌^◌, false, true, [], Err, IfOk, option_to_list};
+ghost use Rattle.std.specs.Prelude.{◌≡◌, ◌<◌, ◌^◌, false, true, [], IfOk, option_to_list};
 ghost use Rattle.server_model.specs.ServiceCalls.{MayForget};
 ghost use Rattle.world_core.specs.Underway.{AreClosable};
-ghost use Rattle.world_core.specs.Making.{Makes, MakesInOrder, IsInOrder, OutOfFaults};
+ghost use Rattle.world_core.specs.Making.{Makes, MakesInOrder, IsInOrder, IsSomewhere};
 
 use crate::answering::frame_name;
 use crate::traffic::Traffic;
@@ -11,11 +11,13 @@ use service_calls::{ServeFault, Service};
 use std::alloc::Global;
 use svc_values::NoMemory;
 use svc_values::laws::compares_exactly;
+use world_model::laws::orderly_is_kept;
 
 /// The service of a run, and the traffic to it: what an event finds beside the clients.
 ///
-/// Each event gives its note. Whatever was seen of the service, and wherever the machine stood, they
-/// go on together by that event and note (`OneEvent`).
+/// Each event gives its note. Whatever was seen of the service, and wherever the machine stood
+/// orderly, they go on together by that event and note (`OneEvent`), and the machine stands orderly
+/// behind it. A service that is ready stays so, and is stopped in none of these.
 #[derive(Drop)]
 pub struct Ground<S: Service + Drop> {
     pub(crate) service: S,
@@ -37,27 +39,27 @@ impl<S: Service + Drop> Ground<S> {
         requires ticks { self.old.traffic.tick < 2 ^ 48 }
         ensures { Makes (S.sees self.old.service) self.old.traffic (S.sees self.new.service) self.new.traffic Event.Tick result [] }
     {
+        orderly_is_kept();
         self.traffic.begin();
         self.traffic.pass();
         Note::Tick
     }
 
     /// Serves the frame that stands first on a connection, if one may be served there, and gives its
-    /// item. A service that is quiet and under no stop is stopped only once it has counted 2^64 - 1
-    /// faults.
+    /// item.
     pub fn serve(
         &mut self,
         alloc: Global,
         connection: u64,
-    ) -> Result<(Note, Option<Served>), ServeFault>
+    ) -> Result<(Note, Option<Served>), NoMemory>
         requires events { self.old.traffic.event < 2 ^ 48 }
         requires live { (S.state self.old.service).is_spent ≡ false }
         requires few { (S.state self.old.service).calls < 2 ^ 48 }
         requires in_order { IsInOrder (S.sees self.old.service) self.old.traffic connection }
-        ensures made { IfOk result (λ made. MakesInOrder (S.sees self.old.service) self.old.traffic (S.sees self.new.service) self.new.traffic connection (Event.Serve connection) made.0 (option_to_list made.1)) }
-        ensures stopped { result ≡ Err ServeFault.Stopped → OutOfFaults (S.sees self.old.service) self.old.traffic (S.sees self.new.service) }
+        ensures { IfOk result (λ made. MakesInOrder (S.sees self.old.service) self.old.traffic (S.sees self.new.service) self.new.traffic connection (Event.Serve connection) made.0 (option_to_list made.1)) }
     {
         compares_exactly();
+        orderly_is_kept();
         self.traffic.begin();
         let first = self.traffic.first_up(connection)?;
         let Some(frame) = first else {
@@ -73,8 +75,8 @@ impl<S: Service + Drop> Ground<S> {
             .serve(alloc, connection, &frame, self.traffic.tick)
         {
             Ok(reply) => reply,
-            Err(ServeFault::NoMemory) => return Err(ServeFault::NoMemory),
-            Err(ServeFault::Stopped) => return Err(ServeFault::Stopped),
+            Err(ServeFault::NoMemory) => return Err(NoMemory),
+            Err(ServeFault::Stopped) => unreachable!(),
         };
         let served = self.traffic.answer(alloc, connection, frame, &reply)?;
         let note = Note::Serve {
@@ -90,6 +92,7 @@ impl<S: Service + Drop> Ground<S> {
         requires { self.old.traffic.event < 2 ^ 48 }
         ensures { Makes (S.sees self.old.service) self.old.traffic (S.sees self.new.service) self.new.traffic (Event.Cut connection up down) result [] }
     {
+        orderly_is_kept();
         self.traffic.begin();
         Note::Cut {
             connection,
@@ -104,6 +107,7 @@ impl<S: Service + Drop> Ground<S> {
         requires few { (S.state self.old.service).calls < 2 ^ 48 }
         ensures { Makes (S.sees self.old.service) self.old.traffic (S.sees self.new.service) self.new.traffic (Event.Reap connection) result [] }
     {
+        orderly_is_kept();
         self.traffic.begin();
         if !self.traffic.reap(connection) {
             return Note::Reap {
@@ -119,25 +123,25 @@ impl<S: Service + Drop> Ground<S> {
     }
 
     /// Opens the store, where the server is down, and forgets the outcomes of all incarnations below
-    /// the horizon. The cost is linear in the store. A service that is quiet and under no stop is
-    /// stopped only once it has counted 2^64 - 1 faults.
-    pub fn up(&mut self, alloc: Global, horizon: u64) -> Result<Note, ServeFault>
+    /// the horizon. The cost is linear in the store.
+    pub fn up(&mut self, alloc: Global, horizon: u64) -> Result<Note, NoMemory>
         requires events { self.old.traffic.event < 2 ^ 48 }
         requires live { (S.state self.old.service).is_spent ≡ false }
         requires few { (S.state self.old.service).calls < 2 ^ 48 }
         requires settled { (S.state self.old.service).is_up ≡ false → (S.state self.old.service).is_settled ≡ true }
+        requires there { IsSomewhere (S.sees self.old.service) self.old.traffic }
         requires may { MayForget (S.state self.old.service) horizon }
-        ensures made { IfOk result (λ note. Makes (S.sees self.old.service) self.old.traffic (S.sees self.new.service) self.new.traffic Event.Up note []) }
-        ensures stopped { result ≡ Err ServeFault.Stopped → OutOfFaults (S.sees self.old.service) self.old.traffic (S.sees self.new.service) }
+        ensures { IfOk result (λ note. Makes (S.sees self.old.service) self.old.traffic (S.sees self.new.service) self.new.traffic Event.Up note []) }
     {
+        orderly_is_kept();
         self.traffic.begin();
         if self.service.is_up() {
             return Ok(Note::Up { incarnation: None });
         }
         match self.service.up(alloc, horizon) {
             Ok(()) => {}
-            Err(ServeFault::NoMemory) => return Err(ServeFault::NoMemory),
-            Err(ServeFault::Stopped) => return Err(ServeFault::Stopped),
+            Err(ServeFault::NoMemory) => return Err(NoMemory),
+            Err(ServeFault::Stopped) => unreachable!(),
         }
         let incarnation = self.service.incarnation();
         Ok(Note::Up {
@@ -152,6 +156,7 @@ impl<S: Service + Drop> Ground<S> {
         requires closable { AreClosable self.old.traffic.connections.all.items self.old.traffic.pool.idle }
         ensures { IfOk result (λ note. Makes (S.sees self.old.service) self.old.traffic (S.sees self.new.service) self.new.traffic Event.Drain note []) }
     {
+        orderly_is_kept();
         self.traffic.begin();
         let closed = self.traffic.drain()?;
         Ok(Note::Drain { closed })

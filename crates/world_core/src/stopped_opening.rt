@@ -2,14 +2,15 @@
 ghost use Rattle.std.specs.Prelude.{◌≡◌, ◌+◌, ◌<◌, ◌^◌, false, true, [], OnOk, IfOk};
 ghost use Rattle.server_model.specs.ServiceCalls.{MayForget, is_failover};
 ghost use Rattle.service_calls.specs.Kept.{Goes};
-ghost use Rattle.world_core.specs.Making.{MakesWhere};
-ghost use Rattle.world_core.specs.Stopping.{BegunOpening, HasFallen, IsSeen, IsSomewhere};
+ghost use Rattle.world_core.specs.Making.{Makes, IsSomewhere};
+ghost use Rattle.world_core.specs.Stopping.{BegunOpening, IsSeen};
 
 use crate::ground::Ground;
 use outage_schedule::{Event, Note};
 use service_calls::{ServeFault, Service};
 use std::alloc::Global;
 use svc_values::NoMemory;
+use world_model::laws::orderly_is_kept;
 
 impl<S: Service + Drop> Ground<S> {
     /// Begins to open the store, where the server is down, under a stop after so many device calls,
@@ -27,8 +28,9 @@ impl<S: Service + Drop> Ground<S> {
         requires few { (S.state self.old.service).calls + 2 < 2 ^ 48 }
         requires may { MayForget (S.state self.old.service) horizon }
         requires one_store { is_failover pick ≡ false }
-        ensures { IfOk result (λ note. MakesWhere HasFallen (S.sees self.old.service) self.old.traffic (S.sees self.new.service) self.new.traffic (Event.UpCrash after pick) note []) }
+        ensures { IfOk result (λ note. Makes (S.sees self.old.service) self.old.traffic (S.sees self.new.service) self.new.traffic (Event.UpCrash after pick) note []) }
     {
+        orderly_is_kept();
         self.traffic.begin();
         if self.service.is_up() {
             return Ok(Note::UpCrash { made: false });

@@ -4,12 +4,12 @@ use Rattle.world_core.proofs.Crashes.{crashes_none, crashes_served}
 use Rattle.world_core.proofs.ground.Ground.crash.Goals as goal
 
 pub returns-then-not-is_up : goal.returns-then-not-is_up
-returns-then-not-is_up g c = crashes_none (g.S.Service.sees c.args.self.now.service) c.args.self.now.traffic c.begin.new.self c.args.connection c.args.after c.args.pick
+returns-then-not-is_up g c = crashes_none c.orderly_is_kept.ensures (g.S.Service.sees c.args.self.now.service) c.args.self.now.traffic c.begin.new.self c.args.connection c.args.after c.args.pick
     (λ seen sees. ap (λ (s : ServiceState). s.is_up) (g.met.S.Service.honest c.args.self.now.service seen sees).state_is ∙ sym c.if-not-is_up.ensures)
     c.begin.ensures.begun
 
 pub returns : goal.returns
-returns g c = crashes_served (g.S.Service.sees c.args.self.now.service) (g.S.Service.sees c.serve_last.new.self.service) (g.S.Service.sees c.crash.new.self) (g.S.Service.leaves c.serve_last.new.self.service) c.args.self.now.traffic c.serve_last.new.self.traffic c.fall.new.self c.args.connection c.args.after c.args.pick _
+returns g c = crashes_served c.orderly_is_kept.ensures (g.S.Service.sees c.args.self.now.service) (g.S.Service.sees c.serve_last.new.self.service) (g.S.Service.sees c.crash.new.self) (g.S.Service.leaves c.serve_last.new.self.service) c.args.self.now.traffic c.serve_last.new.self.traffic c.fall.new.self c.args.connection c.args.after c.args.pick _
     (λ seen sees. ap (λ (s : ServiceState). s.is_up) (g.met.S.Service.honest c.args.self.now.service seen sees).state_is ∙ sym c.if-not-is_up.ensures)
     (λ seen sees. (g.met.S.Service.honest c.crash.new.self seen sees).history)
     (λ seen sees. subst (λ (s : ServiceState). g.S.Service.leaves c.serve_last.new.self.service s.store) (sym (g.met.S.Service.honest c.crash.new.self seen sees).state_is) c.crash.ensures.left)

@@ -2,4 +2,4 @@ use Rattle.world_core.proofs.Draining.{drains}
 use Rattle.world_core.proofs.ground.Ground.drain.Goals as goal
 
 pub returns : goal.returns
-returns g c = drains (g.S.Service.sees c.args.self.now.service) c.args.self.now.traffic c.drain.new.self c.in_ok-closed.closed (λ m is. c.in_ok-closed.ensures _ (c.begin.ensures.begun m is))
+returns g c = drains c.orderly_is_kept.ensures (g.S.Service.sees c.args.self.now.service) c.args.self.now.traffic c.drain.new.self c.in_ok-closed.closed (λ m is. c.in_ok-closed.ensures _ (c.begin.ensures.begun m is))

@@ -1,16 +1,27 @@
-use Rattle.std.proofs.Common.{sym, ap, ◌∙◌}
+use Rattle.std.proofs.Common.{sym, ap, ◌∙◌, subst, Err}
 use Rattle.server_model.specs.Seen.{ServiceState}
 use Rattle.world_core.proofs.Outsiders.{outsides_none, outsides_some}
+use Rattle.world_core.proofs.Readiness.{outside_never_stops}
+use Rattle.server_model.specs.declared.fault.ServeFault.{ServeFault}
+use Rattle.server_model.specs.ServiceCalls.{RanOutside, StoppedOutside}
+use Rattle.service_calls.specs.Answers.{Ends, runs_of}
+use Rattle.service_calls.specs.Kept.{Goes}
 use Rattle.world_core.proofs.ground.Ground.outside.Goals as goal
 
-pub returns-then-not-is_up-clause-made : goal.returns-then-not-is_up-clause-made
-returns-then-not-is_up-clause-made g c = outsides_none (g.S.Service.sees c.args.self.now.service) c.args.self.now.traffic c.begin.new.self c.args.calls.now
+pub returns-then-not-is_up : goal.returns-then-not-is_up
+returns-then-not-is_up g c = outsides_none c.orderly_is_kept.ensures (g.S.Service.sees c.args.self.now.service) c.args.self.now.traffic c.begin.new.self c.args.calls.now
     (λ seen sees. ap (λ (s : ServiceState). s.is_up) (g.met.S.Service.honest c.args.self.now.service seen sees).state_is ∙ sym c.if-not-is_up.ensures)
     c.begin.ensures.begun
 
-pub returns-clause-made : goal.returns-clause-made
-returns-clause-made g c = outsides_some (g.S.Service.sees c.args.self.now.service) (g.S.Service.sees c.outside.new.self) c.args.self.now.traffic c.begin.new.self c.args.calls.now c.in-Ok.ran c.compares_exactly.ensures.exact
+pub returns : goal.returns
+returns g c = outsides_some c.orderly_is_kept.ensures (g.S.Service.sees c.args.self.now.service) (g.S.Service.sees c.outside.new.self) c.args.self.now.traffic c.begin.new.self c.args.calls.now c.in-Ok.ran c.compares_exactly.ensures.exact
     (λ seen sees. ap (λ (s : ServiceState). s.is_up) (g.met.S.Service.honest c.args.self.now.service seen sees).state_is ∙ sym c.if-not-is_up.ensures)
     (λ seen sees. (g.met.S.Service.honest c.outside.new.self seen sees).history)
     c.in-Ok.ensures.ran
     c.begin.ensures.begun
+
+-- it is stopped in no call
+pub unreachable-requires : goal.unreachable-requires
+unreachable-requires g c = outside_never_stops (g.S.Service.sees c.args.self.now.service) (g.S.Service.sees c.outside.new.self) (g.S.Service.leaves c.outside.new.self) c.args.self.now.traffic c.requires.there
+    (subst (λ (e : ServeFault). Ends (Err e) (λ ran. Goes (g.S.Service.sees c.args.self.now.service) (g.S.Service.sees c.outside.new.self) (λ old new. RanOutside old c.args.calls.now c.begin.new.self.tick ran.ltxid (runs_of ran) new)) (Goes (g.S.Service.sees c.args.self.now.service) (g.S.Service.sees c.outside.new.self) (λ old new. StoppedOutside old (g.S.Service.leaves c.outside.new.self) new)))
+    c.in-Err-Stopped.field-0-is c.in-Err-Stopped.ensures.ran)

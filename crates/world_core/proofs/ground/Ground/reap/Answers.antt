@@ -2,8 +2,8 @@ use Rattle.world_core.proofs.Reaping.{reaps_none, reaps_one}
 use Rattle.world_core.proofs.ground.Ground.reap.Goals as goal
 
 pub returns-then-not-reap : goal.returns-then-not-reap
-returns-then-not-reap g c = reaps_none (g.S.Service.sees c.args.self.now.service) c.args.self.now.traffic c.reap.new.self c.args.connection (λ m is. c.if-not-reap.ensures _ (c.begin.ensures.begun m is))
+returns-then-not-reap g c = reaps_none c.orderly_is_kept.ensures (g.S.Service.sees c.args.self.now.service) c.args.self.now.traffic c.reap.new.self c.args.connection (λ m is. c.if-not-reap.ensures _ (c.begin.ensures.begun m is))
 
 pub returns : goal.returns
-returns g c = reaps_one (g.S.Service.sees c.args.self.now.service) (g.S.Service.sees c.reap-2.new.self) c.args.self.now.traffic c.reap.new.self c.args.connection
+returns g c = reaps_one c.orderly_is_kept.ensures (g.S.Service.sees c.args.self.now.service) (g.S.Service.sees c.reap-2.new.self) c.args.self.now.traffic c.reap.new.self c.args.connection
     (λ seen sees. (g.met.S.Service.honest c.reap-2.new.self seen sees).history) c.reap-2.ensures.reaped (λ m is. c.if-not-reap.ensures _ (c.begin.ensures.begun m is))

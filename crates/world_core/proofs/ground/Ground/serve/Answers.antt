@@ -1,12 +1,17 @@
-use Rattle.std.proofs.Common.{subst}
+use Rattle.std.proofs.Common.{subst, Err}
 use Rattle.world_model.specs.Serving.{front_at}
 use Rattle.world_core.specs.Underway.{FrontOf}
 use Rattle.world_core.proofs.Coupling.{begun}
 use Rattle.world_core.proofs.ServedFrames.{serves_none, serves_some, lives_there, frame_made, made_there}
+use Rattle.world_core.proofs.Readiness.{frame_never_stops}
+use Rattle.server_model.specs.declared.fault.ServeFault.{ServeFault}
+use Rattle.server_model.specs.ServiceCalls.{ServedOne}
+use Rattle.service_calls.specs.Answers.{IfTold}
+use Rattle.service_calls.specs.Kept.{Goes}
 use Rattle.world_core.proofs.ground.Ground.serve.Goals as goal
 
-pub returns-in_default-clause-made : goal.returns-in_default-clause-made
-returns-in_default-clause-made g c = serves_none (g.S.Service.sees c.args.self.now.service) c.args.self.now.traffic c.first_up.new.self c.args.connection (λ m is. subst (λ frame. FrontOf (begun m) c.args.connection (front_at m.links c.args.connection) frame c.first_up.new.self) c.in_default.is (c.in_ok-first.ensures _ (c.begin.ensures.begun m is)))
+pub returns-in_default : goal.returns-in_default
+returns-in_default g c = serves_none c.orderly_is_kept.ensures (g.S.Service.sees c.args.self.now.service) c.args.self.now.traffic c.first_up.new.self c.args.connection (λ m is. subst (λ frame. FrontOf (begun m) c.args.connection (front_at m.links c.args.connection) frame c.first_up.new.self) c.in_default.is (c.in_ok-first.ensures _ (c.begin.ensures.begun m is)))
 
 pub serve-requires-clause-lives : goal.serve-requires-clause-lives
 serve-requires-clause-lives g c =
@@ -25,6 +30,12 @@ pub answer-requires : goal.answer-requires
 answer-requires g c = made_there (g.S.Service.sees c.args.self.now.service) (g.S.Service.sees c.serve.new.self) (g.S.Service.leaves c.serve.new.self) c.args.self.now.traffic c.first_up.new.self c.args.connection c.in-Some.frame c.in-Ok.reply c.requires.in_order.0 c.requires.in_order.1.0 c.requires.in_order.1.1.0.seen_so c.requires.in_order.1.1.0.underway c.requires.in_order.1.1.1
     (λ seen sees. (g.met.S.Service.honest c.serve.new.self seen sees).history) c.in-Ok.ensures.served (λ m is. subst (λ frame. FrontOf (begun m) c.args.connection (front_at m.links c.args.connection) frame c.first_up.new.self) c.in-Some.is (c.in_ok-first.ensures _ (c.begin.ensures.begun m is)))
 
-pub returns-clause-made : goal.returns-clause-made
-returns-clause-made g c = rw c.frame_name-name.ensures (serves_some (g.S.Service.sees c.args.self.now.service) (g.S.Service.sees c.serve.new.self) (g.S.Service.leaves c.serve.new.self) c.args.self.now.traffic c.first_up.new.self c.answer.new.self c.args.connection c.in-Some.frame c.in-Ok.reply c.in_ok-served.served c.compares_exactly.ensures.exact
+pub returns : goal.returns
+returns g c = rw c.frame_name-name.ensures (serves_some c.orderly_is_kept.ensures (g.S.Service.sees c.args.self.now.service) (g.S.Service.sees c.serve.new.self) (g.S.Service.leaves c.serve.new.self) c.args.self.now.traffic c.first_up.new.self c.answer.new.self c.args.connection c.in-Some.frame c.in-Ok.reply c.in_ok-served.served c.compares_exactly.ensures.exact
     (λ seen sees. (g.met.S.Service.honest c.serve.new.self seen sees).history) c.in-Ok.ensures.served (λ m is. subst (λ frame. FrontOf (begun m) c.args.connection (front_at m.links c.args.connection) frame c.first_up.new.self) c.in-Some.is (c.in_ok-first.ensures _ (c.begin.ensures.begun m is))) c.in_ok-served.ensures)
+
+-- it is stopped in no call
+pub unreachable-requires : goal.unreachable-requires
+unreachable-requires g c = frame_never_stops (g.S.Service.sees c.args.self.now.service) (g.S.Service.sees c.serve.new.self) (g.S.Service.leaves c.serve.new.self) c.args.self.now.traffic c.args.connection c.first_up.new.self.tick c.in-Some.frame (c.requires.in_order.0, (c.requires.in_order.1.0, c.requires.in_order.1.1.0))
+    (subst (λ (e : ServeFault). IfTold (Err e) (λ told. Goes (g.S.Service.sees c.args.self.now.service) (g.S.Service.sees c.serve.new.self) (λ old new. ServedOne old c.args.connection c.first_up.new.self.tick c.in-Some.frame told (g.S.Service.leaves c.serve.new.self) new)))
+    c.in-Err-Stopped.field-0-is c.in-Err-Stopped.ensures.served)

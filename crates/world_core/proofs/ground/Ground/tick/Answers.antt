@@ -5,4 +5,4 @@ pub pass-requires : goal.pass-requires
 pass-requires g c = rw c.begin.ensures.counted c.requires.ticks
 
 pub returns : goal.returns
-returns g c = ticks (g.S.Service.sees c.args.self.now.service) c.args.self.now.traffic c.pass.new.self (λ m is. c.pass.ensures _ (c.begin.ensures.begun m is))
+returns g c = ticks c.orderly_is_kept.ensures (g.S.Service.sees c.args.self.now.service) c.args.self.now.traffic c.pass.new.self (λ m is. c.pass.ensures _ (c.begin.ensures.begun m is))

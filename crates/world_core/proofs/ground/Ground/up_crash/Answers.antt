@@ -6,12 +6,12 @@ use Rattle.world_core.proofs.StoppedUps.{crashes_no_opening, crashes_opening}
 use Rattle.world_core.proofs.ground.Ground.up_crash.Goals as goal
 
 pub returns-then-is_up : goal.returns-then-is_up
-returns-then-is_up g c = crashes_no_opening (g.S.Service.sees c.args.self.now.service) c.args.self.now.traffic c.begin.new.self c.args.after c.args.pick
+returns-then-is_up g c = crashes_no_opening c.orderly_is_kept.ensures (g.S.Service.sees c.args.self.now.service) c.args.self.now.traffic c.begin.new.self c.args.after c.args.pick
     (λ seen sees. ap (λ (s : ServiceState). s.is_up) (g.met.S.Service.honest c.args.self.now.service seen sees).state_is ∙ sym c.if-is_up.ensures)
     c.begin.ensures.begun
 
 pub returns : goal.returns
-returns g c = crashes_opening (g.S.Service.sees c.args.self.now.service) (g.S.Service.sees c.begin_opening.new.self.service) (g.S.Service.sees c.crash.new.self) (g.S.Service.leaves c.begin_opening.new.self.service) c.args.self.now.traffic c.begin_opening.new.self.traffic c.args.horizon c.args.after c.args.pick
+returns g c = crashes_opening c.orderly_is_kept.ensures (g.S.Service.sees c.args.self.now.service) (g.S.Service.sees c.begin_opening.new.self.service) (g.S.Service.sees c.crash.new.self) (g.S.Service.leaves c.begin_opening.new.self.service) c.args.self.now.traffic c.begin_opening.new.self.traffic c.args.horizon c.args.after c.args.pick
     c.requires.one_store
     (λ seen sees. ap (λ (s : ServiceState). s.is_up) (g.met.S.Service.honest c.args.self.now.service seen sees).state_is ∙ sym c.if-is_up.ensures)
     (λ seen sees. (g.met.S.Service.honest c.crash.new.self seen sees).history)
