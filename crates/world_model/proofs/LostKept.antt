@@ -43,7 +43,7 @@ module _ (t : Traced) (inv : Orderly t) (new : Traced) (setting : new.setting �
   gone_all course = list_all (is_gone t.machine.links (courses_of t)) (lost_links course)
 
   -- a connection that was lost passes the test still
-  found_still : (test : Link → Bool) → ((a b : Link) → IsFrozen a b → test a ≡ true → test b ≡ true) → (number : ℕ) → is_gone t.machine.links (courses_of t) number ≡ true
+  pub found_still : (test : Link → Bool) → ((a b : Link) → IsFrozen a b → test a ≡ true → test b ≡ true) → (number : ℕ) → is_gone t.machine.links (courses_of t) number ≡ true
       → option_map_or test (link_at t.machine.links number) false ≡ true → option_map_or test (link_at new.machine.links number) false ≡ true
   found_still test alike number is here =
       let gone : GoneAt t.machine.links (courses_of t) number = gone_at t.machine.links (courses_of t) number is in

@@ -119,6 +119,7 @@ pub record OnIt (links : List Link) (owner : Owner) (connection : Option ℕ) (p
   pub right : is_right (stage_of link) ≡ true
   pub last : Sent
   pub is : last_or None link.sent ≡ Some last
+  pub answered : is_answered last.frame ≡ true
   pub mine : owned_by owner last ≡ true
   pub awaited : is_awaited phase last ≡ true
 
@@ -131,7 +132,7 @@ awaits_last links owner connection phase number link has there right waits = by 
     by (Some last) is waits =
         let one = and_parts (is_answered last.frame) (owned_by owner last && is_awaited phase last) waits in
         let two = and_parts (owned_by owner last) (is_awaited phase last) one.1 in
-        record { number = number; has = has; link = link; there = there; right = right; last = last; is = is; mine = two.0; awaited = two.1 }
+        record { number = number; has = has; link = link; there = there; right = right; last = last; is = is; answered = one.0; mine = two.0; awaited = two.1 }
 
 -- a call that is awaited
 pub record AwaitedCall (mark : Bool) (index : ℕ) (sent : Sent) : Type 0 where

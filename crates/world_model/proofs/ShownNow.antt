@@ -23,7 +23,7 @@ use Rattle.client_model.specs.Talk.{talk_step, takes}
 use Rattle.client_model.specs.Terms.{Phase, Asked, Running}
 use Rattle.client_model.proofs.Offered.{Fits}
 use Rattle.run_clauses.specs.Reports.{shown_call}
-use Rattle.world_model.specs.Conversing.{AllTalk, connected}
+use Rattle.world_model.specs.Conversing.{AllTalk}
 use Rattle.world_model.specs.Clients.{Doing}
 use Rattle.world_model.specs.Frames.{Owner, Sent, Reply, Handled}
 use Rattle.world_model.specs.Hold.{is_awaited, is_call as is_awaited_call}

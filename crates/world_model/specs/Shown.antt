@@ -1,5 +1,5 @@
--- InvShown: what a request was shown its sessions served, what it sent lies in rows of its script, and what was answered of an identifier
--- stands.
+-- InvShown: what a request was shown its sessions served, what it sent lies in rows of its script, what it lost ends with its own, and what
+-- was answered of an identifier stands.
 use Rattle.std.specs.Prelude.{ℕ, ◌+◌, ◌==◌, ◌&&◌, ◌||◌, Bool, true, false, if◌then◌else◌, IsTrue, List, [], ◌∷◌, length, filter, take, slice_get, Option, Some, None}
 use Rattle.std.specs.List.{list_all, list_any}
 use Rattle.std.specs.Option.{option_map_or}
@@ -14,12 +14,13 @@ use Rattle.outage_schedule.specs.declared.item.Item.TheVariants as item
 use Rattle.outage_schedule.specs.declared.request.ShownCall.{ShownCall}
 use Rattle.world_model.specs.Frames.{Sent, Handled}
 use Rattle.world_model.specs.Links.{Link, link_at}
+use Rattle.world_model.specs.Lost.{lost_links}
 use Rattle.world_model.specs.Traced.{Traced, Course, courses_of}
 use Rattle.world_model.specs.Script.{recorded_from}
 use Rattle.world_model.specs.Sames.{owned_by}
 use Rattle.run_clauses.specs.Tried.{holds}
 use Rattle.world_model.specs.Words.{held_in}
-use Rattle.world_model.specs.Parts.{implies, is_unmarked}
+use Rattle.world_model.specs.Parts.{implies, is_unmarked, out_frame}
 use Rattle.outage_schedule.specs.declared.note.AskResult.TheVariants as told
 use Rattle.run_clauses.specs.Outcomes.{completed_of}
 
@@ -124,6 +125,18 @@ rows_on t course = list_all (λ number. option_map_or (λ link. is_row course (i
 abbrev pub in_rows : Traced → Bool
 in_rows t = list_all (rows_on t) (courses_of t)
 
+-- WHAT IS LOST ------------------------------------------------------------------------------------
+
+-- on a connection that it lost, the answered frame that was sent last is its own
+abbrev pub ends_own : Course → Link → Bool
+ends_own course link = option_map_or (owned_by course.owner) (out_frame link) false
+
+abbrev pub loses_own : List Link → Course → Bool
+loses_own links course = list_all (λ number. option_map_or (ends_own course) (link_at links number) false) (lost_links course)
+
+abbrev pub lose_own : Traced → Bool
+lose_own t = list_all (loses_own t.machine.links) (courses_of t)
+
 -- ANSWERS -----------------------------------------------------------------------------------------
 
 -- what was answered of an identifier stands: uncommitted, it is blocked; committed, its entry is there; and no other answer but forgotten
@@ -140,4 +153,5 @@ answers_stand t = list_all (λ link. list_all (λ one. stands t one.served.item)
 pub record Shown (t : Traced) : Type 0 where
   pub shown : IsTrue (are_from t)
   pub rows : IsTrue (in_rows t)
+  pub own : IsTrue (lose_own t)
   pub answers : IsTrue (answers_stand t)

@@ -6,7 +6,7 @@ ghost use Rattle.world_model.specs.Ready.{are_ready};
 ghost use Rattle.world_model.specs.Script.{are_conversations, are_kept, all_sent, are_owned, carry_draws, follow_scripts, report_rightly};
 ghost use Rattle.world_model.specs.Hold.{are_had, are_queued, are_held, are_idle, slots_held, are_opened, are_by_held};
 ghost use Rattle.world_model.specs.Number.{are_near, are_counted as are_numbered, are_told, are_served_near, are_ahead, blocks_next, entries_numbered, known_so_far, none_blocked};
-ghost use Rattle.world_model.specs.Shown.{are_given, in_rows, answers_stand};
+ghost use Rattle.world_model.specs.Shown.{are_given, in_rows, lose_own, answers_stand};
 ghost use Rattle.world_model.specs.Lost.{stay_gone, outcomes_lost, go_unasked, ask_rightly, have_events};
 ghost use Rattle.world_model.specs.Basic.{have_risen, kept_ticks, items_rise, items_differ, is_down, are_ended, sessions_differ, are_made, are_counted, are_named, living_now, commits_counted, lives};
 
@@ -227,6 +227,11 @@ pub fn calls_go_in_rows()
 /// call, with these answers and draws; or it ends with Committed, and an outcome was taken that said committed and completed.
 pub fn shown_calls_were_answered()
     ensures { IsKeptOfAll are_given }
+{}
+
+/// If the whole invariant held before: on a connection that a request lost, the answered frame that was sent last is its own.
+pub fn lost_connections_end_with_own()
+    ensures { IsKeptOfAll lose_own }
 {}
 
 /// What was answered of an identifier stands, if the whole invariant held before. Uncommitted, it is blocked; committed, its
