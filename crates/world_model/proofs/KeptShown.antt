@@ -1,12 +1,11 @@
 -- Of Shown: each call that was shown is from an item, or from an outcome, at the start and behind each event.
-use Rattle.std.proofs.Common.{◌≡◌, refl, sym, ap, subst, ◌∙◌, Bool, true, false, ℕ, ◌+◌, ◌&&◌, ◌||◌, fold, length, append_assoc, List, [], ◌∷◌, ◌++◌, map, Option, Some, None, ⊎_elim, arith}
+use Rattle.std.proofs.Common.{◌≡◌, refl, sym, ap, subst, ◌∙◌, Bool, true, false, ℕ, ◌+◌, ◌&&◌, ◌||◌, length, List, [], ◌∷◌, ◌++◌, map, Option, Some, None, ⊎_elim, arith}
 use Rattle.std.specs.Prelude.{◌==◌, slice_get, option_map}
 use Rattle.std.specs.List.{list_all, list_any, cons_option}
 use Rattle.std.specs.Option.{option_or, option_map_or}
 use Rattle.std.proofs.lemmas.Bool.{and_parts, and_from, or_right, or_cases}
 use Rattle.std.proofs.lemmas.List.{append-nil, map-append, length-map}
 use Rattle.std.proofs.lemmas.List.Folds.{list_any-append}
-use Rattle.std.proofs.lemmas.List.Sums.{fold-append}
 use Rattle.svc_values.specs.declared.call.Call.{Call}
 use Rattle.svc_values.specs.Calls.{is_lone_commit}
 use Rattle.svc_values.specs.Endings.{ends_committed}
@@ -14,13 +13,10 @@ use Rattle.outage_schedule.specs.declared.document.Request.{Request}
 use Rattle.outage_schedule.specs.declared.request.Outcome.{Outcome}
 use Rattle.outage_schedule.specs.declared.request.ShownCall.{ShownCall}
 use Rattle.client_model.specs.declared.act.Shown.{Shown}
-use Rattle.client_model.specs.Account.{Outcome as Heard, Account, account_of, unheard, hears, after_step}
-use Rattle.client_model.specs.Conversation.{Done}
 use Rattle.client_model.specs.States.{Asking}
-use Rattle.client_model.specs.Terms.{Terms}
 use Rattle.run_clauses.specs.Reports.{shown_call, told_outcome}
 use Rattle.run_clauses.specs.Tried.{holds}
-use Rattle.world_model.specs.Clients.{Step, Doing, Client, begun, past_of}
+use Rattle.world_model.specs.Clients.{Doing, Client, begun, past_of}
 use Rattle.world_model.specs.Frames.{Owner, Handled}
 use Rattle.world_model.specs.Invariant.{Orderly}
 use Rattle.world_model.specs.KeptLaws.{IsKeptOfAll}
@@ -33,11 +29,11 @@ use Rattle.world_model.specs.Settings.{Setting, setting_of}
 use Rattle.world_model.specs.Shown.{calls_on, is_current, is_row, in_row, first_of, is_scripts, is_shown_item, link_shows, outcome_shows, is_from, all_from, has_completed, is_given, all_given, are_given}
 use Rattle.world_model.specs.Traced.{Traced, Course, course_now, course_over, courses_of_clients, courses_of}
 use Rattle.world_model.specs.Wire.{is_sent_front, is_reply_front, handled_from, one_is_out}
-use Rattle.world_model.specs.Words.{brought, held_in, dones_of}
+use Rattle.world_model.specs.Words.{brought, held_in}
 use Rattle.world_model.proofs.AllLinks.{at_link}
 use Rattle.world_model.proofs.AllLists.{weaker_all}
 use Rattle.world_model.proofs.ClientSteps.{HasStepped, MayStep, Still, Closed, Stepped, happens_step}
-use Rattle.world_model.proofs.CoursesGrow.{HasMore, or_left}
+use Rattle.world_model.proofs.CoursesGrow.{or_left}
 use Rattle.world_model.proofs.CoursesStep.{all_step}
 use Rattle.world_model.proofs.GivenMore.{shows_by, all_more, all_push}
 use Rattle.world_model.proofs.Happened.{Followed, follow_happens, at_event}
@@ -46,29 +42,18 @@ use Rattle.world_model.proofs.KeptRows.{course_rows, before_rows, before_on}
 use Rattle.world_model.proofs.KeptSendings.{any_of_all, resting_none}
 use Rattle.world_model.proofs.LinkCounts.{Known}
 use Rattle.world_model.proofs.LinkLives.{counts_commits}
-use Rattle.world_model.proofs.OutcomesGrow.{OutcomesMore, outcomes_more, behind_heard}
+use Rattle.world_model.proofs.OutcomesTold.{told_more, outcomes_are}
 use Rattle.world_model.proofs.OwnedKept.{left_held}
 use Rattle.world_model.proofs.RowLast.{row_of}
-use Rattle.world_model.proofs.RowSteps.{ShownStep, NoneMore, OneMore, shown_step, shown_after, first_after}
+use Rattle.world_model.proofs.RowSteps.{ShownStep, NoneMore, OneMore, shown_step, shown_after}
 use Rattle.world_model.proofs.SendingSteps.{after_held}
 use Rattle.world_model.proofs.ServedGrows.{IsLonger, happens_longer}
 use Rattle.world_model.proofs.ShownNow.{IsShownOn, Completed, ShownNow, FromItem, FromOutcome, shown_now}
-use Rattle.world_model.proofs.StepFacts.{account_now, first_step, first_doing, before_talks, request_after, behind_first}
+use Rattle.world_model.proofs.StepFacts.{account_now, first_step, first_doing, before_talks, request_after}
 use Rattle.world_model.proofs.Strangers.{same_owner_is}
 use Rattle.world_model.proofs.Tests.{eq_from}
 
--- OUTCOMES ----------------------------------------------------------------------------------------
-
--- of a request that took further steps
-outcomes_later : (terms : Terms) (doing later : Doing) → later.request ≡ doing.request → HasMore doing.steps later.steps → OutcomesMore (account_now terms doing) (account_now terms later)
-outcomes_later terms doing later request further =
-    let calls : List Call = doing.request.calls in
-    let folds : OutcomesMore (account_now terms doing) (fold (after_step terms calls) (account_now terms doing) (dones_of further.more)) = outcomes_more terms calls (dones_of further.more) (account_now terms doing) in
-    let dones : dones_of later.steps ≡ dones_of doing.steps ++ dones_of further.more = ap dones_of further.are ∙ map-append (λ (step : Step). step.done) doing.steps further.more in
-    let same : account_now terms later ≡ fold (after_step terms calls) (account_now terms doing) (dones_of further.more) =
-    ap (λ (r : Request). account_of terms r.calls (dones_of later.steps)) request
-    ∙ (ap (λ (d : List Done). account_of terms calls d) dones ∙ fold-append (after_step terms calls) unheard (dones_of doing.steps) (dones_of further.more)) in
-    record { more = folds.more; are = ap (λ (a : Account). a.outcomes) same ∙ folds.are }
+-- LISTS -------------------------------------------------------------------------------------------
 
 any_at : (test : ℕ → Bool) (numbers : List ℕ) (number : ℕ) → list_any (λ other. other == number) numbers ≡ true → test number ≡ true → list_any test numbers ≡ true
 any_at test [] number is here = absurd (let none : ⊥ = cc in none)
@@ -135,16 +120,6 @@ module _ (old new : Traced) (inv : Orderly old) (rows : list_all (course_rows ol
         let one = and_parts (in_row (option_map_or (λ sent. sent.call) (first_of (row_of mine link.sent)) 0) (row_of mine link.sent)) _ here in
         (and_parts (list_all (λ sent. is_scripts before_course sent sent.frame) (row_of mine link.sent)) _ one.1).0
 
-    all_steps : HasMore step.before.steps step.after.steps
-    all_steps = record {
-      more = first_step old.setting m inv.script.talks number n step ∷ (behind_first old.setting m inv.script.talks number n step).more;
-      are = (behind_first old.setting m inv.script.talks number n step).are
-          ∙ append_assoc step.before.steps (first_step old.setting m inv.script.talks number n step ∷ []) (behind_first old.setting m inv.script.talks number n step).more;
-    }
-
-    outs : OutcomesMore (account_now old.setting.terms step.before) (account_now old.setting.terms step.after)
-    outs = outcomes_later old.setting.terms step.before step.after (request_after old.setting m inv.script.talks number n step) all_steps
-
     module _ (d : Course) (owner : d.owner ≡ mine) (steps : d.steps ≡ step.after.steps) (calls : d.report.calls ≡ map shown_call (account_now old.setting.terms step.after).shown)
         (outcomes : d.report.outcomes ≡ map told_outcome (account_now old.setting.terms step.after).outcomes) (request : d.request ≡ step.after.request) where
       request_same : d.request.calls ≡ step.before.request.calls
@@ -155,8 +130,8 @@ module _ (old new : Traced) (inv : Orderly old) (rows : list_all (course_rows ol
 
       so_far : all_given new d 0 before_course.report.calls ≡ true
       so_far =
-          all_more old new longer before_course d owner (cons_option (brought step.input) []) held_are (map told_outcome outs.more)
-          (outcomes ∙ (ap (λ (o : List Heard). map told_outcome o) outs.are ∙ map-append told_outcome (account_now old.setting.terms step.before).outcomes outs.more)) request_same 0 before_course.report.calls before_given
+          all_more old new longer before_course d owner (cons_option (brought step.input) []) held_are (told_more step.input step.before.talk.phase) (outcomes ∙ outcomes_are old inv number n step) request_same 0
+          before_course.report.calls before_given
 
       from_item : (shown : Shown) (at : ℕ) → step.before.connection ≡ Some at → IsShownOn m.links mine step.before.request.calls (length shown_before) shown at → is_given new d (length shown_before) (slice_get d.request.calls (length shown_before)) (shown_call shown) ≡ true
       from_item shown at has found =
@@ -174,27 +149,12 @@ module _ (old new : Traced) (inv : Orderly old) (rows : list_all (course_rows ol
           (subst (λ (o : Owner). shows_by o new.machine.links (length shown_before) found.call (shown_call shown) at ≡ true) (sym owner) here)))
 
       -- the outcome is among those that were taken
-      completed_now : (shown : Shown) (asking : Asking) → (first_step old.setting m inv.script.talks number n step).done.act.shown ≡ Some shown
-          → Completed old.setting m inv.script.talks number n step asking (account_now old.setting.terms step.before) shown → has_completed d ≡ true
-      completed_now shown asking is completed =
-          let a : Account = account_now old.setting.terms step.before in
-          let x : Heard = record { ltxid = asking.ltxid; committed = true; completed = true } in
-          let done : Done = (first_step old.setting m inv.script.talks number n step).done in
-          let heard : (account_now old.setting.terms (first_doing old.setting m inv.script.talks number n step)).outcomes ≡ a.outcomes ++ x ∷ [] =
-          ap (λ (b : Account). b.outcomes) (first_after old.setting m inv.script.talks number n step)
-          ∙ (behind_heard old.setting.terms step.before.request.calls a done
-          ∙ (ap (λ (s : Option Shown). (hears old.setting.terms a step.input m.tick s).outcomes) is ∙ completed.outcomes)) in
-          let later : OutcomesMore (account_now old.setting.terms (first_doing old.setting m inv.script.talks number n step)) (account_now old.setting.terms step.after) =
-          outcomes_later old.setting.terms (first_doing old.setting m inv.script.talks number n step) step.after (request_after old.setting m inv.script.talks number n step) (behind_first old.setting m inv.script.talks number n step) in
-          let all : d.report.outcomes ≡ (map told_outcome a.outcomes ++ told_outcome x ∷ []) ++ map told_outcome later.more =
-          outcomes
-          ∙ (ap (λ (o : List Heard). map told_outcome o) (later.are ∙ ap (λ (o : List Heard). o ++ later.more) heard)
-          ∙ (map-append told_outcome (a.outcomes ++ x ∷ []) later.more ∙ ap (λ (o : List Outcome). o ++ map told_outcome later.more) (map-append told_outcome a.outcomes (x ∷ [])))) in
+      completed_now : (shown : Shown) (asking : Asking) → Completed old.setting m inv.script.talks number n step asking shown → has_completed d ≡ true
+      completed_now shown asking completed =
+          let x : Outcome = record { ltxid = asking.ltxid; committed = true; completed = true } in
           let test = λ (o : Outcome). o.committed && o.completed in
-          ap (λ (o : List Outcome). list_any test o) all
-          ∙ (list_any-append test (map told_outcome a.outcomes ++ told_outcome x ∷ []) (map told_outcome later.more)
-          ∙ or_left (list_any test (map told_outcome a.outcomes ++ told_outcome x ∷ [])) (list_any test (map told_outcome later.more))
-          (list_any-append test (map told_outcome a.outcomes) (told_outcome x ∷ []) ∙ or_right (list_any test (map told_outcome a.outcomes)) (list_any test (told_outcome x ∷ [])) refl))
+          ap (λ (o : List Outcome). list_any test o) (outcomes ∙ (outcomes_are old inv number n step ∙ ap (λ (o : List Outcome). before_course.report.outcomes ++ o) completed.told))
+          ∙ (list_any-append test before_course.report.outcomes (x ∷ []) ∙ or_right (list_any test before_course.report.outcomes) (list_any test (x ∷ [])) refl)
 
       is_now : (shown : Shown) → (first_step old.setting m inv.script.talks number n step).done.act.shown ≡ Some shown → ShownNow old.setting m inv.script.talks number n step shown
           → is_given new d (length shown_before) (slice_get d.request.calls (length shown_before)) (shown_call shown) ≡ true
@@ -202,7 +162,7 @@ module _ (old new : Traced) (inv : Orderly old) (rows : list_all (course_rows ol
       is_now shown is (FromOutcome asking phase completed) =
           subst (λ (c : Option Call). is_given new d (length shown_before) c (shown_call shown) ≡ true) (sym (ap (λ (all : List Call). slice_get all (length shown_before)) request_same ∙ completed.script))
           (or_right (list_any (link_shows new d (length shown_before) completed.call (shown_call shown)) (held_in d.steps)) (ends_committed shown.answers && has_completed d)
-          (and_from (ends_committed shown.answers) (has_completed d) (ap ends_committed completed.commits) (completed_now shown asking is completed)))
+          (and_from (ends_committed shown.answers) (has_completed d) (ap ends_committed completed.commits) (completed_now shown asking completed)))
 
       steps_given : given_test new d ≡ true
       steps_given = by (shown_step old.setting m inv.script.talks number n step)

@@ -92,7 +92,7 @@ module _ (setting : Setting) (m : Machine) (talks : AllTalk setting.terms m.clie
   dones_first : dones_of first.steps ≡ dones_of step.before.steps ++ one.done ∷ []
   dones_first = map-append (λ (s : Step). s.done) step.before.steps (one ∷ [])
 
-  pub first_after : account_first ≡ after_step setting.terms calls_are account_before one.done
+  first_after : account_first ≡ after_step setting.terms calls_are account_before one.done
   first_after =
       ap (λ (d : List Done). account_of setting.terms calls_are d) dones_first ∙ fold-append (after_step setting.terms calls_are) unheard (dones_of step.before.steps) (one.done ∷ [])
 

@@ -1,5 +1,5 @@
 -- The call that a step shows is that of the item of its frame, or an outcome said that it was committed and completed.
-use Rattle.std.proofs.Common.{◌≡◌, refl, sym, ap, subst, ◌∙◌, Bool, true, false, ℕ, ◌&&◌, length, List, [], ◌∷◌, ◌++◌, Option, Some, None}
+use Rattle.std.proofs.Common.{◌≡◌, refl, sym, ap, subst, ◌∙◌, Bool, true, false, ℕ, ◌&&◌, length, List, [], ◌∷◌, Option, Some, None}
 use Rattle.std.specs.Prelude.{◌==◌, slice_get}
 use Rattle.std.specs.List.{list_all, list_any, last_or}
 use Rattle.std.specs.Option.{option_map_or}
@@ -17,7 +17,6 @@ use Rattle.client_model.specs.declared.act.Hold.{Hold}
 use Rattle.client_model.specs.declared.act.Shown.{Shown}
 use Rattle.client_model.specs.declared.input.Input.{Input}
 use Rattle.client_model.specs.declared.input.Input.TheVariants.{Took}
-use Rattle.client_model.specs.Account.{Account, hears, hears_outcome}
 use Rattle.client_model.specs.States.{Living, Asking}
 use Rattle.client_model.specs.Talk.{talk_step, takes}
 use Rattle.client_model.specs.Terms.{Phase, Asked, Running}
@@ -36,6 +35,7 @@ use Rattle.world_model.specs.Shown.{is_call, is_scripts, is_shown_item}
 use Rattle.world_model.specs.Traced.{Course, course_now}
 use Rattle.world_model.proofs.ClientSteps.{is_frame, HasStepped, HeardOn, OfNone, OfIdle, OfNew, OfReply, OfEnded}
 use Rattle.world_model.proofs.LinkCounts.{Known, IsLast}
+use Rattle.world_model.proofs.OutcomesTold.{told_more}
 use Rattle.world_model.proofs.ReplyItems.{answering, answers_last, among_served, said_by, call_says}
 use Rattle.world_model.proofs.RowCourses.{OnIt}
 use Rattle.world_model.proofs.RowLast.{row_of, last_row}
@@ -113,16 +113,16 @@ pub record IsShownOn (links : List Link) (owner : Owner) (calls : List Call) (in
 
 module _ (setting : Setting) (m : Machine) (talks : AllTalk setting.terms m.clients) (number : ℕ) (n : Machine) (step : HasStepped setting m number n) where
   -- by an outcome
-  pub record Completed (asking : Asking) (a : Account) (shown : Shown) : Type 0 where
+  pub record Completed (asking : Asking) (shown : Shown) : Type 0 where
     pub call : Call
     pub script : slice_get step.before.request.calls (length (account_now setting.terms step.before).shown) ≡ Some call
     pub commits : shown.answers ≡ answer.Committed ∷ []
-    pub outcomes : (hears setting.terms a step.input m.tick (Some shown)).outcomes ≡ a.outcomes ++ record { ltxid = asking.ltxid; committed = true; completed = true } ∷ []
+    pub told : told_more step.input step.before.talk.phase ≡ record { ltxid = asking.ltxid; committed = true; completed = true } ∷ []
 
   -- one of these two
   pub data ShownNow (shown : Shown) : Type 0 where
     FromItem : (at : ℕ) → step.before.connection ≡ Some at → IsShownOn m.links (record { client = number; place = length step.client.past }) step.before.request.calls (length (account_now setting.terms step.before).shown) shown at → ShownNow shown
-    FromOutcome : (asking : Asking) → step.before.talk.phase ≡ Asked asking → Completed asking (account_now setting.terms step.before) shown → ShownNow shown
+    FromOutcome : (asking : Asking) → step.before.talk.phase ≡ Asked asking → Completed asking shown → ShownNow shown
 
 module _ (setting : Setting) (m : Machine) (talks : AllTalk setting.terms m.clients) (number : ℕ) (n : Machine) (step : HasStepped setting m number n) (decides : (x y : Owner) → same_owner x y ≡ true → x ≡ y)
     (on : (connection : ℕ) → step.before.connection ≡ Some connection → OnIt m.links (record { client = number; place = length step.client.past }) step.before.connection step.before.talk.phase)
@@ -197,7 +197,7 @@ module _ (setting : Setting) (m : Machine) (talks : AllTalk setting.terms m.clie
       (taken.frame, taken.alive, taken.is, taken_shows setting.terms step.before.talk step.before.talk.phase taken.frame taken.alive m.tick shown takes_it)
 
   outcome_shown : (frame : Down) (alive : Bool) → step.input ≡ Took frame alive → (shown : Shown) (asking : Asking) → step.before.talk.phase ≡ Asked asking → frame ≡ down.OutcomeIs true true → shown.answers ≡ answer.Committed ∷ []
-      → Completed setting m talks number n step asking (account_now setting.terms step.before) shown
+      → Completed setting m talks number n step asking shown
   outcome_shown frame alive input shown asking phase said commits =
       let fits = fits_at (Asked asking) phase in
       let index : asking.track.call ≡ length shown_before = fits.0.tracked.call in
@@ -205,8 +205,7 @@ module _ (setting : Setting) (m : Machine) (talks : AllTalk setting.terms m.clie
         call = fits.0.left.one;
         script = ap (slice_get step.before.request.calls) (sym index) ∙ fits.0.left.is;
         commits = commits;
-        outcomes = ap (λ (i : Input). (hears setting.terms (account_now setting.terms step.before) i m.tick (Some shown)).outcomes) (input ∙ ap (λ (f : Down). Took f alive) said)
-            ∙ ap (λ (l : Option Up). (hears_outcome (account_now setting.terms step.before) true true l).outcomes) fits.1.last;
+        told = ap (λ (i : Input). told_more i step.before.talk.phase) (input ∙ ap (λ (f : Down). Took f alive) said) ∙ ap (λ (p : Phase). told_more (Took (down.OutcomeIs true true) alive) p) phase;
       }
 
   pub shown_now : (shown : Shown) → (first_step setting m talks number n step).done.act.shown ≡ Some shown → ShownNow setting m talks number n step shown
