@@ -1,6 +1,6 @@
 -- The frame that is served under a stop: answered, stopped, or none.
-use Rattle.std.proofs.Common.{◌≡◌, ◌≤◌, ◌<◌, ℕ, ◌+◌, ◌==◌, Bool, true, false, List, [], ◌∷◌, ◌++◌, Option, Some, None, refl, sym, ap, ◌∙◌, subst, arith, eq-eqb, inl, inr}
-use Rattle.std.specs.Prelude.{◌*◌, ◌&&◌, ◌||◌, not, is_none, nat_le, if◌then◌else◌}
+use Rattle.std.proofs.Common.{◌≡◌, ◌≤◌, ◌<◌, ℕ, ◌+◌, ◌==◌, Bool, true, false, List, [], ◌∷◌, ◌++◌, Option, Some, None, length, refl, sym, ap, ◌∙◌, subst, arith, eq-eqb}
+use Rattle.std.specs.Prelude.{◌*◌, ◌&&◌, ◌||◌, not, cond, nat_le, if◌then◌else◌}
 use Rattle.std.specs.Option.{option_map_or}
 use Rattle.std.proofs.lemmas.Bool.{le-leb, lt-ltb}
 use Rattle.std.proofs.lemmas.List.{append-nil}
@@ -20,13 +20,13 @@ use Rattle.server_model.specs.Outcomes.{Telling, Stopped, telling_of}
 use Rattle.server_model.specs.Runs.{Happened, Served as ServedFrame}
 use Rattle.server_model.specs.Seen.{Store, Seen, IsHistory}
 use Rattle.server_model.specs.ServiceCalls.{Gains, ServedOne, may_store, with_stop}
-use Rattle.world_model.specs.Coupled.{living_of, SameServer, Coupled}
-use Rattle.world_model.specs.Crashing.{is_crashed_item, is_stopped, is_over, has_stored, with_doubt, after_stopped, serves_last}
+use Rattle.world_model.specs.Coupled.{living_of, entries_in, SameServer, Coupled}
+use Rattle.world_model.specs.Crashing.{is_crashed_item, is_stopped, is_over, is_alert, is_new_block, has_stored, with_doubt, after_stopped, serves_last}
 use Rattle.world_model.specs.Hold.{is_connect}
 use Rattle.world_model.specs.Links.{Link}
 use Rattle.world_model.specs.Machines.{Server, Machine}
 use Rattle.world_model.specs.ServiceDid.{front_served, item_telling}
-use Rattle.world_model.specs.Serving.{Front, front_at, outcome_frame, is_item_of, is_served_by, commits_after, after_served}
+use Rattle.world_model.specs.Serving.{Front, front_at, outcome_frame, is_item_of, is_served_by, is_commit, commits_after, after_served}
 use Rattle.world_model.specs.Traced.{Traced}
 use Rattle.world_core.specs.Answering.{session_served, served_item, crashed_item}
 use Rattle.world_core.specs.InOrder.{Answers, Connects, Begins, Replies, Blocks, Tells, Ends, Closes, ServedWith}
@@ -35,8 +35,9 @@ use Rattle.world_core.proofs.Coupling.{begun, none_came, none_asked}
 use Rattle.world_core.proofs.Serving.{item_now, which, session_from, answered_last, served_so}
 use Rattle.world_core.proofs.Fronts.{front_there}
 use Rattle.world_core.proofs.Ordered.{ServesInOrder}
+use Rattle.world_core.proofs.Recorded.{named_by, commit_later, has_so, one_more, recorded}
 use Rattle.world_core.proofs.Stops.{stops_behind}
-use Rattle.world_core.proofs.Written.{reads, Which, bools_same, same_named, named_session, stays_up}
+use Rattle.world_core.proofs.Written.{reads, bools_same, same_named, named_session, stays_up}
 
 -- UNDER THE STOP ----------------------------------------------------------------------------------
 
@@ -161,8 +162,18 @@ module _ (seen new : Seen) (t : Traced) (number after : ℕ) (front : Front) (le
       let happened : ServedFrame session t.machine.tick frame (telling_of reply) ∷ [] ≡ front_served t.machine.tick (front_at t.machine.links number) (served ∷ []) =
       ap (λ (told : Telling). ServedFrame session t.machine.tick frame told ∷ []) (sym read.tells) ∙ ap (λ found. front_served t.machine.tick found (served ∷ [])) (sym there) in
       let item = ordinary (served.event == m.event) (is_served_by m.server front.link frame session) (is_item_of frame served.item) (eq-eqb m.event m.event refl) by.is_served read.is_item in
+      let at = front_there t.machine.links number front there in
+      let gains = did.adds.gains in
+      let living : seen.state.living number ≡ Some front.link.session = coupled.living number ∙ ap living_of at.0 ∙ ap (λ b. if b then Some front.link.session else None) at.1 in
+      let known = which t.machine.server stopped_seen front.link.session session number new.state.sessions coupled_stopped.server up living did.of_connection in
+      let counted : is_commit served.item ≡ true → 1 ≤ length gains.more_entries = λ commits.
+      one_more seen.state.store.entries gains.more_entries session front.link.commits
+      (ap (λ e. entries_in e session) (sym gains.entries) ∙ answered.counted ∙ ap (λ b. front.link.commits + cond b 1 0) (sym read.commits_so ∙ commits))
+      (has_so seen.state.store.entries front.link session at.1 (named_by t.machine.server front.link.session session new.state.sessions known (ordered.is_first ∙ commit_later frame reply commits)) (coupled.stored number front.link at.0)) in
       let reaches : has_stored m.server served.item ≡ true → nat_le m.server.per_record after ≡ true = λ stored.
-      let few = did.cause.reached after refl (stops.recorded reply new did stored) (not_told reply) in
+      let few = did.cause.reached after refl
+      (recorded (is_commit served.item) (is_alert served.item || is_new_block m.server served.item) seen.state.store.records new.state.store.records (length gains.more_entries) (length gains.more_blocked) (length gains.more_alerts) did.adds.stored counted (stops.added reply new did) stored)
+      (not_told reply) in
       le-leb m.server.per_record after (subst (λ n. n ≤ after) (sym coupled.server.per_record) few) in
       record {
         follows = ap (serves_last m number after (served ∷ [])) there
@@ -208,10 +219,6 @@ crashed exact server link (up.Outcome x) session may = record { is_item = (exact
 may_by : (b : Bool) → (b ≡ false → ⊥) → b ≡ true
 may_by true never = refl
 may_by false never = absurd (never refl)
-
-named_by : (server : Server) (known : Option SessionId) (session : SessionId) (sessions : ℕ) → Which server known session sessions → is_none known ≡ false → known ≡ Some session
-named_by server known session sessions (inl (named, same)) some = named
-named_by server known session sessions (inr (unnamed, next)) some = absurd (let clash : true ≡ false = sym (ap (λ (k : Option SessionId). is_none k) unnamed) ∙ some in let nothing : ⊥ = cc in nothing)
 
 -- faults have risen
 apart_by : (old new : ℕ) → old < new → new ≡ old → ⊥

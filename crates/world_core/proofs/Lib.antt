@@ -17,6 +17,7 @@ pub mod Stops
 pub mod Storing
 pub mod Fronts
 pub mod Ordered
+pub mod Recorded
 pub mod Serving
 pub mod ServedFrames
 pub mod Questions

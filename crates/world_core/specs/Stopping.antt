@@ -1,11 +1,11 @@
 -- Events under a stop, each with a crash behind it.
-use Rattle.std.specs.Prelude.{◌≡◌, ◌≢◌, ◌⊎◌, ◌+◌, ◌≤◌, ℕ, true, false, List, [], ◌++◌, Option, Some}
+use Rattle.std.specs.Prelude.{◌≡◌, ◌⊎◌, ◌||◌, ◌+◌, ◌≤◌, ℕ, true, false, List, [], ◌++◌, length, Option, Some}
 use Rattle.svc_values.specs.declared.frame.Down.{Down}
 use Rattle.outage_schedule.specs.declared.item.Served.{Served}
 use Rattle.server_model.specs.Laws.{stops_last}
 use Rattle.server_model.specs.Seen.{Store, Seen}
 use Rattle.server_model.specs.ServiceCalls.{with_stop, Gains, Opened, StoppedOpening}
-use Rattle.world_model.specs.Crashing.{has_stored, serves_last}
+use Rattle.world_model.specs.Crashing.{is_alert, is_new_block, serves_last}
 use Rattle.world_model.specs.Machines.{Machine}
 use Rattle.world_model.specs.ServiceDid.{front_served}
 use Rattle.world_model.specs.Serving.{Front, front_at}
@@ -24,11 +24,12 @@ BegunOpening old below after leaves new = Opened (with_stop old (Some after)) be
 abbrev pub IsSeen : (Seen → Type 0) → Type 0
 IsSeen sees = (seen : Seen) × (sees seen × IsReady seen.state)
 
--- A frame is served under a stop of so many device calls: it is answered in order, and what adds to the store adds a record.
+-- A frame is served under a stop of so many device calls: it is answered in order, and a line that is answered is added to the store, as
+-- is the block of an identifier that is told uncommitted and may not have been blocked before.
 pub record StopsInOrder (seen : Seen) (t : Traced) (number after : ℕ) (front : Front) : Type 0 where
   pub answered : AnswersInOrder (with_stop seen (Some after)) t number front
-  pub recorded : (reply : Option Down) (new : Seen) → ServedWith (with_stop seen (Some after)) number t.machine.tick front.first.frame reply new
-      → has_stored t.machine.server (served_item front.first.frame reply) ≡ true → new.state.store.records ≢ seen.state.store.records
+  pub added : (reply : Option Down) (new : Seen) (did : ServedWith (with_stop seen (Some after)) number t.machine.tick front.first.frame reply new)
+      → (is_alert (served_item front.first.frame reply) || is_new_block t.machine.server (served_item front.first.frame reply)) ≡ true → 1 ≤ length did.adds.gains.more_blocked + length did.adds.gains.more_alerts
 
 abbrev pub InOrderUnder : ℕ → ℕ → Seen → Traced → Type 0
 InOrderUnder number after seen t = (front : Front) → front_at t.machine.links number ≡ Some front → StopsInOrder seen t number after front
