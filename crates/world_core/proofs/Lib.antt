@@ -1,4 +1,7 @@
 mod Stepped
+mod Placing
+mod Silence
+mod Steps
 mod Resting
 mod Coursing
 mod Beginning

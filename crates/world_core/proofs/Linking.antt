@@ -1,15 +1,17 @@
 -- What a connection stands for behind each of its changes.
 use Rattle.std.proofs.Common.{◌≡◌, ℕ, Bool, true, false, List, [], ◌∷◌, ◌++◌, Option, Some, None, Ok, length, map, min, refl, sym, ap, ◌∙◌, subst, inl, inr}
-use Rattle.std.specs.Prelude.{◌⊎◌, nat_le, ◌-◌, sum_by, is_none, option_and_then, if◌then◌else◌}
+use Rattle.std.specs.Prelude.{◌⊎◌, IfSome, nat_le, ◌-◌, sum_by, is_none, option_and_then, if◌then◌else◌}
 use Rattle.std.specs.Option.{option_or}
 use Rattle.std.specs.List.{list_any, AllByRecursion}
 use Rattle.std.proofs.lemmas.List.{append-nil, map-append}
 use Rattle.std.proofs.lemmas.List.Sums.{sum_by-cons}
+use Rattle.svc_values.specs.Identifiers.{IsLtxid}
+use Rattle.svc_values.specs.declared.entry.Ltxid.{Ltxid}
 use Rattle.svc_values.specs.declared.frame.Up.{Up}
 use Rattle.svc_values.specs.declared.frame.Down.{Down}
 use Rattle.svc_values.specs.declared.frame.Down.TheVariants as down
 use Rattle.canon_bytes.specs.UpBytes.{spell_up, FitsUp, IsMadeUp}
-use Rattle.canon_bytes.specs.DownBytes.{spell_down, FitsDown}
+use Rattle.canon_bytes.specs.DownBytes.{spell_down, FitsDown, IsMadeDown}
 use Rattle.frame_wire.specs.Stream.{Pending, nothing_pending, with_bytes, with_first, whole_front as front_in, IsNext}
 use Rattle.frame_wire.specs.Steps.{stream, AreFrames, frame_size, IsWholeFront}
 use Rattle.client_model.specs.declared.input.Input.TheVariants.{Took}
@@ -42,6 +44,8 @@ new_is_link up down e d = record {
   up = subst (Ups true []) (sym e) (carries_none spell_up FitsUp true);
   made = tt;
   down = subst (Downs true []) (sym d) (carries_none spell_down FitsDown true);
+  told = tt;
+  known = tt;
 }
 
 -- MADE --------------------------------------------------------------------------------------------
@@ -57,6 +61,23 @@ made_front : (bytes : ℕ) (sent : List Sent) → AreMade sent → AreMade (whol
 made_front bytes [] made = tt
 made_front bytes (one ∷ sent) made =
     elim (nat_le (up_size one) bytes) as (λ b. AreMade (if b then one ∷ whole_front up_size (bytes - up_size one) sent else [])) [ true ↦ (made.0, made_front (bytes - up_size one) sent made.1) | false ↦ tt ]
+
+abbrev AreTold : List Reply → Type 0
+AreTold replies = AllByRecursion IsMadeDown (down_frames replies)
+
+told_front : (bytes : ℕ) (replies : List Reply) → AreTold replies → AreTold (whole_front down_size bytes replies)
+told_front bytes [] told = tt
+told_front bytes (one ∷ replies) told =
+    elim (nat_le (down_size one) bytes) as (λ b. AreTold (if b then one ∷ whole_front down_size (bytes - down_size one) replies else [])) [ true ↦ (told.0, told_front (bytes - down_size one) replies told.1) | false ↦ tt ]
+
+-- the identifier that comes with a frame, or else the one that was held
+known_by : (frame : Down) (held : Option Ltxid) → IsMadeDown frame → IfSome held IsLtxid → IfSome (option_or (told_by_frame frame) held) IsLtxid
+known_by (down.Hello ltxid) held made known = made
+known_by (down.Reply answers draws ltxid) held made known = made
+known_by (down.OutcomeIs committed completed) held made known = known
+known_by (down.OutcomeRefused who next) held made known = known
+known_by down.Blocked held made known = known
+known_by (down.Refused cause) held made known = known
 
 -- SENDING -----------------------------------------------------------------------------------------
 
@@ -97,6 +118,8 @@ sending_is_link c up frames open_for made are pushed link sent same is = record 
   up = subst (Ups link.is_open (up_frames (link.up ++ sent))) (sym pushed) (more_carried c link sent frames same open_for are is);
   made = made_more link.up sent is.made (subst (AllByRecursion IsMadeUp) (sym same) made);
   down = is.down;
+  told = is.told;
+  known = is.known;
 }
 
 any_close : (sent : List Sent) → list_any (λ one. is_close one.frame) sent ≡ list_any is_close (up_frames sent)
@@ -128,6 +151,8 @@ gives_front c after frame one next link [] same is =
         up = subst (λ (s : List Sent). Ups link.is_open (up_frames s) after) (sym same) told.1;
         made = is.made;
         down = is.down;
+        told = is.told;
+        known = is.known;
       },
     )
 gives_front c after frame one next link (first ∷ later) same is =
@@ -144,6 +169,8 @@ gives_front c after frame one next link (first ∷ later) same is =
         up = told.1;
         made = (subst AreMade same is.made).1;
         down = is.down;
+        told = is.told;
+        known = is.known;
       },
     )
 
@@ -183,6 +210,8 @@ gives_reply c after reply one next link [] same is =
         up = is.up;
         made = is.made;
         down = subst (λ (r : List Reply). Downs link.is_open (down_frames r) after) (sym same) told.1;
+        told = is.told;
+        known = subst (λ (r : Option Down). IfSome (option_or (option_and_then told_by_frame r) c.held) IsLtxid) (sym told.0) is.known;
       },
     )
 gives_reply c after reply one next link (first ∷ left) same is =
@@ -201,6 +230,8 @@ gives_reply c after reply one next link (first ∷ left) same is =
         up = is.up;
         made = is.made;
         down = told.1;
+        told = (subst AreTold same is.told).1;
+        known = subst (λ (r : Option Down). IfSome (option_or (option_and_then told_by_frame r) c.held) IsLtxid) (sym told.0) (known_by first.frame c.held (subst AreTold same is.told).0 is.known);
       },
     )
 
@@ -234,6 +265,8 @@ fallen_is_link c event link is up down ups downs = record {
   up = subst (λ (b : Bool). Ups b [] up) (sym (ends_closed event link)) (subst (Ups false []) (sym ups) (carries_empty spell_up FitsUp (ends event link).is_open (up_frames (ends event link).up) c.up is.up));
   made = tt;
   down = subst (λ (b : Bool). Downs b (down_frames (if link.is_cut then link.down else [])) down) (sym (ends_closed event link)) (by_cut downs);
+  told = elim link.is_cut as (λ b. AreTold (if b then link.down else [])) [ true ↦ subst AreTold (ends_same (λ l. l.down) event link refl) is.told | false ↦ tt ];
+  known = is.known;
 }
   where
     marked : link.is_cut ≡ c.is_cut
@@ -285,6 +318,8 @@ cut_is_link cut_up cut_down c event up down unended link is =
       up = subst (λ (b : Bool). Ups b (up_frames (whole_front up_size up link.up)) (cut_of c event up down).up) (sym (ends_closed event link)) up_there;
       made = made_front up link.up is.made;
       down = subst (λ (b : Bool). Downs b (down_frames (whole_front down_size down link.down)) (cut_of c event up down).down) (sym (ends_closed event link)) down_there;
+      told = told_front down link.down is.told;
+      known = is.known;
     }
 
 pub cut_reaches : (c : Connection) (up down : ℕ) → c.ended ≡ None → (link : Link) → IsLink c link

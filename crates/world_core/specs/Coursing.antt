@@ -93,3 +93,8 @@ pub record Hears (R : Type 0) (rules : R → Rules) (setting : Setting) (number 
 abbrev pub Begins : (R : Type 0) → (R → Rules) → Setting → ℕ → ℕ → Client → Option Doing → Bool → Held R → Type 0
 Begins R rules setting number tick client None there after = (there ≡ false) × IsClient R rules setting number tick false after client
 Begins R rules setting number tick client (Some doing) there after = (there ≡ true) × IsClient R rules setting number tick false after (record client { now = Some doing })
+
+-- with this connection
+abbrev pub with_connection : Option Course → Option ℕ → Option Course
+with_connection None connection = None
+with_connection (Some course) connection = Some (record course { connection = connection })

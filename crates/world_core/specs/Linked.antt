@@ -1,11 +1,12 @@
 -- How a connection stands for one of the machine. What the machine remembers beside, as all that was ever sent, no connection holds.
-use Rattle.std.specs.Prelude.{◌≡◌, ◌⊎◌, ℕ, zero, suc, true, List, [], ◌∷◌, map, slice_get, Option, Some, None, is_none}
+use Rattle.std.specs.Prelude.{◌≡◌, ◌⊎◌, ℕ, zero, suc, true, List, [], ◌∷◌, map, slice_get, Option, Some, None, IfSome, is_none}
 use Rattle.std.specs.List.{AllByRecursion}
 use Rattle.svc_values.specs.declared.entry.Ltxid.{Ltxid}
+use Rattle.svc_values.specs.Identifiers.{IsLtxid}
 use Rattle.svc_values.specs.declared.frame.Up.{Up}
 use Rattle.svc_values.specs.declared.frame.Down.{Down}
 use Rattle.canon_bytes.specs.UpBytes.{spell_up, FitsUp, IsMadeUp}
-use Rattle.canon_bytes.specs.DownBytes.{spell_down, FitsDown}
+use Rattle.canon_bytes.specs.DownBytes.{spell_down, FitsDown, IsMadeDown}
 use Rattle.client_model.specs.declared.input.Input.TheVariants.{Took}
 use Rattle.world_model.specs.Frames.{Sent, Reply}
 use Rattle.outage_schedule.specs.declared.note.Reached.{Reached}
@@ -26,8 +27,8 @@ down_frames replies = map (λ one. one.frame) replies
 abbrev pub told_by_frame : Down → Option Ltxid
 told_by_frame frame = told_by (Took frame true)
 
--- It stands as the machine says, and its bytes are those of the frames that may still be served and taken. Frames to the server keep
--- the rules that a sender sees to.
+-- It stands as the machine says, and its bytes are those of the frames that may still be served and taken. Frames keep the rules that
+-- their sender sees to, and so does the identifier that is held.
 pub record IsLink (held : Connection) (link : Link) : Type 0 where
   pub is_open : link.is_open ≡ is_none held.ended
   pub ended : link.ended ≡ held.ended
@@ -38,6 +39,8 @@ pub record IsLink (held : Connection) (link : Link) : Type 0 where
   pub up : Carries spell_up FitsUp link.is_open (up_frames link.up) held.up
   pub made : AllByRecursion IsMadeUp (up_frames link.up)
   pub down : Carries spell_down FitsDown link.is_open (down_frames link.down) held.down
+  pub told : AllByRecursion IsMadeDown (down_frames link.down)
+  pub known : IfSome held.held IsLtxid
 
 -- the frame that is served next was taken off, where one may be served
 abbrev pub GivesFront : Link → Option Front → Option Up → Connection → Type 0
@@ -69,6 +72,10 @@ connection_at all (suc index) = slice_get all index
 abbrev pub MaySend : Option Connection → List Up → Type 0
 MaySend None frames = Unit {0}
 MaySend (Some held) frames = (frames ≡ []) ⊎ (held.ended ≡ None)
+
+-- one of this number is open, so that anything may be sent on it
+abbrev pub IsOpenAt : List Connection → ℕ → Type 0
+IsOpenAt all number = (frames : List Up) → MaySend (connection_at all number) frames
 
 -- it is the one of the machine
 abbrev pub IsFound : Option Connection → Option Link → Type 0

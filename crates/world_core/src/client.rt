@@ -1,5 +1,5 @@
 //! A client of a run.
-ghost use Rattle.std.specs.Prelude.{◌≡◌, ℕ, Bool, List, [], ◌∷◌, ◌++◌, Some, None, false, IsSome, IfSome, IsTrue, IfOk, OnOk};
+ghost use Rattle.std.specs.Prelude.{◌≡◌, ℕ, Bool, List, [], ◌∷◌, ◌++◌, Some, None, false, IsSome, IfSome, IsTrue, IfOk, OnOk, is_some};
 ghost use Rattle.std.specs.List.{AllByRecursion};
 ghost use Rattle.canon_bytes.specs.UpBytes.{IsMadeUp};
 ghost use Rattle.client_model.specs.Conversation.{may_come, is_gone_next};
@@ -10,9 +10,9 @@ ghost use Rattle.transcript_core.specs.Drafts.{IsDraft};
 ghost use Rattle.world_model.specs.Clients.{Doing, Client as Standing, doing_of, resting, past_of, script_at, after_hold};
 ghost use Rattle.world_model.specs.Settings.{Setting};
 ghost use Rattle.world_core.specs.Stepping.{connection_in};
-ghost use Rattle.world_core.specs.Coursing.{terms_in, step_of, IsFit, done_of, Begins, IsCourse, IsBeside, IsClient, IsSettled, Closes, Hears};
+ghost use Rattle.world_core.specs.Coursing.{terms_in, step_of, IsFit, done_of, Begins, with_connection, IsCourse, IsBeside, IsClient, IsSettled, Closes, Hears};
 
-use client_model::{Act, Hold, Input};
+use client_model::{Act, Hold, Input, Wants};
 use driver_core::Driver;
 use outage_schedule::{Request, RequestReport};
 use request_bounds::{BoundRule, Clocked};
@@ -139,6 +139,34 @@ impl<R: BoundRule + Copy> Client<R> {
         ensures left { self.new ≡ record self.old { course = None } }
     {
         self.course.take()
+    }
+
+    /// The request in course has this connection from now on.
+    pub(crate) fn connect(&mut self, connection: Option<u64>)
+        ensures { self.new ≡ record self.old { course = with_connection self.old.course connection } }
+    {
+        let Some(course) = self.take_course() else {
+            return;
+        };
+        self.keep(Course {
+            draft: course.draft,
+            connection,
+        });
+    }
+
+    /// Whether a request is in course.
+    pub(crate) fn is_busy(&self) -> bool
+        ensures { result ≡ is_some self.now.course }
+    {
+        self.course.is_some()
+    }
+
+    /// What the request in course wants at this tick.
+    pub(crate) fn wants(&self, tick: u64) -> Wants
+        requires { ArePast self.now.driver.talk tick }
+        ensures { result ≡ wants_of (terms_in R (λ rule. R.rules rule) self.now) self.now.driver.talk tick }
+    {
+        self.driver.wants(tick)
     }
 
     /// The request in course hears an input at this tick. What it gives is to be sent, and done with

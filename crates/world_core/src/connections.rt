@@ -1,7 +1,8 @@
 //! The connections of a run.
-ghost use Rattle.std.specs.Prelude.{◌≡◌, ◌+◌, ◌<◌, ◌⊎◌, ℕ, suc, List, [], ◌∷◌, ◌++◌, length, map, fold, Some, OnOk, IfOk, IfSome, MatchOption, if◌then◌else◌};
+ghost use Rattle.std.specs.Prelude.{◌≡◌, ◌+◌, ◌<◌, ◌⊎◌, ℕ, suc, List, [], ◌∷◌, ◌++◌, length, map, fold, Some, OnOk, IfOk, IfSome, MatchOption, is_none, if◌then◌else◌};
 ghost use Rattle.std.specs.Option.{option_copied};
 ghost use Rattle.std.specs.List.{AllByRecursion};
+ghost use Rattle.svc_values.specs.Identifiers.{IsLtxid};
 ghost use Rattle.canon_bytes.specs.UpBytes.{IsMadeUp};
 ghost use Rattle.canon_bytes.specs.DownBytes.{IsMadeDown};
 ghost use Rattle.outage_schedule.specs.declared.item.Served.{Served};
@@ -11,13 +12,13 @@ ghost use Rattle.world_model.specs.Links.{Link, new_link, link_at, with_link, ch
 ghost use Rattle.world_model.specs.Serving.{Front, is_last as is_last_def, front_at, after_front};
 ghost use Rattle.world_model.specs.Cutting.{open_at, has_orphan, reaped_link};
 ghost use Rattle.world_model.specs.Crashing.{fallen_link};
-ghost use Rattle.world_core.specs.Linked.{up_frames, Stand, connection_at, MaySend, IsFound, GivesFrontAt, GivesReplyAt, CutsAt};
+ghost use Rattle.world_core.specs.Linked.{up_frames, Stand, connection_at, MaySend, IsOpenAt, IsFound, GivesFrontAt, GivesReplyAt, CutsAt};
 
 use crate::connection::Connection;
 use outage_schedule::Reached;
 use pool_core::Pool;
 use std::alloc::Global;
-use svc_values::{Down, NoMemory, SessionId, Up};
+use svc_values::{Down, Ltxid, NoMemory, SessionId, Up};
 
 /// The connections of a run, numbered from 1 in order of opening. Each call finds one by its number
 /// in constant time.
@@ -66,9 +67,26 @@ impl Connections {
         self.all[at].session
     }
 
+    /// The identifier that is held on the one of this number.
+    pub fn held(&self, number: u64) -> Option<Ltxid>
+        ensures { (links : List Link) (link : Link) → link_at links number ≡ Some link → Stand self.now links → (result ≡ link.held) × IfSome result IsLtxid }
+    {
+        let at = self.place(number)?;
+        self.all[at].held
+    }
+
+    /// The event that ended the one of this number, if one did.
+    pub fn ended(&self, number: u64) -> Option<u64>
+        ensures { (links : List Link) (link : Link) → link_at links number ≡ Some link → Stand self.now links → (result ≡ link.ended) × (link.is_open ≡ is_none result) }
+    {
+        let at = self.place(number)?;
+        self.all[at].ended
+    }
+
     /// Opens one, and gives its number.
     pub fn add(&mut self) -> Result<u64, NoMemory>
         ensures number { IfOk result (λ number. number ≡ length self.old.all.items + 1) }
+        ensures is_open { IfOk result (λ number. IsOpenAt self.new.all.items number) }
         ensures added { IfOk result (λ number. (links : List Link) → Stand self.old links → (number ≡ length links + 1) × Stand self.new (links ++ new_link ∷ [])) }
     {
         self.all.push(Connection::new(self.alloc))?;

@@ -1,6 +1,7 @@
 //! The clock of a run, its connections and its pool.
-ghost use Rattle.std.specs.Prelude.{◌≡◌, ◌≢◌, ◌+◌, ◌<◌, ◌≤◌, ◌^◌, List, [], ◌∷◌, ◌++◌, map, fold, length, false, Some, OnOk, IfOk, IfSome};
+ghost use Rattle.std.specs.Prelude.{◌≡◌, ◌≢◌, ◌+◌, ◌<◌, ◌≤◌, ◌^◌, List, [], ◌∷◌, ◌++◌, map, fold, length, false, Some, OnOk, IfOk, IfSome, is_none};
 ghost use Rattle.std.specs.List.{AllByRecursion};
+ghost use Rattle.svc_values.specs.Identifiers.{IsLtxid};
 ghost use Rattle.canon_bytes.specs.UpBytes.{IsMadeUp};
 ghost use Rattle.canon_bytes.specs.DownBytes.{IsMadeDown};
 ghost use Rattle.pool_core.specs.Slots.{unused, take_answer, after_take, give_back_answer, after_gone, after_opened};
@@ -13,7 +14,7 @@ ghost use Rattle.world_model.specs.Acting.{closing};
 ghost use Rattle.world_model.specs.Cutting.{follow_cut, follow_reap};
 ghost use Rattle.world_model.specs.Crashing.{fallen_link};
 ghost use Rattle.world_model.specs.Outside.{ticked, follow_drain};
-ghost use Rattle.world_core.specs.Linked.{up_frames, connection_at, MaySend};
+ghost use Rattle.world_core.specs.Linked.{up_frames, connection_at, MaySend, IsOpenAt};
 ghost use Rattle.world_core.specs.Underway.{AreClosable, all_closed, IsUnderway, Leads, GivesFrontOf, GivesReplyOf, MayRelease, closes_with, IsWritten, IsStopped};
 
 use crate::answering::{crashed_item, is_blocked, is_last, served_item, session_served};
@@ -22,7 +23,7 @@ use client_model::Hold;
 use outage_schedule::{Reached, Served};
 use pool_core::{Back, Pool, Take};
 use std::alloc::Global;
-use svc_values::{Down, NoMemory, SessionId, Up};
+use svc_values::{Down, Ltxid, NoMemory, SessionId, Up};
 
 /// The clock of a run, its connections and its pool: what each event changes beside clients and
 /// service.
@@ -100,11 +101,27 @@ impl Traffic {
     /// Opens a connection, and gives its number.
     pub fn open(&mut self) -> Result<u64, NoMemory>
         requires { self.old.pool.opened ≤ length self.old.connections.all.items }
-        ensures { IfOk result (λ number. (m : Machine) → IsUnderway self.old m → (number ≡ length m.links + 1) × IsUnderway self.new (record m { links = m.links ++ new_link ∷ []; pool = after_opened m.pool number })) }
+        ensures is_open { IfOk result (λ number. IsOpenAt self.new.connections.all.items number) }
+        ensures tick { OnOk result (self.new.tick ≡ self.old.tick) }
+        ensures opened { IfOk result (λ number. (m : Machine) → IsUnderway self.old m → (number ≡ length m.links + 1) × IsUnderway self.new (record m { links = m.links ++ new_link ∷ []; pool = after_opened m.pool number })) }
     {
         let number = self.connections.add()?;
         self.pool.opened(number);
         Ok(number)
+    }
+
+    /// The identifier that is held on a connection.
+    pub fn held(&self, number: u64) -> Option<Ltxid>
+        ensures { (m : Machine) (link : Link) → link_at m.links number ≡ Some link → IsUnderway self.now m → (result ≡ link.held) × IfSome result IsLtxid }
+    {
+        self.connections.held(number)
+    }
+
+    /// The event that ended a connection, if one did.
+    pub fn ended(&self, number: u64) -> Option<u64>
+        ensures { (m : Machine) (link : Link) → link_at m.links number ≡ Some link → IsUnderway self.now m → (result ≡ link.ended) × (link.is_open ≡ is_none result) }
+    {
+        self.connections.ended(number)
     }
 
     /// Takes off the frame that is served next on a connection, if one may be served. Linear in the

@@ -88,7 +88,7 @@ one_less : (test : Bool) (number other : ℕ) (count : ℕ) → (other == number
 one_less true number other count is split = absurd (let never : ⊥ = omega arith in never)
 one_less false number other count is split = let none : count ≡ 0 = omega arith in (eq_flipped number other is, none)
 
-no_more : (number : ℕ) (numbers : List ℕ) → count_by (λ other. other == number) numbers ≡ 0 → all_with (differ number) numbers ≡ true
+pub no_more : (number : ℕ) (numbers : List ℕ) → count_by (λ other. other == number) numbers ≡ 0 → all_with (differ number) numbers ≡ true
 no_more number [] none = refl
 no_more number (other ∷ numbers) none =
     let parts = one_less (other == number) number other (count_by (λ one. one == number) numbers) refl (sym (sum_by-cons (λ (one : ℕ). cond (one == number) 1 0) other numbers) ∙ none) in

@@ -2,3 +2,10 @@
 
 -- a Connect is served before all others
 pub use Rattle.world_model.proofs.Fronts.{connect_first}
+-- a request that tries to connect or awaits a frame has a slot, and one that awaits a frame has a connection that was opened and is not idle
+pub use Rattle.world_model.proofs.Awaiting.{tries_lent, Awaits, awaits_frame}
+-- a connection that the pool lends is open and has an identifier, and with leave to open one a slot is lent
+pub use Rattle.world_model.proofs.Awaiting.{IsLent, is_lent, open_lent}
+-- nothing is sent where a frame comes from a connection that has ended, and a request that goes on behind a frame awaits another
+pub use Rattle.world_model.proofs.Awaiting.{dead_sends_none}
+pub use Rattle.world_model.proofs.TalkRests.{awaits_after}

@@ -1,0 +1,13 @@
+use Rattle.std.proofs.Common.{◌∙◌, sym, ap}
+use Rattle.world_model.specs.Links.{Link}
+use Rattle.world_core.proofs.Standing.{found_at, no_link, none_there}
+use Rattle.world_core.proofs.Serving.{some_link}
+use Rattle.world_core.proofs.connections.Connections.held.Goals as goal
+
+pub returns-in_err-at : goal.returns-in_err-at
+returns-in_err-at c = λ links link there are. none_there links c.args.number link (no_link c.args.self.now.all.items links c.args.number c.in_err-at.ensures are) there
+
+pub returns : goal.returns
+returns c = λ links link there are.
+    let found = found_at c.args.self.now.all.items c.args.number c.in_ok-at.at c.index.result.now c.in_ok-at.ensures c.index.ensures links are in
+    (sym found.2.ltxid ∙ ap (λ (l : Link). l.held) (some_link found.0 link (sym found.1 ∙ there)), found.2.known)
