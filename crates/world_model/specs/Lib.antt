@@ -25,6 +25,7 @@ pub mod Opening
 pub mod Outside
 pub mod Parts
 pub mod Reached
+pub mod RunLaws
 pub mod Ready
 pub mod Same
 pub mod Sames

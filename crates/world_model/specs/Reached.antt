@@ -1,5 +1,5 @@
 -- Where a run has come to: event by event, machine and service together.
-use Rattle.std.specs.Prelude.{◌≡◌, List, [], ◌∷◌, ◌++◌, length}
+use Rattle.std.specs.Prelude.{◌≡◌, List, [], ◌∷◌, ◌++◌, length, Some, None}
 use Rattle.outage_schedule.specs.declared.document.Document.{Document}
 use Rattle.outage_schedule.specs.declared.event.Event.{Event}
 use Rattle.outage_schedule.specs.declared.note.Note.{Note}
@@ -13,6 +13,7 @@ use Rattle.world_model.specs.Machines.{start_of}
 use Rattle.world_model.specs.Traced.{Traced}
 use Rattle.world_model.specs.Coupled.{Coupled}
 use Rattle.world_model.specs.OneEvent.{OneEvent}
+use Rattle.world_model.specs.Finishing.{Place, AtServer, next_finish}
 
 -- behind the opening before event 1
 abbrev pub traced_start : Document → Traced
@@ -33,3 +34,16 @@ pub data Reached (document : Document) : List Event → List Note → List Serve
   Begins : (seen : Seen) → seen.start ≡ service_base document → seen.history ≡ [] → Coupled seen (traced_start document) → Reached document [] [] [] seen (traced_start document)
   GoesOn : (events : List Event) (notes : List Note) (items more : List Served) (before after : Seen) (old new : Traced) (event : Event) (note : Note)
       → Reached document events notes items before old → OneEvent before old event note more [] after new → Reached document (events ++ event ∷ []) (notes ++ note ∷ []) (items ++ more) after new
+
+-- the whole schedule, and then the events of the finish so far, each the next one where it was made
+pub data IsFinishing (document : Document) : Place → List Note → List Served → Seen → Traced → Type 0 where
+  Scheduled : (notes : List Note) (items : List Served) (seen : Seen) (t : Traced) → Reached document document.schedule notes items seen t → IsFinishing document AtServer notes items seen t
+  Finishes : (place later : Place) (notes : List Note) (items more : List Served) (before after : Seen) (old new : Traced) (event : Event) (note : Note)
+      → IsFinishing document place notes items before old → next_finish old.machine place ≡ Some (event, later) → OneEvent before old event note more [] after new
+      → IsFinishing document later (notes ++ note ∷ []) (items ++ more) after new
+
+-- a whole run: the finish has no further event
+pub record IsRun (document : Document) (notes : List Note) (items : List Served) (seen : Seen) (t : Traced) : Type 0 where
+  pub place : Place
+  pub finishing : IsFinishing document place notes items seen t
+  pub over : next_finish t.machine place ≡ None

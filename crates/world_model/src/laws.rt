@@ -8,6 +8,7 @@ ghost use Rattle.world_model.specs.Hold.{are_had, are_queued, are_held, are_idle
 ghost use Rattle.world_model.specs.Number.{are_near, are_counted as are_numbered, are_told, are_served_near, are_ahead, blocks_next, entries_numbered, known_so_far, none_blocked};
 ghost use Rattle.world_model.specs.Shown.{are_given, in_rows, lose_own, answers_stand};
 ghost use Rattle.world_model.specs.Lost.{stay_gone, outcomes_lost, go_unasked, ask_rightly, have_events};
+ghost use Rattle.world_model.specs.RunLaws.{RunsAreFollowed, RunsAreOrderly};
 ghost use Rattle.world_model.specs.Basic.{have_risen, kept_ticks, items_rise, items_differ, is_down, are_ended, sessions_differ, are_made, are_counted, are_named, living_now, commits_counted, lives};
 
 /// The items of a connection are in the order of their events, which are past. An event has one item.
@@ -280,3 +281,16 @@ pub fn orderly_is_kept()
     commit_log::laws::keeps_journal();
     server_model::laws::runs_number();
 }
+
+/// Wherever a run of a document whose requests each have a call has come to, it is orderly.
+pub fn runs_are_orderly()
+    ensures { RunsAreOrderly }
+{
+    orderly_is_kept();
+}
+
+/// A report that has the notes and items of a whole run, and whose clients were shown what the run's were, is one that its events lead
+/// to.
+pub fn runs_are_followed()
+    ensures { RunsAreFollowed }
+{}

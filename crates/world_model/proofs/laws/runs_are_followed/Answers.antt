@@ -1,0 +1,5 @@
+use Rattle.world_model.proofs.RunsFollowed.{runs_followed}
+use Rattle.world_model.proofs.laws.runs_are_followed.Goals as goal
+
+pub returns : goal.returns
+returns c = runs_followed
