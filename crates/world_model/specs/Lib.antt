@@ -40,3 +40,6 @@ pub mod Walking
 pub mod Wanted
 pub mod Wire
 pub mod Words
+pub mod RoundsLeft
+pub mod Remaining
+pub mod FinishEnds

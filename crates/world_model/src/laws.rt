@@ -1,5 +1,6 @@
 //! What of the invariant holds of the start and is kept in each event, if what is orderly held before it. Each law is the clause of
 //! a function with nothing to run.
+ghost use Rattle.world_model.specs.FinishEnds.{FinishFalls, FinishBegins, FinishGoesOn};
 ghost use Rattle.world_model.specs.KeptLaws.{IsKept, IsKeptOfCalls, IsOfService, BasicBegins, BasicIsKept, WireBegins, WireIsKept, HoldBegins, HoldIsKept, IsKeptOfAll, StaysTrue, OrderlyIsKept, NumberBegins, NumberIsKept, TalksBegin, TalksAreKept};
 ghost use Rattle.world_model.specs.Wire.{sent_fronts, reply_fronts, are_handled, in_grammar, one_out, answered_in_order, up_lives, are_fresh};
 ghost use Rattle.world_model.specs.Ready.{are_ready};
@@ -294,3 +295,18 @@ pub fn runs_are_orderly()
 pub fn runs_are_followed()
     ensures { RunsAreFollowed }
 {}
+
+/// The finish of a run ends: each of its events leaves less of what is left, a number made of the rounds that clients may still take.
+pub fn finish_falls()
+    ensures { FinishFalls }
+{}
+
+/// The finish may begin in each orderly state, and behind each of its events the next one finds what it needs: an orderly state, and the
+/// server up.
+pub fn finish_goes_on()
+    ensures start { FinishBegins }
+    ensures event { FinishGoesOn }
+{
+    commit_log::laws::keeps_journal();
+    server_model::laws::runs_number();
+}
