@@ -1,6 +1,6 @@
 -- The frame that is served under a stop: answered, stopped, or none.
 use Rattle.std.proofs.Common.{◌≡◌, ◌≤◌, ◌<◌, ℕ, ◌+◌, ◌==◌, Bool, true, false, List, [], ◌∷◌, ◌++◌, Option, Some, None, length, refl, sym, ap, ◌∙◌, subst, arith, eq-eqb}
-use Rattle.std.specs.Prelude.{◌*◌, ◌&&◌, ◌||◌, not, cond, nat_le, if◌then◌else◌}
+use Rattle.std.specs.Prelude.{◌*◌, ◌&&◌, ◌||◌, not, nat_le, if◌then◌else◌}
 use Rattle.std.specs.Option.{option_map_or}
 use Rattle.std.proofs.lemmas.Bool.{le-leb, lt-ltb}
 use Rattle.std.proofs.lemmas.List.{append-nil}
@@ -168,7 +168,7 @@ module _ (seen new : Seen) (t : Traced) (number after : ℕ) (front : Front) (le
       let known = which t.machine.server stopped_seen front.link.session session number new.state.sessions coupled_stopped.server up living did.of_connection in
       let counted : is_commit served.item ≡ true → 1 ≤ length gains.more_entries = λ commits.
       one_more seen.state.store.entries gains.more_entries session front.link.commits
-      (ap (λ e. entries_in e session) (sym gains.entries) ∙ answered.counted ∙ ap (λ b. front.link.commits + cond b 1 0) (sym read.commits_so ∙ commits))
+      (ap (λ e. entries_in e session) (sym gains.entries) ∙ answered.stored (sym read.commits_so ∙ commits))
       (has_so seen.state.store.entries front.link session at.1 (named_by t.machine.server front.link.session session new.state.sessions known (ordered.is_first ∙ commit_later frame reply commits)) (coupled.stored number front.link at.0)) in
       let reaches : has_stored m.server served.item ≡ true → nat_le m.server.per_record after ≡ true = λ stored.
       let few = did.cause.reached after refl

@@ -21,6 +21,7 @@ pub mod Storing
 pub mod Fronts
 pub mod Ordered
 pub mod Recorded
+pub mod Counting
 pub mod Serving
 pub mod ServedFrames
 pub mod Questions

@@ -31,10 +31,11 @@ use Rattle.world_model.specs.KeptLaws.{OrderlyIsKept}
 use Rattle.world_model.specs.OneEvent.{OneEvent}
 use Rattle.world_core.specs.declared.traffic.Traffic.{Traffic}
 use Rattle.world_core.specs.Answering.{served_item}
-use Rattle.world_core.specs.InOrder.{IsAnswered, ServedWith, commits_in}
+use Rattle.world_core.specs.InOrder.{ServedWith, commits_in}
 use Rattle.world_core.specs.Underway.{IsUnderway, answered_link}
 use Rattle.world_core.specs.Making.{IsReady, IsAt, Made}
 use Rattle.world_core.proofs.Coupling.{View, view, living_in, living_view, begun, made}
+use Rattle.world_core.proofs.Counting.{counted_behind}
 use Rattle.world_core.proofs.Fronts.{front_there}
 use Rattle.world_core.proofs.Ordered.{ServesInOrder}
 use Rattle.world_core.proofs.Opening.{any_server}
@@ -157,15 +158,15 @@ pub some_link : (a b : Link) → ◌≡◌ {A = Option Link} (Some a) (Some b) �
 some_link a b e = cc
 
 stored_behind : (old new : Seen) (t : Traced) (number : ℕ) (front : Front) (served : Served) (reply : Option Down) (after : Link) → ((other : SessionId) → (other ≡ served.session → ⊥) → entries_in new.state.store.entries other ≡ entries_in old.state.store.entries other)
-    → ((other : ℕ) → (other ≡ number → ⊥) → old.state.living other ≡ Some (Some served.session) → ⊥) → Coupled old t → IsAnswered served.session front.link.commits front.first.frame reply new
+    → ((other : ℕ) → (other ≡ number → ⊥) → old.state.living other ≡ Some (Some served.session) → ⊥) → Coupled old t → entries_in new.state.store.entries served.session ≡ front.link.commits + cond (commits_in reply) 1 0
     → is_commit served.item ≡ commits_in reply → link_at t.machine.links number ≡ Some front.link → view after ≡ view_behind front served
     → (other : ℕ) (link : Link) → link_at (with_link t.machine.links number after) other ≡ Some link → HasStored new.state.store.entries (living_of (Some link)) link.commits
-stored_behind old new t number front served reply after others aparts coupled answered commits there looks other link found = by (eqb_tells other number)
+stored_behind old new t number front served reply after others aparts coupled counts commits there looks other link found = by (eqb_tells other number)
   where
     by : (((other == number) ≡ true) × (other ≡ number)) ⊎ (((other == number) ≡ false) × (other ≡ number → ⊥)) → HasStored new.state.store.entries (living_of (Some link)) link.commits
     by (inl (told, same)) =
         let is : after ≡ link = some_link after link (sym (link_same t.machine.links number front.link after there) ∙ ap (λ n. link_at (with_link t.machine.links number after) n) (sym same) ∙ found) in
-        let counted = answered.counted ∙ ap (λ b. front.link.commits + cond b 1 0) (sym commits) in
+        let counted = counts ∙ ap (λ b. front.link.commits + cond b 1 0) (sym commits) in
         subst (λ v. HasStored new.state.store.entries (living_in (Some v)) v.commits) (sym looks ∙ ap view is) (has_here new served.session (is_last served.item) (commits_after front.link served.item) counted)
     by (inr (told, apart)) =
         let at = sym (link_other t.machine.links number other after apart) ∙ found in
@@ -254,6 +255,10 @@ serves_front kept sees sees_later seen new t number front reply before after exa
     let from_here = session_from seen t number front session new.state.sessions coupled (sym coupled.server.is_up ∙ ordered.is_up) ordered.now there did.of_connection in
     let aparts = session_alone exact seen t number front session new.state.sessions coupled (sym coupled.server.is_up ∙ ordered.is_up) ordered.apart ordered.made there did.of_connection in
     let others = frame_others exact seen new number t.machine.tick frame reply did in
+    let up = sym coupled.server.is_up ∙ ordered.is_up in
+    let living : seen.state.living number ≡ Some front.link.session = coupled.living number ∙ ap living_of at.0 ∙ ap (λ b. if b then Some front.link.session else None) at.1 in
+    let known = which t.machine.server seen front.link.session session number new.state.sessions coupled.server up living did.of_connection in
+    let counted = counted_behind exact seen t number front.link session new.state.sessions coupled at.0 at.1 is.orderly.number.known new t.machine.tick frame reply known did refl answered.stored in
     let read = reads exact session number front.link.commits frame reply answered.answers in
     let by = served_so exact seen new t number front reply coupled there ordered history did in
     let link = handled m.event front served in
@@ -271,7 +276,7 @@ serves_front kept sees sees_later seen new t number front reply before after exa
       stops = ap stops_last did.history ∙ stops_behind seen (ServedFrame session t.machine.tick frame (telling_of reply) ∷ []) coupled.sound coupled.history (sym coupled.server.is_up ∙ ordered.is_up) coupled.stops (answered_last session t.machine.tick frame reply) (from_here, tt);
       server = server_behind t.machine.server seen new number t.machine.tick frame reply served.item coupled.server ordered.is_up did (did.is_up ∙ read.is_up) by.sessions_are;
       living = living_behind seen new t.machine.links number front served link coupled.living (λ other. did.living other ∙ ap (λ (living : Connections). living other) (read.living seen.state.living)) at.0 looks;
-      stored = stored_behind seen new t number front served reply link others aparts coupled answered read.commits_so at.0 looks;
+      stored = stored_behind seen new t number front served reply link others aparts coupled counted read.commits_so at.0 looks;
       entries = refl;
       blocked = refl;
       image = rw did.keeps.start coupled.image;

@@ -26,7 +26,7 @@ use Rattle.world_model.specs.Traced.{Traced}
 
 -- COUNTED -----------------------------------------------------------------------------------------
 
-abbrev counts : SessionId → Entry → ℕ
+abbrev pub counts : SessionId → Entry → ℕ
 counts session entry = cond (same_session (session_of entry.ltxid) session) 1 0
 
 entries_more : (old more : List Entry) (session : SessionId) → entries_in (old ++ more) session ≡ entries_in old session + entries_in more session
@@ -37,7 +37,7 @@ abbrev pub AreOf : SessionId → List Entry → Type 0
 AreOf session [] = Unit {0}
 AreOf session (entry ∷ entries) = (session ≡ session_of entry.ltxid) × AreOf session entries
 
-sessions_differ : AreExact → (a b : SessionId) → (a ≡ b → ⊥) → same_session a b ≡ false
+pub sessions_differ : AreExact → (a b : SessionId) → (a ≡ b → ⊥) → same_session a b ≡ false
 sessions_differ exact a b apart = by (same_session a b) refl
   where
     by : (told : Bool) → same_session a b ≡ told → same_session a b ≡ false
@@ -51,7 +51,7 @@ none_of exact session other (entry ∷ more) are apart =
     let rest : entries_in more other ≡ 0 = none_of exact session other more are.1 apart in
     sum_by-cons (counts other) entry more ∙ ap (λ (n : ℕ). n + entries_in more other) none ∙ ap (λ (n : ℕ). 0 + n) rest
 
-none_more : (n : ℕ) → n + 0 ≡ n
+pub none_more : (n : ℕ) → n + 0 ≡ n
 none_more n = omega arith
 
 -- other sessions have no more than before
@@ -121,7 +121,7 @@ neither true b true d p q = rw (p, q) refl
 neither true b false d p q = rw p refl
 neither false b c d p q = refl
 
-unmade : (t : Traced) → is_made t (next_session t.machine.server) ≡ false
+pub unmade : (t : Traced) → is_made t (next_session t.machine.server) ≡ false
 unmade t =
     let incarnation = t.machine.server.incarnation in
     let sessions = t.machine.server.sessions in

@@ -1,5 +1,5 @@
 -- A frame that is served in order, as the plain server serves it.
-use Rattle.std.specs.Prelude.{◌≡◌, ◌+◌, ℕ, Bool, false, cond, List, Option, Some, None, IfSome}
+use Rattle.std.specs.Prelude.{◌≡◌, ◌+◌, ℕ, Bool, true, false, cond, List, Option, Some, None, IfSome}
 use Rattle.svc_values.specs.declared.answer.Answer.{Answer}
 use Rattle.svc_values.specs.declared.call.Call.{Call}
 use Rattle.svc_values.specs.declared.draw.Draw.{Draw}
@@ -44,12 +44,12 @@ no_store store = ⊥
 abbrev pub ServedWith : Seen → ℕ → ℕ → Up → Option Down → Seen → Type 0
 ServedWith old number now frame reply new = ServedOne old number now frame (telling_of reply) no_store new
 
--- A frame was answered as the plain server answers one in order. Behind it the store has as many entries of the session as it has
--- answered commits, this one included.
+-- A frame was answered as the plain server answers one in order. Behind an answered commit the store has an entry of the session more
+-- than it has answered commits before.
 pub record IsAnswered (session : SessionId) (commits : ℕ) (frame : Up) (reply : Option Down) (new : Seen) : Type 0 where
   pub answers : Answers session commits frame reply
   pub made : IfSome reply IsMadeDown
-  pub counted : entries_in new.state.store.entries session ≡ commits + cond (commits_in reply) 1 0
+  pub stored : commits_in reply ≡ true → entries_in new.state.store.entries session ≡ commits + 1
 
 -- whatever the frame in front is answered, it is in order
 abbrev pub AnswersInOrder : Seen → Traced → ℕ → Front → Type 0
