@@ -4,7 +4,7 @@ use Rattle.std.proofs.lemmas.Bool.Decides.{nat_tests}
 use Rattle.std.proofs.lemmas.Int.{ints}
 use Rattle.std.proofs.lemmas.List.{drop_more}
 use Rattle.std.proofs.lemmas.List.Sums.{AllPass-from_list_all, list_all-from_AllPass}
-use Rattle.std.specs.Prelude.{pos, ◌+ℤ◌, int_lt, int_le, nat_lt, max, Result, Ok, Err, slice_index_or}
+use Rattle.std.specs.Prelude.{pos, ◌+ℤ◌, int_lt, int_le, nat_lt, max, Result, Ok, slice_index_or}
 use Rattle.std.specs.List.{list_all, flat_map}
 use Rattle.disk_model.specs.Disk.{DiskState, Lowered}
 use Rattle.svc_values.specs.declared.entry.Entry.{Entry}
@@ -97,12 +97,6 @@ entry_more first now next entries i entry within is schemas rows fit applied =
 
 -- ---- the core
 
-pub same_journal : (image : List ℕ) (a b : Journal) → journal_of image ≡ Ok a → journal_of image ≡ Ok b → a ≡ b
-same_journal image a b first second = let e : ◌≡◌ {A = Result Journal ℕ} (Ok a) (Ok b) = sym first ∙ second in cc
-
-pub may_open : (horizon : ℕ) (image : List ℕ) (can : CanOpen horizon image) (journal : Journal) → journal_of image ≡ Ok journal → (journal.incarnation < 2 ^ 63) × (horizon ≤ journal.incarnation + 1)
-may_open horizon image can journal reads = subst (λ (j : Journal). (j.incarnation < 2 ^ 63) × (horizon ≤ j.incarnation + 1)) (same_journal image can.journal journal can.reads reads) (can.incarnation, can.forgets)
-
 -- the journal with its opening
 opened_is : (horizon : ℕ) (image : List ℕ) (old journal : Journal) → journal_of image ≡ Ok old → with_opening horizon (journal_of image) ≡ Ok journal → journal ≡ record old { incarnation = old.incarnation + 1; horizon = max old.horizon horizon }
 opened_is horizon image old journal reads opened =
@@ -143,7 +137,3 @@ has_opened horizon grants old new log journal core can keeps added opened reads 
   added = added;
   stop = stop;
 }
-
--- a store that reads as a journal is not damaged
-pub not_damaged : {A : Type 0} (horizon : ℕ) (image : List ℕ) (place : ℕ) → CanOpen horizon image → journal_of image ≡ Err place → A
-not_damaged horizon image place can damaged = absurd (let e : ◌≡◌ {A = Result Journal ℕ} (Ok can.journal) (Err place) = sym can.reads ∙ damaged in cc)
