@@ -2,6 +2,7 @@ mod Stepped
 mod Placing
 mod Silence
 mod Steps
+mod Turns
 mod Resting
 mod Coursing
 mod Beginning

@@ -1,23 +1,22 @@
 -- What may be handed to a client that stands for the machine's, and what becomes of it.
-use Rattle.std.proofs.Common.{◌≡◌, ◌⊎◌, inl, inr, ℕ, zero, suc, ◌<◌, ◌≤◌, Bool, true, false, IsTrue, List, [], ◌∷◌, ◌++◌, Option, Some, None, refl, sym, ap, subst, ◌∙◌}
-use Rattle.std.specs.Prelude.{IfSome, is_none, is_some, slice_get, unwrap_or}
+use Rattle.std.proofs.Common.{◌≡◌, inl, inr, ℕ, zero, suc, ◌<◌, ◌≤◌, Bool, true, false, IsTrue, List, [], ◌∷◌, Option, Some, None, refl, sym, ap, subst, ◌∙◌}
+use Rattle.std.specs.Prelude.{IfSome, is_none, slice_get, unwrap_or}
 use Rattle.std.specs.Option.{option_map_or}
 use Rattle.svc_values.specs.Identifiers.{IsLtxid}
 use Rattle.svc_values.specs.declared.entry.Ltxid.{Ltxid}
 use Rattle.svc_values.specs.declared.frame.Up.{Up}
-use Rattle.pool_core.specs.Slots.{Slots, is_among, give_back_answer}
+use Rattle.pool_core.specs.Slots.{Slots, is_among}
 use Rattle.request_bounds.specs.Rules.{Rules}
 use Rattle.outage_schedule.specs.declared.document.Request.{Request}
-use Rattle.client_model.specs.declared.act.Act.{Act}
 use Rattle.client_model.specs.declared.act.Hold.{Hold}
 use Rattle.client_model.specs.declared.act.Hold.TheVariants.{Keep, GiveBack, Drop}
 use Rattle.client_model.specs.declared.input.Input.{Input}
 use Rattle.client_model.specs.declared.input.Wants.{Wants}
 use Rattle.client_model.specs.Conversation.{may_come, is_gone_next}
-use Rattle.client_model.specs.Talk.{Step, talk_step, wants_of}
+use Rattle.client_model.specs.Talk.{talk_step, wants_of}
 use Rattle.client_model.specs.Terms.{Terms, Talk}
 use Rattle.driver_core.specs.Driving.{ArePast}
-use Rattle.world_model.specs.Acting.{closing, act_at, connection_of, steps}
+use Rattle.world_model.specs.Acting.{act_at, steps}
 use Rattle.world_model.specs.Clients.{Doing, Client, client_at, with_client, heard, after_hold, after_step}
 use Rattle.world_model.specs.Links.{Link, link_at}
 use Rattle.world_model.specs.Machines.{Machine}
@@ -25,7 +24,7 @@ use Rattle.world_model.specs.Settings.{Setting}
 use Rattle.world_core.specs.declared.client.Course.{Course}
 use Rattle.world_core.specs.declared.connection.Connection.{Connection}
 use Rattle.world_core.specs.declared.traffic.Traffic.{Traffic}
-use Rattle.world_core.specs.Coursing.{Held, terms_in, step_of, IsCourse, IsNow, IsClient, with_connection}
+use Rattle.world_core.specs.Coursing.{Held, terms_in, step_of, IsNow, IsClient, with_connection}
 use Rattle.world_core.specs.Linked.{IsLink, AreLinks, connection_at, MaySend, IsOpenAt}
 use Rattle.world_core.specs.Stepping.{connection_in, is_going, IsGoing, IsPlaced, IsHis, Acts, Goes}
 use Rattle.world_core.specs.Underway.{IsUnderway, MayRelease}

@@ -9,7 +9,7 @@ use Rattle.pool_core.specs.Slots.{Slots, give_back_answer}
 use Rattle.client_model.specs.declared.act.Act.{Act}
 use Rattle.client_model.specs.declared.act.Failed.TheVariants.{Retries, PoolWait}
 use Rattle.client_model.specs.declared.act.Hold.{Hold}
-use Rattle.client_model.specs.declared.act.Hold.TheVariants.{Keep, GiveBack, Drop}
+use Rattle.client_model.specs.declared.act.Hold.TheVariants.{Keep, Drop}
 use Rattle.client_model.specs.declared.input.Wants.TheVariants as wants
 use Rattle.client_model.specs.Talk.{stands, quiet, fails, with_tried, lost_of, begin_of, loses, on_waiting, on_try_failed, on_hello, sends_or_ends, next_call, takes, wants_in}
 use Rattle.client_model.specs.Terms.{Terms, Talk, Phase, Idle, Unbegun, Queued, Seeking, Greeting, Asked, Running, Replaying, unsubmitted}
@@ -100,7 +100,7 @@ lent_going terms talk ltxid now keeps = by (next_call talk) keeps
     by None keeps = absurd (let none : ⊥ = cc in none)
     by (Some call) keeps = refl
 
-frame_going : (terms : Terms) (talk : Talk) (phase : Phase) (now : ℕ) → wants_in terms talk phase now ≡ wants.Frame → is_going phase ≡ true
+pub frame_going : (terms : Terms) (talk : Talk) (phase : Phase) (now : ℕ) → wants_in terms talk phase now ≡ wants.Frame → is_going phase ≡ true
 frame_going terms talk Idle now is = absurd (let none : ⊥ = cc in none)
 frame_going terms talk Unbegun now is = absurd (let none : ⊥ = cc in none)
 frame_going terms talk (Queued from) now is = refl

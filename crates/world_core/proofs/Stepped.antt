@@ -10,10 +10,10 @@ use Rattle.client_model.specs.declared.input.Input.{Input}
 use Rattle.client_model.specs.Conversation.{is_gone_next}
 use Rattle.client_model.specs.Released.{released}
 use Rattle.client_model.specs.Terms.{Terms, Talk}
-use Rattle.world_model.specs.Acting.{closing, frames_of, act_at, connection_of, call_in, sent_by, owner_at, steps}
+use Rattle.world_model.specs.Acting.{closing, frames_of, act_at, connection_of, call_in, sent_by, owner_at}
 use Rattle.world_model.specs.Clients.{Doing, Client, heard, after_hold}
 use Rattle.world_model.specs.Frames.{Owner, Sent}
-use Rattle.world_model.specs.Links.{Link, changed, sends}
+use Rattle.world_model.specs.Links.{changed, sends}
 use Rattle.world_model.specs.Machines.{Machine}
 use Rattle.world_model.specs.Settings.{Setting}
 use Rattle.world_core.specs.declared.client.Course.{Course}

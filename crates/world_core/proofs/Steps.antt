@@ -1,45 +1,39 @@
 -- One step of a client, by what its request wants.
-use Rattle.std.proofs.Common.{◌≡◌, ℕ, ◌+◌, ◌<◌, ◌≤◌, Bool, true, false, IsTrue, List, [], ◌∷◌, ◌++◌, Option, Some, None, length, refl, sym, ap, subst, ◌∙◌, eq-eqb}
-use Rattle.std.specs.Prelude.{is_none, is_some, unwrap_or, option_and_then, option_map, if◌then◌else◌}
-use Rattle.std.specs.Option.{option_or, option_map_or}
+use Rattle.std.proofs.Common.{◌≡◌, ℕ, ◌+◌, ◌≤◌, Bool, true, false, List, [], ◌∷◌, ◌++◌, Option, Some, None, length, refl, sym, ap, subst, ◌∙◌, eq-eqb}
+use Rattle.std.specs.Prelude.{is_none, unwrap_or, if◌then◌else◌}
 use Rattle.std.specs.List.{AllByRecursion}
 use Rattle.svc_values.specs.declared.entry.Ltxid.{Ltxid}
+use Rattle.svc_values.specs.declared.frame.Up.{Up}
 use Rattle.svc_values.specs.declared.frame.Down.{Down}
 use Rattle.svc_values.specs.declared.frame.Down.TheVariants as down
-use Rattle.pool_core.specs.declared.answers.Take.{Take}
-use Rattle.pool_core.specs.declared.answers.Take.TheVariants as take
-use Rattle.pool_core.specs.Slots.{Slots, take_answer, after_take, after_opened}
+use Rattle.pool_core.specs.declared.answers.Back.{Back}
+use Rattle.pool_core.specs.Slots.{Slots, after_opened}
 use Rattle.canon_bytes.specs.DownBytes.{IsMadeDown}
 use Rattle.request_bounds.specs.Rules.{Rules}
 use Rattle.outage_schedule.specs.declared.document.Request.{Request}
-use Rattle.outage_schedule.specs.declared.note.GoNote.{GoNote}
 use Rattle.outage_schedule.specs.declared.note.GoNote.TheVariants as go
-use Rattle.client_model.specs.declared.act.Hold.{Hold}
-use Rattle.client_model.specs.declared.act.Hold.TheVariants.{Keep, GiveBack, Drop}
 use Rattle.client_model.specs.declared.input.Input.{Input}
-use Rattle.client_model.specs.declared.input.Input.TheVariants.{TryFailed, Opened, Lent, Took, Gone}
+use Rattle.client_model.specs.declared.input.Input.TheVariants.{TryFailed, Opened, Lent, Took}
 use Rattle.client_model.specs.declared.input.Wants.{Wants}
 use Rattle.client_model.specs.declared.input.Wants.TheVariants as wants
 use Rattle.client_model.specs.Conversation.{may_come, is_wanted}
-use Rattle.client_model.specs.Talk.{wants_of}
 use Rattle.driver_core.specs.Driving.{HasLtxids}
-use Rattle.world_model.specs.Acting.{steps, act_at, frames_of, connection_of}
-use Rattle.world_model.specs.Clients.{Doing, Client, client_at, doing_of, begun}
+use Rattle.world_model.specs.Acting.{closing, loses, steps, act_at, frames_of, connection_of}
+use Rattle.world_model.specs.Clients.{Doing, Client}
 use Rattle.world_model.specs.Frames.{Reply}
-use Rattle.world_model.specs.Going.{tries_while, noted, lends}
-use Rattle.world_model.specs.Invariant.{Orderly}
+use Rattle.world_model.specs.Going.{tries_while, noted, lends, finds_none}
 use Rattle.world_model.specs.Links.{Link, new_link, link_at}
 use Rattle.world_model.specs.Machines.{Machine}
 use Rattle.world_model.specs.Settings.{Setting}
-use Rattle.world_model.specs.Traced.{Traced}
-use Rattle.world_model.proofs.Offered.{IsLent, is_lent, open_lent, Awaits, awaits_frame, tries_lent}
+use Rattle.world_model.proofs.Offered.{dead_sends_none}
 use Rattle.world_core.specs.declared.connection.Connection.{Connection}
 use Rattle.world_core.specs.declared.traffic.Traffic.{Traffic}
-use Rattle.world_core.specs.Coursing.{Held, IsClient}
-use Rattle.world_core.specs.Linked.{IsLink, AreLinks, IsOpenAt, down_frames}
-use Rattle.world_core.specs.Stepping.{is_going, IsGoing, at_next, IsPlaced, IsHis, SomePlaced, SomeTrying, IsOffered, SomeOffered, IsAwaiting, SomeAwaiting, IsTurn, SomeTurn}
+use Rattle.world_core.specs.Coursing.{Held, IsClient, terms_in, step_of}
+use Rattle.world_core.specs.Linked.{MaySend, down_frames}
+use Rattle.world_core.specs.Stepping.{IsGoing, IsPlaced, IsHis, Goes}
 use Rattle.world_core.specs.Underway.{IsUnderway}
-use Rattle.world_core.proofs.Placing.{HeldAt, held_at}
+use Rattle.world_core.proofs.Placing.{held_at, may_nothing}
+use Rattle.world_core.proofs.Silence.{frame_going}
 use Rattle.world_core.proofs.Standing.{same_length}
 
 -- TRIES -------------------------------------------------------------------------------------------
@@ -117,3 +111,43 @@ took_noted setting m doing connection many input next has sent =
     let count : ℕ = length (frames_of m.pool connection (act_at setting m doing input)) in
     let same : many ≡ count = sent ∙ ap (λ (one : Option ℕ). length (frames_of m.pool (unwrap_or one 0) (act_at setting m doing input))) has in
     rw (eq-eqb connection connection refl, eq-eqb many count same) refl
+
+-- nothing is sent on a connection that has ended
+pub dead_may : (R : Type 0) (rules : R → Rules) (held : Held R) (frame : Down) (tick : ℕ) (back : Back) (found : Option Connection)
+    → MaySend found ((step_of R rules held (Took frame false) tick).1.send ++ closing (step_of R rules held (Took frame false) tick).1.hold back)
+dead_may R rules held frame tick back found = subst (λ (frames : List Up). MaySend found frames) (sym (dead_sends_none (terms_in R rules held) held.driver.talk frame tick back)) (may_nothing found)
+
+-- WITHOUT A FRAME ---------------------------------------------------------------------------------
+
+module _ (R : Type 0) (rules : R → Rules) (script : List Request) (number : ℕ) (traffic : Traffic) (held : Held R) (setting : Setting) (m : Machine) (client : Client) (doing : Doing) where
+  -- nothing is done
+  pub stays_there : IsPlaced R rules script number wants.Frame false traffic held setting m client doing → client.now ≡ Some doing → (next : Option Machine) → next ≡ Some m → Goes R rules setting m number next traffic held
+  stays_there at now next follows = record {
+    after = m;
+    client = client;
+    followed = follows;
+    underway = at.underway;
+    placed = at.there;
+    others = λ other apart. refl;
+    same = (refl, refl, refl);
+    stands = subst (λ (one : Option Doing). IsClient R rules setting number m.tick false held (record client { now = one })) (sym now) at.stands;
+    going = subst (λ (one : Option Doing). IsGoing one) (sym now) (frame_going setting.terms doing.talk doing.talk.phase m.tick at.wants);
+  }
+
+  ended_as : (connection : ℕ) (link : Link) → IsPlaced R rules script number wants.Frame false traffic held setting m client doing → IsHis m connection link → link.is_open ≡ is_none link.ended
+  ended_as connection link at his =
+      let found = held_at traffic.connections.all.items m.links connection link at.underway.links his.found in
+      found.2.is_open ∙ ap (λ (ended : Option ℕ). is_none ended) (sym found.2.ended)
+
+  pub found_open : (connection : ℕ) (link : Link) → IsPlaced R rules script number wants.Frame false traffic held setting m client doing → IsHis m connection link → link.ended ≡ None
+      → finds_none setting m number go.NoFrame doing connection link ≡ Some m
+  found_open connection link at his unended =
+      ap (λ (b : Bool). if b then noted go.NoFrame go.NoFrame m else noted go.NoFrame (go.Lost connection) (loses setting m number doing link.ended))
+      (ended_as connection link at his ∙ ap (λ (ended : Option ℕ). is_none ended) unended)
+
+  pub found_lost : (connection : ℕ) (link : Link) (event : ℕ) → IsPlaced R rules script number wants.Frame false traffic held setting m client doing → IsHis m connection link → link.ended ≡ Some event
+      → finds_none setting m number (go.Lost connection) doing connection link ≡ Some (loses setting m number doing (Some event))
+  found_lost connection link event at his ends =
+      ap (λ (b : Bool). if b then noted (go.Lost connection) go.NoFrame m else noted (go.Lost connection) (go.Lost connection) (loses setting m number doing link.ended))
+      (ended_as connection link at his ∙ ap (λ (ended : Option ℕ). is_none ended) ends)
+      ∙ rw (eq-eqb connection connection refl) (ap (λ (ended : Option ℕ). Some (loses setting m number doing ended)) ends)

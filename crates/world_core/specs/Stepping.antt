@@ -5,7 +5,6 @@ use Rattle.svc_values.specs.declared.entry.Ltxid.{Ltxid}
 use Rattle.pool_core.specs.Slots.{is_among}
 use Rattle.request_bounds.specs.Rules.{Rules}
 use Rattle.outage_schedule.specs.declared.document.Request.{Request}
-use Rattle.client_model.specs.declared.act.Act.{Act}
 use Rattle.client_model.specs.declared.input.Input.{Input}
 use Rattle.client_model.specs.declared.input.Wants.{Wants}
 use Rattle.client_model.specs.declared.input.Wants.TheVariants as wants

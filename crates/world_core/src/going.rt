@@ -10,8 +10,8 @@ ghost use Rattle.driver_core.specs.Driving.{ArePast, HasLtxids};
 ghost use Rattle.outage_schedule.specs.declared.note.GoNote.TheVariants as go;
 ghost use Rattle.pool_core.specs.Slots.{give_back_answer};
 ghost use Rattle.world_model.specs.Acting.{closing, act_at, frames_of, steps, loses};
-ghost use Rattle.world_model.specs.Clients.{Doing, Client as Standing, script_at};
-ghost use Rattle.world_model.specs.Going.{noted, tries_while, lends};
+ghost use Rattle.world_model.specs.Clients.{Doing, Client as Standing, doing_at, script_at};
+ghost use Rattle.world_model.specs.Going.{noted, tries_while, lends, lost_at_once, finds_none};
 ghost use Rattle.world_model.specs.Links.{Link};
 ghost use Rattle.world_model.specs.Machines.{Machine};
 ghost use Rattle.world_model.specs.Settings.{Setting};
@@ -146,5 +146,51 @@ impl<R: BoundRule + Copy> Client<R> {
         let input = Input::Took { frame, alive: true };
         let sent = self.act(traffic, script, number, true, &input)?;
         Ok(GoNote::Took { connection, sent })
+    }
+
+    /// The request in course takes a frame from its connection, which this event ended. Where it goes on the connection is lost at
+    /// once.
+    pub fn hear_ended(
+        &mut self,
+        traffic: &mut Traffic,
+        script: &[Request],
+        number: u64,
+        connection: u64,
+        frame: Down,
+        event: u64,
+    ) -> Result<GoNote, NoMemory>
+        requires awaits { SomeAwaiting R (λ rule. R.rules rule) script.now number connection (Some event) traffic.old self.old }
+        requires ltxids { HasLtxids (Took frame false) }
+        ensures { IfOk result (λ note. (setting : Setting) (m : Machine) (client : Standing) (doing : Doing) (link : Link) → IsPlaced R (λ rule. R.rules rule) script.now number wants.Frame false traffic.old self.old setting m client doing → IsAwaiting m doing connection (Some event) link → Goes R (λ rule. R.rules rule) setting m number (noted note (go.Took connection (length (frames_of m.pool connection (act_at setting m doing (Took frame false))))) (lost_at_once setting (steps setting m number doing true (Took frame false)) number (Some event) (doing_at (steps setting m number doing true (Took frame false)).clients number))) traffic.new self.new) }
+    {
+        let input = Input::Took {
+            frame,
+            alive: false,
+        };
+        let sent = self.act(traffic, script, number, true, &input)?;
+        if !self.is_busy() {
+            return Ok(GoNote::Took { connection, sent });
+        }
+        self.lose(traffic, script, number, event)?;
+        Ok(GoNote::Took { connection, sent })
+    }
+
+    /// No whole frame stands on the connection of the request in course: it waits on, or the connection is lost.
+    pub fn find_none(
+        &mut self,
+        traffic: &mut Traffic,
+        script: &[Request],
+        number: u64,
+        connection: u64,
+        ended: Option<u64>,
+    ) -> Result<GoNote, NoMemory>
+        requires { SomeAwaiting R (λ rule. R.rules rule) script.now number connection ended traffic.old self.old }
+        ensures { IfOk result (λ note. (setting : Setting) (m : Machine) (client : Standing) (doing : Doing) (link : Link) → IsPlaced R (λ rule. R.rules rule) script.now number wants.Frame false traffic.old self.old setting m client doing → client.now ≡ Some doing → IsAwaiting m doing connection ended link → Goes R (λ rule. R.rules rule) setting m number (finds_none setting m number note doing connection link) traffic.new self.new) }
+    {
+        let Some(event) = ended else {
+            return Ok(GoNote::NoFrame);
+        };
+        self.lose(traffic, script, number, event)?;
+        Ok(GoNote::Lost { connection })
     }
 }

@@ -1,4 +1,4 @@
-use Rattle.std.proofs.Common.{◌≡◌, ◌<◌, false, true, Some, refl, subst}
+use Rattle.std.proofs.Common.{◌<◌, false, true, Some, refl, subst}
 use Rattle.pool_core.specs.Slots.{Slots}
 use Rattle.client_model.specs.declared.input.Input.TheVariants.{TryFailed}
 use Rattle.world_model.specs.Acting.{steps}

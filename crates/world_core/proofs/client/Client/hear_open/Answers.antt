@@ -1,4 +1,4 @@
-use Rattle.std.proofs.Common.{◌≡◌, ◌++◌, false, true, Some, None, length, refl}
+use Rattle.std.proofs.Common.{◌++◌, false, true, Some, length, refl}
 use Rattle.pool_core.specs.Slots.{give_back_answer}
 use Rattle.client_model.specs.declared.input.Input.TheVariants.{Took}
 use Rattle.client_model.specs.declared.input.Wants.TheVariants as wants

@@ -1,4 +1,4 @@
-use Rattle.std.proofs.Common.{◌≡◌, true, Some, None, refl}
+use Rattle.std.proofs.Common.{true, Some, None, refl}
 use Rattle.client_model.specs.declared.input.Input.TheVariants.{Gone}
 use Rattle.client_model.specs.declared.input.Wants.TheVariants as wants
 use Rattle.world_model.specs.Acting.{loses}

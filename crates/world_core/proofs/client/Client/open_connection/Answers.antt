@@ -1,4 +1,4 @@
-use Rattle.std.proofs.Common.{◌≡◌, ◌∷◌, false, true, Some, [], refl}
+use Rattle.std.proofs.Common.{◌∷◌, false, true, Some, [], refl}
 use Rattle.svc_values.specs.declared.frame.Up.TheVariants as up
 use Rattle.client_model.specs.declared.input.Input.TheVariants.{Opened}
 use Rattle.world_model.specs.Clients.{Doing}

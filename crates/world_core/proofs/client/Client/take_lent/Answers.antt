@@ -1,5 +1,4 @@
-use Rattle.std.proofs.Common.{◌≡◌, ◌++◌, false, true, Option, Some, None, refl, sym, ap, subst, ◌∙◌}
-use Rattle.svc_values.specs.declared.entry.Ltxid.{Ltxid}
+use Rattle.std.proofs.Common.{◌≡◌, ◌++◌, false, true, Some, refl, ◌∙◌}
 use Rattle.pool_core.specs.Slots.{give_back_answer}
 use Rattle.client_model.specs.declared.input.Input.TheVariants.{Lent}
 use Rattle.client_model.specs.declared.input.Wants.TheVariants as wants

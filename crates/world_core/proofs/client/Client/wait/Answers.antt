@@ -1,4 +1,4 @@
-use Rattle.std.proofs.Common.{◌≡◌, false, Some, refl}
+use Rattle.std.proofs.Common.{false, Some, refl}
 use Rattle.client_model.specs.declared.input.Input.TheVariants.{Waiting}
 use Rattle.client_model.specs.declared.input.Wants.TheVariants as wants
 use Rattle.client_model.specs.Talk.{waits_from}
