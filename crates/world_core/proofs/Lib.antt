@@ -7,6 +7,7 @@ mod Resting
 mod Coursing
 mod Beginning
 pub mod Carrying
+pub mod Forgetting
 pub mod Linking
 pub mod Standing
 pub mod Underway

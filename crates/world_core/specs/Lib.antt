@@ -2,6 +2,7 @@ pub mod Stepping
 pub mod Coursing
 pub mod Carrying
 pub mod Linked
+pub mod Forgetting
 pub mod Underway
 pub mod Making
 pub mod Answering
