@@ -66,15 +66,15 @@ pub data Behind (setting : Setting) (first : Doing) (held : Hold) (opens : Bool)
   LostBehind : (event tick : ℕ) → opens ≡ false → held ≡ hold.Keep → Behind setting first held opens ended (heard setting.terms event tick (record first { connection = None }) (Gone (unwrap_or ended 0)))
 
 -- which connection the input is of, and what becomes of it
-pub data HeardOn (setting : Setting) (m n : Machine) (who : ℕ) (first : Doing) (held : Hold) (after : Doing) : Option ℕ → Input → Type 0 where
-  OfNone : (had : Option ℕ) (input : Input) → brought input ≡ None → is_frame input ≡ false → after ≡ first → HeardOn setting m n who first held after had input
-  OfIdle : (had : Option ℕ) (connection : ℕ) (ltxid : Ltxid) → take_answer m.pool who ≡ take.Lent connection → after ≡ first → HeardOn setting m n who first held after had (Lent connection ltxid)
-  OfNew : (had : Option ℕ) → after ≡ first → HeardOn setting m n who first held after had (Opened (next_number m))
-  OfReply : (had : Option ℕ) (connection : ℕ) (link : Link) (reply : Reply) (left : List Reply) (frames : List Sent) → had ≡ Some connection → link_at m.links connection ≡ Some link → link.down ≡ reply ∷ left
-      → link_at n.links connection ≡ Some (sends m.event frames (takes (Took reply.frame link.is_open) reply left link)) → Behind setting first held link.is_open link.ended after
-      → HeardOn setting m n who first held after had (Took reply.frame link.is_open)
+pub data HeardOn (setting : Setting) (m n : Machine) (who : ℕ) (first : Doing) (held : Hold) (said : List Sent) (after : Doing) : Option ℕ → Input → Type 0 where
+  OfNone : (had : Option ℕ) (input : Input) → brought input ≡ None → is_frame input ≡ false → after ≡ first → HeardOn setting m n who first held said after had input
+  OfIdle : (had : Option ℕ) (connection : ℕ) (ltxid : Ltxid) → take_answer m.pool who ≡ take.Lent connection → after ≡ first → HeardOn setting m n who first held said after had (Lent connection ltxid)
+  OfNew : (had : Option ℕ) → after ≡ first → HeardOn setting m n who first held said after had (Opened (next_number m))
+  OfReply : (had : Option ℕ) (connection : ℕ) (link : Link) (reply : Reply) (left : List Reply) → had ≡ Some connection → link_at m.links connection ≡ Some link → link.down ≡ reply ∷ left
+      → link_at n.links connection ≡ Some (sends m.event said (takes (Took reply.frame link.is_open) reply left link)) → Behind setting first held link.is_open link.ended after
+      → HeardOn setting m n who first held said after had (Took reply.frame link.is_open)
   OfEnded : (had : Option ℕ) (connection : ℕ) (link : Link) → had ≡ Some connection → link_at m.links connection ≡ Some link → link.is_open ≡ false → link_at n.links connection ≡ Some link → after ≡ first
-      → HeardOn setting m n who first held after had (Gone (unwrap_or link.ended 0))
+      → HeardOn setting m n who first held said after had (Gone (unwrap_or link.ended 0))
 
 -- Of this client: what its request hears on which connection, and where it stands then; and what it sends there.
 pub record HasStepped (setting : Setting) (m : Machine) (number : ℕ) (n : Machine) : Type 0 where
@@ -90,10 +90,11 @@ pub record HasStepped (setting : Setting) (m : Machine) (number : ℕ) (n : Mach
   pub after : Doing
   pub held : Hold
   pub goes_on : GoesOn setting (heard setting.terms m.event m.tick (record before { connection = connection }) input) (step_at setting.terms m.event m.tick (record before { connection = connection }) input).done.act.hold after held
-  pub heard_on : HeardOn setting m n number (heard setting.terms m.event m.tick (record before { connection = connection }) input) (step_at setting.terms m.event m.tick (record before { connection = connection }) input).done.act.hold after
-      before.connection input
   pub clients_are : n.clients ≡ with_client m.clients number (after_hold setting number client after held)
   pub pool : Slots
+  pub heard_on : HeardOn setting m n number (heard setting.terms m.event m.tick (record before { connection = connection }) input) (step_at setting.terms m.event m.tick (record before { connection = connection }) input).done.act.hold
+      (map (sent_by (owner_at m number) (call_in (heard setting.terms m.event m.tick (record before { connection = connection }) input).talk.phase))
+      (frames_of pool (unwrap_or connection 0) (step_at setting.terms m.event m.tick (record before { connection = connection }) input).done.act)) after before.connection input
   pub lists : List (List Sent)
   pub grows : Grows (sent_lists m.links) lists
   pub brings : Brings m lists input
@@ -125,7 +126,7 @@ module _ (setting : Setting) (m : Machine) (number : ℕ) where
       → doing_of setting.terms m.event m.tick client ≡ Some before → connected before.connection input ≡ connection → Heard before connection input → Grows (sent_lists m.links) (sent_lists links) → Brings m (sent_lists links) input
       → n.clients ≡ after_step setting m.clients number (FirstOf before connection input) (ActOf before connection input).hold
       → n.links ≡ changed (sends m.event (SaidOf pool before connection input)) links (unwrap_or connection 0)
-      → HeardOn setting m n number (FirstOf before connection input) (ActOf before connection input).hold (FirstOf before connection input) before.connection input → HasStepped setting m number n
+      → HeardOn setting m n number (FirstOf before connection input) (ActOf before connection input).hold (SaidOf pool before connection input) (FirstOf before connection input) before.connection input → HasStepped setting m number n
   one_step n client before connection input pool links here does connects hears grows brings clients said on = record {
     client = client;
     here = here;
@@ -160,7 +161,7 @@ module _ (setting : Setting) (m : Machine) (number : ℕ) where
       → a.clients ≡ after_step setting m.clients number (FirstOf before connection input) (ActOf before connection input).hold
       → a.links ≡ changed (sends m.event (SaidOf pool before connection input)) links (unwrap_or connection 0)
       → ((n : Machine) (after : Doing) → n.links ≡ a.links → Behind setting (FirstOf before connection input) (ActOf before connection input).hold alive ended after
-      → HeardOn setting m n number (FirstOf before connection input) (ActOf before connection input).hold after before.connection input)
+      → HeardOn setting m n number (FirstOf before connection input) (ActOf before connection input).hold (SaidOf pool before connection input) after before.connection input)
       → HasStepped setting m number (if alive then a else lost_at_once setting a number ended (doing_at a.clients number))
   unless_step a ended true client before connection input pool links here does connects hears grows brings clients said on =
       one_step a client before connection input pool links here does connects hears grows brings clients said (on a (FirstOf before connection input) refl (AsFirst (λ shut keep. let none : ⊥ = cc in none)))
@@ -280,7 +281,7 @@ module _ (setting : Setting) (m : Machine) where
       Stepped number (unless_step setting m number (takes_one setting m number doing connection link reply left) link.ended link.is_open is.client doing doing.connection (Took reply.frame link.is_open) m.pool
       (with_link m.links connection taken) is.here is.does refl (may_so doing wants.Frame (Took reply.frame link.is_open) is.wants refl, some_none doing.connection connection _ on.has)
       (grown (with_link m.links connection taken) (with_same m.links connection link taken on.there refl)) (NoneNew (Took reply.frame link.is_open) refl) refl refl
-      (λ n after same behind. OfReply doing.connection connection link reply left (SaidOf setting m number m.pool doing doing.connection (Took reply.frame link.is_open)) on.has on.there down
+      (λ n after same behind. OfReply doing.connection connection link reply left on.has on.there down
       (ap (λ (all : List Link). link_at all connection) same ∙ taken_there (SaidOf setting m number m.pool doing doing.connection (Took reply.frame link.is_open)) connection doing link taken on) behind))
   goes_step number _ (Loses doing connection link is on none closed) =
       Stepped number (one_step setting m number _ is.client doing None (Gone (unwrap_or link.ended 0)) m.pool m.links is.here is.does refl

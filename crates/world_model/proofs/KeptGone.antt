@@ -13,6 +13,7 @@ use Rattle.client_model.specs.declared.input.Input.TheVariants.{Start, Waiting, 
 use Rattle.world_model.specs.Clients.{Doing, Client, client_at, after_hold}
 use Rattle.world_model.specs.Conversing.{connected}
 use Rattle.world_model.specs.Hold.{idle_of, is_idle, is_had, are_had, holders_of, is_held}
+use Rattle.world_model.specs.Frames.{Sent}
 use Rattle.world_model.specs.Invariant.{Orderly}
 use Rattle.world_model.specs.KeptLaws.{IsKeptOfAll}
 use Rattle.world_model.specs.Links.{Link, link_at}
@@ -162,14 +163,14 @@ module _ (t : Traced) (inv : Orderly t) (new : Traced) (setting : new.setting �
     not_brought : (number : ℕ) (link : Link) → link_at t.machine.links number ≡ Some link → link.is_open ≡ false → brought step.input ≡ Some number → ⊥
     not_brought number link there shut = by step.before.connection step.input step.after step.heard_on
       where
-        by : {kept : Hold} (had : Option ℕ) (input : Input) (after : Doing) → HeardOn t.setting now new.machine who (first_doing t.setting now inv.script.talks who new.machine step) kept after had input → brought input ≡ Some number → ⊥
+        by : {kept : Hold} {said : List Sent} (had : Option ℕ) (input : Input) (after : Doing) → HeardOn t.setting now new.machine who (first_doing t.setting now inv.script.talks who new.machine step) kept said after had input → brought input ≡ Some number → ⊥
         by _ _ after (OfNone had input none frame same) is = let never : ⊥ = cc in never
         by _ _ after (OfIdle had connection ltxid answer same) is =
             let equal : connection ≡ number = cc in
             let rests : is_idle link ≡ true = lent_idle t.machine.pool who connection t.machine.links link answer (held_now t inv).idle (ap (link_at t.machine.links) equal ∙ there) in
             not_both link.is_open (and_parts link.is_open _ rests).0 shut
         by _ _ after (OfNew had same) is = let equal : next_number now ≡ number = cc in new_apart t.machine.links number link there (sym equal)
-        by _ _ after (OfReply had connection one reply later frames has at down next back) is = let never : ⊥ = cc in never
+        by _ _ after (OfReply had connection one reply later has at down next back) is = let never : ⊥ = cc in never
         by _ _ after (OfEnded had connection one has at closed next same) is = let never : ⊥ = cc in never
 
     -- the request that steps has no connection that is gone

@@ -31,7 +31,7 @@ use Rattle.world_model.proofs.WholeHold.{hold_is_kept}
 -- LISTS -------------------------------------------------------------------------------------------
 
 -- where what holds of all holds of each of them
-each_among : {A : Type 0} (test next : A → Bool) (xs : List A) → ((x : A) → ((all : A → Bool) → list_all all xs ≡ true → all x ≡ true) → test x ≡ true → next x ≡ true) → list_all test xs ≡ true → list_all next xs ≡ true
+pub each_among : {A : Type 0} (test next : A → Bool) (xs : List A) → ((x : A) → ((all : A → Bool) → list_all all xs ≡ true → all x ≡ true) → test x ≡ true → next x ≡ true) → list_all test xs ≡ true → list_all next xs ≡ true
 each_among test next [] each here = refl
 each_among test next (x ∷ xs) each here =
     let parts = and_parts (test x) (list_all test xs) here in

@@ -1,6 +1,6 @@
 -- What a request lost, where it takes a step: nothing more, or the connection that it had.
 use Rattle.std.proofs.Common.{◌≡◌, refl, sym, ap, subst, ◌∙◌, Bool, true, false, ℕ, ◌||◌, length, List, [], ◌∷◌, ◌++◌, Option, Some, None}
-use Rattle.std.specs.Prelude.{not, is_some, option_map, option_and_then}
+use Rattle.std.specs.Prelude.{◌==◌, slice_get, not, is_some, option_map, option_and_then}
 use Rattle.std.specs.List.{list_all, last_or, cons_option}
 use Rattle.std.specs.Option.{option_or}
 use Rattle.std.proofs.lemmas.Bool.{and_parts}
@@ -8,6 +8,8 @@ use Rattle.std.proofs.lemmas.List.{append-nil, map-append}
 use Rattle.svc_values.specs.Same.{same_bool}
 use Rattle.outage_schedule.specs.declared.document.Request.{Request}
 use Rattle.run_clauses.specs.Reports.{failure_of, failed_in}
+use Rattle.svc_values.specs.declared.call.Call.{Call}
+use Rattle.svc_values.specs.declared.entry.Ltxid.{Ltxid}
 use Rattle.svc_values.specs.declared.frame.Down.{Down}
 use Rattle.client_model.specs.declared.act.Act.{Act}
 use Rattle.client_model.specs.declared.act.Failed.{Failed}
@@ -20,7 +22,8 @@ use Rattle.client_model.specs.declared.input.Wants.{Wants}
 use Rattle.client_model.specs.declared.input.Wants.TheVariants as wants
 use Rattle.client_model.specs.Conversation.{Done, is_wanted, is_gone}
 use Rattle.client_model.specs.States.{Asking}
-use Rattle.client_model.specs.Talk.{wants_of, talk_step}
+use Rattle.client_model.specs.Talk.{wants_of, talk_step, sends_or_ends, begin_of}
+use Rattle.client_model.specs.Terms.{Phase, Unbegun, Queued, unsubmitted}
 use Rattle.world_model.specs.Frames.{Sent, Reply}
 use Rattle.world_model.specs.Links.{Link, link_at, sends, takes}
 use Rattle.world_model.specs.Clients.{Step, Doing, begun, past_of}
@@ -29,6 +32,8 @@ use Rattle.world_model.specs.Hold.{holds_connection, is_held}
 use Rattle.world_model.specs.Invariant.{Orderly}
 use Rattle.world_model.specs.Lost.{lost_all, lost_links}
 use Rattle.world_model.specs.Machines.{Machine}
+use Rattle.world_model.specs.Parts.{implies}
+use Rattle.world_model.specs.Ready.{is_waiting, is_unbegun}
 use Rattle.world_model.specs.Traced.{Traced, Course, course_now, course_over, courses_of}
 use Rattle.world_model.specs.Words.{brought, held_in, dones_of}
 use Rattle.world_model.proofs.ClientSteps.{HasStepped, GoesOn, AtOnce, LostToo, HeardOn, OfNone, OfIdle, OfNew, OfReply, OfEnded, Behind, AsFirst, LostBehind, is_frame}
@@ -37,9 +42,10 @@ use Rattle.world_model.proofs.FrontLists.{last_pushed}
 use Rattle.world_model.proofs.Happened.{at_event}
 use Rattle.world_model.proofs.Held.{doing_course}
 use Rattle.world_model.proofs.HeldKept.{same_none, slot_holds_none}
+use Rattle.world_model.proofs.LinkLives.{implied}
 use Rattle.world_model.proofs.LostLists.{lost_of, LostMore, NoneLost, brings_more, loses_more, has_last_held}
 use Rattle.world_model.proofs.Moves.{IsDoing, next_number}
-use Rattle.world_model.proofs.SendingSteps.{after_held}
+use Rattle.world_model.proofs.SendingSteps.{after_held, slot_wanted}
 use Rattle.world_model.proofs.SentLinks.{slot_waits}
 use Rattle.world_model.proofs.StepFacts.{first_step, first_doing, before_talks}
 use Rattle.world_model.proofs.Strangers.{doing_ready, waiting_none}
@@ -150,13 +156,13 @@ module _ (t : Traced) (inv : Orderly t) (number : ℕ) (n : Machine) (step : Has
       (slots_wanted (wants_of t.setting.terms step.before.talk now.tick) step.input other wanted))
 
   -- one that waits held none
-  held_none : step.input ≡ Waiting → held_in step.before.steps ≡ []
+  pub held_none : step.input ≡ Waiting → held_in step.before.steps ≡ []
   held_none is =
       let slot : wants_of t.setting.terms step.before.talk now.tick ≡ wants.Slot = waiting_wanted (wants_of t.setting.terms step.before.talk now.tick) (wanted_at Waiting is) in
       waiting_none t.setting.terms step.before (doing_ready t.setting now number step.before _ inv.script.ready is_doing)
       (slot_waits t.setting.terms step.before.talk step.before.talk.phase now.tick slot)
 
-  last_is : (connection : ℕ) → step.before.connection ≡ Some connection → last_or None (held_in step.before.steps) ≡ Some connection
+  pub last_is : (connection : ℕ) → step.before.connection ≡ Some connection → last_or None (held_in step.before.steps) ≡ Some connection
   last_is connection is =
       let talks : Talks t.setting.terms false step.before = before_talks t.setting now inv.script.talks number n step in
       has_last_held step.before.steps connection (talks.has ∙ is)
@@ -173,7 +179,7 @@ module _ (t : Traced) (inv : Orderly t) (number : ℕ) (n : Machine) (step : Has
   held_after = after_held t.setting now inv.script.talks number n step
 
   -- where it brings none
-  same_held : brought step.input ≡ None → held_in step.after.steps ≡ held
+  pub same_held : brought step.input ≡ None → held_in step.after.steps ≡ held
   same_held none = held_after ∙ (ap (λ (found : Option ℕ). held ++ cons_option found []) none ∙ append-nil held)
 
   one_held : (connection : ℕ) → brought step.input ≡ Some connection → held_in step.after.steps ≡ held ++ connection ∷ []
@@ -246,7 +252,7 @@ module _ (t : Traced) (inv : Orderly t) (number : ℕ) (n : Machine) (step : Has
       shut_behind : (frames : List Sent) (reply : Reply) (left : List Reply) (link : Link) → link.is_open ≡ false → (sends now.event frames (takes (Took reply.frame link.is_open) reply left link)).is_open ≡ false
       shut_behind frames reply left link shut = sends_alike (λ (next : Link). next.is_open ≡ false) now.event frames (takes (Took reply.frame link.is_open) reply left link) refl shut
 
-      by : (had_one : Option ℕ) (input : Input) (after : Doing) → had ≡ had_one → step.input ≡ input → step.after ≡ after → HeardOn t.setting now n number first one.done.act.hold after had_one input
+      by : {said : List Sent} (had_one : Option ℕ) (input : Input) (after : Doing) → had ≡ had_one → step.input ≡ input → step.after ≡ after → HeardOn t.setting now n number first one.done.act.hold said after had_one input
           → LostNow IsLeft (is_some step.after.connection)
       by _ _ after has is equal (OfNone had_one input none frame same) =
           stays_so IsLeft (is_some step.after.connection) (ap brought is ∙ none) (ap is_some (connection_is (equal ∙ same) ∙ (ap (connected had) is ∙ plain input none frame)))
@@ -254,9 +260,9 @@ module _ (t : Traced) (inv : Orderly t) (number : ℕ) (n : Machine) (step : Has
           brings_so IsLeft (is_some step.after.connection) connection (ap brought is) (has_none (ap is_other is)) (ap is_some (connection_is (equal ∙ same) ∙ ap (connected had) is))
       by _ _ after has is equal (OfNew had_one same) =
           brings_so IsLeft (is_some step.after.connection) (next_number now) (ap brought is) (has_none (ap is_other is)) (ap is_some (connection_is (equal ∙ same) ∙ ap (connected had) is))
-      by _ _ after has is equal (OfReply had_one connection link reply left frames some there down next back) =
+      by {said} _ _ after has is equal (OfReply had_one connection link reply left some there down next back) =
           behind link.is_open link.ended connection reply.frame link.is_open after is (has ∙ some) equal
-          (λ shut. (sends now.event frames (takes (Took reply.frame link.is_open) reply left link), (next, shut_behind frames reply left link shut))) back
+          (λ shut. (sends now.event said (takes (Took reply.frame link.is_open) reply left link), (next, shut_behind said reply left link shut))) back
       by _ _ after has is equal (OfEnded had_one connection link some there shut next same) =
           let none : step.after.connection ≡ None = connection_is (equal ∙ same) ∙ ap (connected had) is in
           loses_so IsLeft (is_some step.after.connection) connection (ap brought is) (has ∙ some) (ap is_some none) (record { next = link; there = next; shut = shut; none = none })
@@ -281,15 +287,45 @@ module _ (t : Traced) (inv : Orderly t) (number : ℕ) (n : Machine) (step : Has
       (ap (λ (dones : List Done). last_or None dones) (map-append (λ (s : Step). s.done) step.before.steps (one ∷ [])) ∙ last_pushed None (dones_of step.before.steps) one.done)
 
   -- what the client does at an input
-  abbrev act_on : Input → Act
+  abbrev pub act_on : Input → Act
   act_on input = (talk_step t.setting.terms step.before.talk input now.tick).1
 
   -- it has its last connection, or did not fail by tries
-  abbrev has_still : Bool
+  abbrev pub has_still : Bool
   has_still = not (lost_all (option_and_then failure_of (failed_in (dones_of step.after.steps))))
 
   has_is : (failure : Option Failed) → failed_in (dones_of step.after.steps) ≡ failure → has_still ≡ not (lost_all (option_and_then failure_of failure))
   has_is failure is = ap (λ (found : Option Failed). not (lost_all (option_and_then failure_of found))) is
+
+  -- one whose last try failed lost its last connection too
+  pub tried_has : step.input ≡ TryFailed → (step.held ≡ hold.Keep → ⊥) → has_still ≡ false
+  tried_has is lets =
+      has_is (act_on TryFailed).failed (over_failed lets ∙ ap (λ (i : Input). (act_on i).failed) is)
+      ∙ ap (λ (failure : Option Failed). not (lost_all (option_and_then failure_of failure)))
+      (tried_fails t.setting.terms step.before.talk now.tick (λ keep. over_lets lets (ap (λ (i : Input). (act_on i).hold) is ∙ keep)))
+
+  -- a request that is lent a connection goes on
+  pub lent_keeps : (connection : ℕ) (x : Ltxid) → step.input ≡ Lent connection x → one.done.act.hold ≡ hold.Keep
+  lent_keeps connection x is = ap (λ (i : Input). (act_on i).hold) is ∙ by step.before.talk.left refl
+    where
+      slot : wants_of t.setting.terms step.before.talk now.tick ≡ wants.Slot
+      slot = slot_wanted (wants_of t.setting.terms step.before.talk now.tick) connection x (wanted_at (Lent connection x) is)
+
+      begins : (phase : Phase) → is_waiting phase ≡ true → is_unbegun phase ≡ true
+      begins Unbegun waits = refl
+      begins (Queued from) waits = refl
+      begins phase waits = absurd (let none : ⊥ = cc in none)
+
+      some_left : not (length step.before.talk.left == 0) ≡ true
+      some_left =
+          implied (is_unbegun step.before.talk.phase) (not (length step.before.talk.left == 0)) (begins step.before.talk.phase (slot_waits t.setting.terms step.before.talk step.before.talk.phase now.tick slot))
+          (and_parts (implies (is_unbegun step.before.talk.phase) (not (length step.before.talk.left == 0))) _ (doing_ready t.setting now number step.before _ inv.script.ready is_doing)).0
+
+      by : (calls : List Call) → step.before.talk.left ≡ calls → (act_on (Lent connection x)).hold ≡ hold.Keep
+      by [] none = absurd (let never : false ≡ true = subst (λ (calls : List Call). not (length calls == 0) ≡ true) none some_left in let nothing : ⊥ = cc in nothing)
+      by (call ∷ calls) some =
+          ap (λ (next : Option Call). (sends_or_ends t.setting.terms step.before.talk (record { track = unsubmitted t.setting.terms; ltxid = x }) true (begin_of step.before.talk ∷ []) None now.tick next).1.hold)
+          (ap (λ (all : List Call). slice_get all 0) some)
 
   pub over_lost : (step.held ≡ hold.Keep → ⊥) → LostMore (λ (connection : ℕ). ⊥) had (lost_links (course_now t.setting number place step.before)) (lost_links (course_over number place (past_of t.setting.terms step.after)))
   over_lost lets = by step.input refl (over_lets lets) (over_failed lets)
@@ -303,10 +339,7 @@ module _ (t : Traced) (inv : Orderly t) (number : ℕ) (n : Machine) (step : Has
           ∙ ap not (not_all (act_on (Lent connection ltxid)).failed None (lets_may (act_on (Lent connection ltxid)).hold (act_on (Lent connection ltxid)).failed None (no_hello None t.setting.terms step.before.talk None ltxid true now.tick))))
       by (Opened connection) is lets_go failed_is = absurd (lets_go (ap (λ (i : Input). (act_on i).hold) is))
       by TryFailed is lets_go failed_is =
-          stays_so (λ (connection : ℕ). ⊥) has_still (ap brought is)
-          (has_is (act_on TryFailed).failed (failed_is ∙ ap (λ (i : Input). (act_on i).failed) is)
-          ∙ (ap (λ (failure : Option Failed). not (lost_all (option_and_then failure_of failure)))
-          (tried_fails t.setting.terms step.before.talk now.tick (λ keep. lets_go (ap (λ (i : Input). (act_on i).hold) is ∙ keep))) ∙ sym (ap is_some (has_none (ap is_other is)))))
+          stays_so (λ (connection : ℕ). ⊥) has_still (ap brought is) (tried_has is lets ∙ sym (ap is_some (has_none (ap is_other is))))
       by (Took frame alive) is lets_go failed_is =
           let act : Act = act_on (Took frame alive) in
           stays_so (λ (connection : ℕ). ⊥) has_still (ap brought is)

@@ -20,6 +20,7 @@ use Rattle.client_model.specs.Conversation.{Done}
 use Rattle.client_model.specs.Terms.{Terms, Phase, Idle, Unbegun, Queued, Seeking, Greeting, Asked, Running, Replaying}
 use Rattle.client_model.proofs.Offered.{Fits}
 use Rattle.world_model.specs.Clients.{Step, Doing}
+use Rattle.world_model.specs.Frames.{Sent}
 use Rattle.world_model.specs.Invariant.{Orderly}
 use Rattle.world_model.specs.Links.{Link}
 use Rattle.world_model.specs.Machines.{Machine}
@@ -152,7 +153,7 @@ module _ (t : Traced) (inv : Orderly t) (number : ℕ) (n : Machine) (step : Has
   pub input_fits : fits_input phase step.input ≡ true
   input_fits = by step.before.connection step.input step.after refl step.heard_on
     where
-      by : (had : Option ℕ) (input : Input) (after : Doing) → step.before.connection ≡ had → HeardOn t.setting now n number first one.done.act.hold after had input → fits_input phase input ≡ true
+      by : {said : List Sent} (had : Option ℕ) (input : Input) (after : Doing) → step.before.connection ≡ had → HeardOn t.setting now n number first one.done.act.hold said after had input → fits_input phase input ≡ true
       by _ _ after same (OfNone had Start none frame as_first) = refl
       by _ _ after same (OfNone had Waiting none frame as_first) = refl
       by _ _ after same (OfNone had (Lent connection x) none frame as_first) = refl
@@ -163,7 +164,7 @@ module _ (t : Traced) (inv : Orderly t) (number : ℕ) (n : Machine) (step : Has
       by _ _ after same (OfIdle had connection x answer as_first) = refl
       by _ _ after same (OfNew had as_first) = refl
       by _ _ after same (OfEnded had connection link has there shut next as_first) = refl
-      by _ _ after same (OfReply had connection link reply left frames has there down next back) =
+      by _ _ after same (OfReply had connection link reply left has there down next back) =
           let links : List Link = t.machine.links in
           let mine : step.before.connection ≡ Some connection = same ∙ has in
           reply_fits (record { client = number; place = length step.client.past }) phase link reply left

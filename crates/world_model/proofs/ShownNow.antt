@@ -67,14 +67,17 @@ pub record FirstReply (m : Machine) (had : Option ℕ) (frame : Down) : Type 0 w
   pub down : link.down ≡ reply ∷ later
   pub is : reply.frame ≡ frame
 
-first_reply : (setting : Setting) (m n : Machine) (who : ℕ) (first : Doing) (held : Hold) (after : Doing) (had : Option ℕ) (input : Input) → HeardOn setting m n who first held after had input
+no_first : (sent : Sent) → None ≡ Some sent → ⊥
+no_first sent is = let none : ⊥ = cc in none
+
+first_reply : (setting : Setting) (m n : Machine) (who : ℕ) (first : Doing) (held : Hold) (said : List Sent) (after : Doing) (had : Option ℕ) (input : Input) → HeardOn setting m n who first held said after had input
     → (frame : Down) (alive : Bool) → input ≡ Took frame alive → FirstReply m had frame
-first_reply setting m n who first held after _ _ (OfNone had input none plain same) frame alive is = absurd (let e : is_frame input ≡ true = ap is_frame is in let never : ⊥ = cc in never)
-first_reply setting m n who first held after _ _ (OfIdle had connection ltxid answer same) frame alive is = absurd (let never : ⊥ = cc in never)
-first_reply setting m n who first held after _ _ (OfNew had same) frame alive is = absurd (let never : ⊥ = cc in never)
-first_reply setting m n who first held after _ _ (OfReply had connection link reply left frames has there down now behind) frame alive is =
+first_reply setting m n who first held said after _ _ (OfNone had input none plain same) frame alive is = absurd (let e : is_frame input ≡ true = ap is_frame is in let never : ⊥ = cc in never)
+first_reply setting m n who first held said after _ _ (OfIdle had connection ltxid answer same) frame alive is = absurd (let never : ⊥ = cc in never)
+first_reply setting m n who first held said after _ _ (OfNew had same) frame alive is = absurd (let never : ⊥ = cc in never)
+first_reply setting m n who first held said after _ _ (OfReply had connection link reply left has there down now behind) frame alive is =
     record { number = connection; has = has; link = link; there = there; reply = reply; later = left; down = down; is = let e : Took reply.frame link.is_open ≡ Took frame alive = is in cc }
-first_reply setting m n who first held after _ _ (OfEnded had connection link has there closed now same) frame alive is = absurd (let never : ⊥ = cc in never)
+first_reply setting m n who first held said after _ _ (OfEnded had connection link has there closed now same) frame alive is = absurd (let never : ⊥ = cc in never)
 
 -- the call that is out, as it was sent
 pub record OutCall (index : ℕ) (sent : Sent) : Type 0 where
@@ -148,7 +151,7 @@ module _ (setting : Setting) (m : Machine) (talks : AllTalk setting.terms m.clie
   reply_shown : (frame : Down) (alive : Bool) → step.input ≡ Took frame alive → (shown : Shown) (state : Living) → step.before.talk.phase ≡ Running state → frame ≡ down.Reply shown.answers shown.draws shown.ltxid
       → (at : ℕ) × (step.before.connection ≡ Some at) × IsShownOn m.links mine step.before.request.calls (length shown_before) shown at
   reply_shown frame alive input shown state phase said =
-      let first : FirstReply m step.before.connection frame = first_reply setting m n number _ _ step.after step.before.connection step.input step.heard_on frame alive input in
+      let first : FirstReply m step.before.connection frame = first_reply setting m n number _ _ _ step.after step.before.connection step.input step.heard_on frame alive input in
       let held : step.before.connection ≡ Some first.number = first.has in
       let it : OnIt m.links mine step.before.connection step.before.talk.phase = on first.number held in
       let e : Some it.number ≡ Some first.number = sym it.has ∙ held in
@@ -168,7 +171,7 @@ module _ (setting : Setting) (m : Machine) (talks : AllTalk setting.terms m.clie
       let place : last.one.sent.call ≡ length shown_before = eq_from last.one.sent.call it.last.call two.0 ∙ (out.at ∙ index) in
       let row_last : last_or None (row_of mine it.link.sent) ≡ Some it.last = last_row mine it.link.sent it.last it.is it.mine (ap is_call out.frame) in
       let so : is_scripts course it.last it.last.frame ≡ true =
-      all_last (λ sent. is_scripts course sent sent.frame) None (row_of mine it.link.sent) it.last (λ x never. absurd (let none : ⊥ = cc in none)) (scripts first.number it.link held there) row_last in
+      all_last (λ sent. is_scripts course sent sent.frame) None (row_of mine it.link.sent) it.last (λ x never. absurd (no_first x never)) (scripts first.number it.link held there) row_last in
       let called : option_map_or (same_call out.call) (slice_get step.before.request.calls it.last.call) false ≡ true = subst (λ (u : Up). is_scripts course it.last u ≡ true) out.frame so in
       let script : ScriptCall step.before.request.calls (length shown_before) out.call =
       script_call step.before.request.calls (length shown_before) out.call (subst (λ (k : ℕ). option_map_or (same_call out.call) (slice_get step.before.request.calls k) false ≡ true) (out.at ∙ index) called) in
