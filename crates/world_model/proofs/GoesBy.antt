@@ -124,6 +124,27 @@ by_taken terms talk (Replaying state) (down.Reply answers draws x) alive now hel
     same_by (on_repeated terms talk state answers draws x alive now (next_of state)).0.phase state.ltxid x (by_repeated terms talk state answers draws x alive now (next_of state) kept) (again state refl x refl)
 by_taken terms talk phase frame alive now held same opens loud here again kept = absurd (let none : ⊥ = cc in none)
 
+goes_same : (phase : Phase) (x y : Ltxid) (held : Option Ltxid) → goes_by phase ≡ Some x → goes_by phase ≡ Some y → same_held (Some y) held ≡ true → same_held (Some x) held ≡ true
+goes_same phase x y held one other here = ap (λ (found : Option Ltxid). same_held found held) (sym one ∙ other) ∙ here
+
+-- And so on a connection that is not open, where it goes by one.
+pub taken_goes : (terms : Terms) (talk : Talk) (phase : Phase) (frame : Down) (alive : Bool) (now : ℕ) (held : Option Ltxid) (x : Ltxid) → talk.phase ≡ phase → same_held (goes_by phase) held ≡ true
+    → ((state : Repeating) → phase ≡ Replaying state → (y : Ltxid) → told_by (Took frame true) ≡ Some y → same_held (Some state.ltxid) (Some y) ≡ true)
+    → (takes terms talk phase frame alive now).1.hold ≡ Keep → goes_by (takes terms talk phase frame alive now).0.phase ≡ Some x → same_held (Some x) (option_or (told_by (Took frame alive)) held) ≡ true
+taken_goes terms talk phase down.Blocked alive now held x same here again kept is = ap (λ (found : Option Ltxid). same_held found held) (sym is ∙ ap goes_by same) ∙ here
+taken_goes terms talk phase (down.Refused cause) alive now held x same here again kept is = ap (λ (found : Option Ltxid). same_held found held) (sym is ∙ ap goes_by same) ∙ here
+taken_goes terms talk (Greeting lost) (down.Hello y) true now held x same here again kept is =
+    goes_same (on_hello terms talk lost y true now).0.phase x y (Some y) is (by_hello terms talk lost y now kept) (same_self y)
+taken_goes terms talk (Greeting lost) (down.Hello y) false now held x same here again kept is = absurd (let none : ⊥ = cc in none)
+taken_goes terms talk (Asked asking) (down.OutcomeIs committed completed) alive now held x same here again kept is =
+    goes_same (on_told terms talk asking alive now (told_of asking committed completed terms.limits now)).0.phase x asking.fresh held is (by_told terms talk asking alive now committed completed kept) here
+taken_goes terms talk (Asked asking) (down.OutcomeRefused ahead.Forgotten horizon) alive now held x same here again kept is = absurd (let none : ⊥ = cc in none)
+taken_goes terms talk (Running state) (down.Reply answers draws y) alive now held x same here again kept is =
+    goes_same (on_reply terms talk state answers draws y alive now (next_call talk)).0.phase x y (Some y) is (by_reply terms talk state answers draws y alive now (next_call talk) kept) (same_self y)
+taken_goes terms talk (Replaying state) (down.Reply answers draws y) alive now held x same here again kept is =
+    goes_same (on_repeated terms talk state answers draws y alive now (next_of state)).0.phase x state.ltxid (Some y) is (by_repeated terms talk state answers draws y alive now (next_of state) kept) (again state refl y refl)
+taken_goes terms talk phase frame alive now held x same here again kept is = absurd (let none : ⊥ = cc in none)
+
 -- THE TEST ----------------------------------------------------------------------------------------
 
 -- what the request goes by is held on its connection

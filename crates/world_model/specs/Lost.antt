@@ -111,10 +111,16 @@ open_ends t course =
 abbrev pub is_asked_for : Traced → Course → Wanted → Bool
 is_asked_for t course wanted = list_any (λ number. option_map_or (λ link. is_wanted link wanted) (link_at t.machine.links number) false) (lost_links course)
 
+abbrev pub wants_lost : Traced → Course → Bool
+wants_lost t course = option_map_or (is_asked_for t course) (wanted_in course.phase) true
+
+abbrev pub want_lost : Traced → Bool
+want_lost t = list_all (wants_lost t) (courses_of t)
+
 abbrev pub one_pending : Traced → Course → Bool
 one_pending t course =
     nat_le (length (open_ends t course)) (if course.is_over then cond (ends_unknown course.report.failed) 1 0 else cond (is_some (wanted_in course.phase)) 1 0)
-    && option_map_or (is_asked_for t course) (wanted_in course.phase) true
+    && wants_lost t course
 
 abbrev pub are_pending : Traced → Bool
 are_pending t = list_all (one_pending t) (courses_of t)
