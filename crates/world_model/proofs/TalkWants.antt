@@ -1,6 +1,6 @@
 -- What a request wants behind an input: as before, nothing, or what it went by when its connection was gone.
 use Rattle.std.proofs.Common.{◌≡◌, refl, ap, Bool, true, false, ℕ, ◌&&◌, List, [], ◌∷◌, Option, Some, None, ◌⊎◌, inl, inr, if◌then◌else◌}
-use Rattle.std.specs.Prelude.{not, nat_le, ◌+◌, ◌-◌, Ok, Err}
+use Rattle.std.specs.Prelude.{not, nat_le, option_map, ◌+◌, ◌-◌, Ok, Err}
 use Rattle.std.specs.Str.{bytes_eq}
 use Rattle.svc_values.specs.declared.answer.Answer.{Answer}
 use Rattle.svc_values.specs.declared.answer.Answer.TheVariants as answer
@@ -8,6 +8,7 @@ use Rattle.svc_values.specs.declared.call.Call.{Call}
 use Rattle.svc_values.specs.declared.draw.Draw.{Draw}
 use Rattle.svc_values.specs.declared.entry.Ltxid.{Ltxid}
 use Rattle.svc_values.specs.declared.frame.Up.{Up}
+use Rattle.svc_values.specs.declared.frame.Up.TheVariants as up
 use Rattle.svc_values.specs.declared.frame.Ahead.TheVariants as ahead
 use Rattle.svc_values.specs.declared.frame.Down.{Down}
 use Rattle.svc_values.specs.declared.frame.Down.TheVariants as down
@@ -15,6 +16,7 @@ use Rattle.call_recorder.specs.declared.recorded.Recorded.{Recorded}
 use Rattle.request_bounds.specs.declared.rule.Why.{Why}
 use Rattle.request_bounds.specs.declared.rule.Why.TheVariants as why
 use Rattle.client_model.specs.declared.act.Failed.TheVariants.{Disabled, Retries, PoolWait}
+use Rattle.client_model.specs.declared.act.Act.{Act}
 use Rattle.client_model.specs.declared.act.Shown.{Shown}
 use Rattle.client_model.specs.declared.input.Input.{Input}
 use Rattle.client_model.specs.declared.input.Input.TheVariants.{Start, Waiting, Lent, Opened, TryFailed, Took, Gone}
@@ -23,9 +25,9 @@ use Rattle.client_model.specs.Told.{Told, over, completed_on, repeated, is_late,
 use Rattle.client_model.specs.States.{Living, Asking, Repeating, resumed, next_of}
 use Rattle.client_model.specs.Verifying.{verified_more, mismatch, submitted}
 use Rattle.client_model.specs.Terms.{Terms, Talk, Phase, Idle, Unbegun, Queued, Seeking, Greeting, Asked, Running, Replaying, unsubmitted}
-use Rattle.client_model.specs.Talk.{Step, stands, quiet, with_tried, lost_of, on_waiting, waits_from, on_try_failed, talk_step, fails, talk_shown, with_shown, sends_call, sends_or_ends, next_call, begin_of, on_reply, sends_marked, on_compared, on_repeated, after_completed, on_completed, on_told, takes, loses}
+use Rattle.client_model.specs.Talk.{Step, stands, quiet, sending, with_tried, lost_of, on_waiting, waits_from, on_try_failed, talk_step, fails, talk_shown, with_shown, sends_call, sends_or_ends, next_call, begin_of, on_reply, sends_marked, on_compared, on_repeated, after_completed, on_completed, on_told, takes, loses}
 use Rattle.world_model.specs.Hold.{goes_by}
-use Rattle.world_model.specs.Wanted.{wanted_in}
+use Rattle.world_model.specs.Wanted.{wanted_by, wanted_in}
 use Rattle.world_model.proofs.ClientSteps.{is_frame}
 
 -- nothing is wanted behind it
@@ -86,17 +88,17 @@ no_told terms talk asking alive now true true = no_completed terms talk (resumed
 no_told terms talk asking alive now true false = refl
 no_told terms talk asking alive now false completed = no_uncommitted terms talk asking alive now asking.track.why
 
--- what is wanted stays, or nothing is
-abbrev pub StaysOrNone : Phase → Phase → Type 0
-StaysOrNone before after = (wanted_in after ≡ wanted_in before) ⊎ (wanted_in after ≡ None)
+-- what is wanted stays, and no call is shown, or nothing is wanted
+abbrev pub StaysOrNone : Phase → Step → Type 0
+StaysOrNone before step = ((wanted_in step.0.phase ≡ wanted_in before) × (step.1.shown ≡ None)) ⊎ (wanted_in step.0.phase ≡ None)
 
 -- so it is at each frame that is taken
-pub taken_wants : (terms : Terms) (talk : Talk) (phase : Phase) (frame : Down) (alive : Bool) (now : ℕ) → talk.phase ≡ phase → StaysOrNone phase (takes terms talk phase frame alive now).0.phase
-taken_wants terms talk phase down.Blocked alive now same = inl (ap wanted_in same)
-taken_wants terms talk phase (down.Refused cause) alive now same = inl (ap wanted_in same)
-taken_wants terms talk (Greeting lost) (down.Hello x) false now same = inl refl
+pub taken_wants : (terms : Terms) (talk : Talk) (phase : Phase) (frame : Down) (alive : Bool) (now : ℕ) → talk.phase ≡ phase → StaysOrNone phase (takes terms talk phase frame alive now)
+taken_wants terms talk phase down.Blocked alive now same = inl (ap wanted_in same, refl)
+taken_wants terms talk phase (down.Refused cause) alive now same = inl (ap wanted_in same, refl)
+taken_wants terms talk (Greeting lost) (down.Hello x) false now same = inl (refl, refl)
 taken_wants terms talk (Greeting None) (down.Hello x) true now same = inr (no_next terms talk (record { track = unsubmitted terms; ltxid = x }) true (begin_of talk ∷ []) None now (next_call talk))
-taken_wants terms talk (Greeting (Some lost)) (down.Hello x) true now same = inl refl
+taken_wants terms talk (Greeting (Some lost)) (down.Hello x) true now same = inl (refl, refl)
 taken_wants terms talk (Asked asking) (down.OutcomeIs committed completed) alive now same = inr (no_told terms talk asking alive now committed completed)
 taken_wants terms talk (Asked asking) (down.OutcomeRefused ahead.Forgotten horizon) alive now same = inr refl
 taken_wants terms talk (Running state) (down.Reply answers draws x) alive now same = inr (no_reply terms talk state answers draws x alive now (next_call talk))
@@ -123,39 +125,30 @@ waited_wants terms talk from now = by (nat_le terms.limits.wait (now - from))
     by true = refl
     by false = refl
 
--- a request that seeks a connection wants what it lost
-seeks_wants : (phase : Phase) → StaysOrNone phase (Seeking (lost_of phase))
-seeks_wants (Seeking lost) = inl refl
-seeks_wants (Greeting lost) = inl refl
-seeks_wants Idle = inr refl
-seeks_wants Unbegun = inr refl
-seeks_wants (Queued from) = inr refl
-seeks_wants (Asked asking) = inr refl
-seeks_wants (Running state) = inr refl
-seeks_wants (Replaying state) = inr refl
+-- a request that seeks a connection, or has a new one, wants what it lost
+seeks_wants : (phase : Phase) (act : Act) (talk : Talk) → act.shown ≡ None → wanted_in talk.phase ≡ option_map wanted_by (lost_of phase) → StaysOrNone phase (talk, act)
+seeks_wants (Seeking lost) act talk none is = inl (is, none)
+seeks_wants (Greeting lost) act talk none is = inl (is, none)
+seeks_wants Idle act talk none is = inr is
+seeks_wants Unbegun act talk none is = inr is
+seeks_wants (Queued from) act talk none is = inr is
+seeks_wants (Asked asking) act talk none is = inr is
+seeks_wants (Running state) act talk none is = inr is
+seeks_wants (Replaying state) act talk none is = inr is
 
-greets_wants : (phase : Phase) → StaysOrNone phase (Greeting (lost_of phase))
-greets_wants (Seeking lost) = inl refl
-greets_wants (Greeting lost) = inl refl
-greets_wants Idle = inr refl
-greets_wants Unbegun = inr refl
-greets_wants (Queued from) = inr refl
-greets_wants (Asked asking) = inr refl
-greets_wants (Running state) = inr refl
-greets_wants (Replaying state) = inr refl
-
-tried_wants : (terms : Terms) (talk : Talk) (now : ℕ) → StaysOrNone talk.phase (on_try_failed terms talk now).0.phase
+tried_wants : (terms : Terms) (talk : Talk) (now : ℕ) → StaysOrNone talk.phase (on_try_failed terms talk now)
 tried_wants terms talk now = by (nat_le terms.limits.retries (talk.tries + 1))
   where
-    by : (many : Bool) → StaysOrNone talk.phase (if many then fails (with_tried talk now) false None (Retries (talk.tries + 1)) else (stands (with_tried talk now) (Seeking (lost_of talk.phase)), quiet)).0.phase
+    by : (many : Bool) → StaysOrNone talk.phase (if many then fails (with_tried talk now) false None (Retries (talk.tries + 1)) else (stands (with_tried talk now) (Seeking (lost_of talk.phase)), quiet))
     by true = inr refl
-    by false = seeks_wants talk.phase
+    by false = seeks_wants talk.phase quiet (stands (with_tried talk now) (Seeking (lost_of talk.phase))) refl refl
 
-pub plain_wants : (terms : Terms) (talk : Talk) (input : Input) (now : ℕ) → is_frame input ≡ false → StaysOrNone talk.phase (talk_step terms talk input now).0.phase
+pub plain_wants : (terms : Terms) (talk : Talk) (input : Input) (now : ℕ) → is_frame input ≡ false → StaysOrNone talk.phase (talk_step terms talk input now)
 plain_wants terms talk Start now plain = inr refl
 plain_wants terms talk Waiting now plain = inr (waited_wants terms talk (waits_from talk.phase now) now)
 plain_wants terms talk (Lent connection x) now plain = inr (no_next terms talk (record { track = unsubmitted terms; ltxid = x }) true (begin_of talk ∷ []) None now (next_call talk))
-plain_wants terms talk (Opened connection) now plain = greets_wants talk.phase
+plain_wants terms talk (Opened connection) now plain =
+    seeks_wants talk.phase (sending (up.Connect ∷ [])) (record talk { tries = 0; phase = Greeting (lost_of talk.phase) }) refl refl
 plain_wants terms talk TryFailed now plain = tried_wants terms talk now
 plain_wants terms talk (Took frame alive) now plain = absurd (let none : ⊥ = cc in none)
 plain_wants terms talk (Gone event) now plain = absurd (let none : ⊥ = cc in none)

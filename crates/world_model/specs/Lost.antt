@@ -19,7 +19,7 @@ use Rattle.world_model.specs.Sames.{owned_by}
 use Rattle.run_clauses.specs.Tried.{holds}
 use Rattle.world_model.specs.Wanted.{Wanted, wanted_in}
 use Rattle.world_model.specs.Words.{held_in}
-use Rattle.world_model.specs.Parts.{sendings_of, number_of, held_number, is_commit_call, is_unmarked}
+use Rattle.world_model.specs.Parts.{implies, sendings_of, number_of, held_number, is_commit_call, is_unmarked, is_out, out_frame}
 
 -- the connections that a request lost: all that it held, but the one that it has, and where it is over and did not lose its last one, but that
 abbrev pub without_last : List ℕ → List ℕ
@@ -117,6 +117,20 @@ wants_lost t course = option_map_or (is_asked_for t course) (wanted_in course.ph
 abbrev pub want_lost : Traced → Bool
 want_lost t = list_all (wants_lost t) (courses_of t)
 
+-- and if a frame is out there, and is a call without the mark, it is the one behind the calls shown so far
+abbrev pub is_next : ℕ → Link → Bool
+is_next count link = implies (is_out link) (option_map_or (λ sent. implies (is_unmarked sent) (sent.call == count)) (out_frame link) true)
+
+abbrev pub is_asked_next : Traced → Course → Wanted → Bool
+is_asked_next t course wanted =
+    list_any (λ number. option_map_or (λ link. is_wanted link wanted && is_next (length course.report.calls) link) (link_at t.machine.links number) false) (lost_links course)
+
+abbrev pub wants_next : Traced → Course → Bool
+wants_next t course = option_map_or (is_asked_next t course) (wanted_in course.phase) true
+
+abbrev pub want_next : Traced → Bool
+want_next t = list_all (wants_next t) (courses_of t)
+
 abbrev pub one_pending : Traced → Course → Bool
 one_pending t course =
     nat_le (length (open_ends t course)) (if course.is_over then cond (ends_unknown course.report.failed) 1 0 else cond (is_some (wanted_in course.phase)) 1 0)
@@ -198,6 +212,7 @@ pub record Lost (t : Traced) : Type 0 where
   pub gone : IsTrue (stay_gone t)
   pub lost : IsTrue (are_lost t)
   pub pending : IsTrue (are_pending t)
+  pub next : IsTrue (want_next t)
   pub told : IsTrue (are_told t)
   pub outcomes : IsTrue (outcomes_lost t)
   pub unasked : IsTrue (go_unasked t)

@@ -8,7 +8,7 @@ ghost use Rattle.world_model.specs.Script.{are_conversations, are_kept, all_sent
 ghost use Rattle.world_model.specs.Hold.{are_had, are_queued, are_held, are_idle, slots_held, are_opened, are_by_held};
 ghost use Rattle.world_model.specs.Number.{are_near, are_counted as are_numbered, are_told, are_served_near, are_ahead, blocks_next, entries_numbered, known_so_far, none_blocked};
 ghost use Rattle.world_model.specs.Shown.{are_given, in_rows, lose_own, answers_stand};
-ghost use Rattle.world_model.specs.Lost.{stay_gone, want_lost, outcomes_lost, go_unasked, ask_rightly, leave_none, have_events};
+ghost use Rattle.world_model.specs.Lost.{stay_gone, want_lost, want_next, outcomes_lost, go_unasked, ask_rightly, leave_none, have_events};
 ghost use Rattle.world_model.specs.RunLaws.{RunsAreFollowed, RunsAreOrderly};
 ghost use Rattle.world_model.specs.Basic.{have_risen, kept_ticks, items_rise, items_differ, is_down, are_ended, sessions_differ, are_made, are_counted, are_named, living_now, commits_counted, lives};
 
@@ -247,10 +247,11 @@ pub fn lost_connections_stay_shut()
     ensures { IsKeptOfAll stay_gone }
 {}
 
-/// What a request that lost a connection is to ask for is held on one that it lost, which ended at the event that it knows of, if the whole
-/// invariant held before.
+/// What a request that lost a connection is to ask for is held on one that it lost, which ended at the event that it knows of. If a call
+/// without the mark is out there, it is the one behind the calls that were shown so far. If the whole invariant held before.
 pub fn requests_want_what_they_lost()
-    ensures { IsKeptOfAll want_lost }
+    ensures lost { IsKeptOfAll want_lost }
+    ensures next { IsKeptOfAll want_next }
 {}
 
 /// Each Outcome that a request sent asks the identifier held on a connection that it lost, if the whole invariant held before.

@@ -1,5 +1,8 @@
-use Rattle.world_model.proofs.KeptWanted.{wanted_law}
+use Rattle.world_model.proofs.KeptWanted.{wanted_law, next_law}
 use Rattle.world_model.proofs.laws.requests_want_what_they_lost.Goals as goal
 
-pub returns : goal.returns
-returns c = wanted_law
+pub returns-clause-lost : goal.returns-clause-lost
+returns-clause-lost c = wanted_law
+
+pub returns-clause-next : goal.returns-clause-next
+returns-clause-next c = next_law
