@@ -144,6 +144,12 @@ abbrev pub fails_incomplete : Ltxid → Option Failure → Bool
 fails_incomplete x (Some (failure.Incomplete y)) = same_ltxid x y
 fails_incomplete x _ = false
 
+abbrev pub is_failed_by : Course → Outcome → Bool
+is_failed_by course outcome = implies (outcome.committed && not outcome.completed) (fails_incomplete outcome.ltxid course.report.failed)
+
+abbrev pub fail_incomplete : Traced → Bool
+fail_incomplete t = list_all (λ course. list_all (is_failed_by course) course.report.outcomes) (courses_of t)
+
 abbrev pub shows_sent : Course → Ltxid → Bool
 shows_sent course x =
     list_any (λ sending. same_ltxid sending.ltxid x && option_map_or (λ shown. ends_committed shown.answers) (slice_get course.report.calls sending.at) false) (sendings_of course)
