@@ -1,9 +1,10 @@
 //! The calls of a service.
-ghost use Rattle.std.specs.Prelude.{◌≡◌, ◌<◌, ◌^◌, true, false, None, IfOk, Ok};
+ghost use Rattle.std.specs.Prelude.{◌≡◌, ◌<◌, ◌^◌, true, false, None, IfOk, IfSome, Ok};
 ghost use Rattle.std.specs.List.{AllByRecursion};
 ghost use Rattle.svc_values.specs.Calls.{IsMade};
 ghost use Rattle.svc_values.specs.Identifiers.{IsLtxid};
 ghost use Rattle.canon_bytes.specs.UpBytes.{IsMadeUp};
+ghost use Rattle.canon_bytes.specs.DownBytes.{IsMadeDown};
 ghost use Rattle.server_model.specs.Seen.{Seen, Lives};
 ghost use Rattle.server_model.specs.ServiceCalls.{Connected, Reaped, with_stop, ServedOne, MayCrash, Crashed, MayForget, Opened, StoppedOpening, RanOutside, StoppedOutside, AskedOne, StoppedAsk, Looked, StoppedLook};
 ghost use Rattle.service_calls.specs.Answers.{IfTold, Ends, NotMemory, runs_of};
@@ -69,6 +70,7 @@ pub trait Service {
         requires few { (state self.old).calls < 2 ^ 48 }
         requires lives { Lives (state self.old) connection }
         requires made { IsMadeUp frame.now }
+        ensures made { IfOk result (λ reply. IfSome reply IsMadeDown) }
         ensures served { IfTold result (λ told. Goes (sees self.old) (sees self.new) (λ old new. ServedOne old connection now frame.now told (leaves self.new) new)) }
         ensures base { NotMemory result (HaveOneBase (bytes self.old) (bytes self.new)) };
 

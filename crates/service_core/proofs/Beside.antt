@@ -59,6 +59,7 @@ beside_on grants frame now most told core later disk end held notes session new 
         each = λ connection other at.
             let one = beside.up.each connection other at in
             record { reads = one.reads; noted = one.noted; belongs = served.others other (beside.apart connection other at) one.belongs; lives = one.lives; numbered = one.numbered };
+        counted = beside.up.counted;
         unmade_belong = λ number above.
             subst (λ n. Belongs later (begins (ltxid_of (record { incarnation = n; session = number }) 0))) (sym stay.incarnation)
             (served.others (unmade core number) (λ same. let no : ⊥ = omega (arith, beside.numbered, above, same) in no) (beside.up.unmade_belong number above));

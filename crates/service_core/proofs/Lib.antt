@@ -12,6 +12,7 @@ mod Faulty
 mod Gained
 mod GoingOn
 mod Halted
+mod Limits
 mod Made
 mod Opened
 mod Reaching

@@ -123,6 +123,7 @@ opens_soundly old new core stop below keeps off settled sound opening =
       few = omega arith;
       crashes = omega (arith, down.crashes);
       each = λ connection session at. none_at old.held connection session down.none at;
+      counted = λ connection session at. none_at old.held connection session down.none at;
       unmade_belong = λ session above. record {
         incarnation = refl;
         number = unmade_next read.journal below session (keeps old.disk.now.seen read.journal read.reads).commits.earlier ∙ sym (λ i. ((book i).state (number i) session).next);

@@ -1,5 +1,5 @@
 -- A frame that was answered.
-use Rattle.std.proofs.Common.{◌≡◌, ◌∙◌, ◌+◌, ◌*◌, ◌<◌, ◌≤◌, ◌==◌, ℕ, Bool, true, false, refl, sym, ap, subst, List, [], ◌∷◌, ◌++◌, length, arith}
+use Rattle.std.proofs.Common.{◌≡◌, ◌∙◌, ◌+◌, ◌*◌, ◌^◌, ◌<◌, ◌≤◌, ◌==◌, ℕ, Bool, true, false, refl, sym, ap, subst, List, [], ◌∷◌, ◌++◌, length, arith}
 use Rattle.std.specs.Prelude.{◌≢◌, not, IsTrue, Option, Some, None, Result, IfOk, if◌then◌else◌}
 use Rattle.std.specs.Ordering.{nat_cmp, is_eq}
 use Rattle.disk_model.specs.Disk.{DiskState, Lowered}
@@ -36,9 +36,10 @@ use Rattle.service_core.specs.Taking.{IsTaken, kept_of}
 use Rattle.service_core.proofs.Ending.{serve_ends, serve_tells}
 use Rattle.service_core.proofs.Faulty.{still_none}
 use Rattle.service_core.proofs.Gained.{added_grew, adds_between, grew_base, book_stored, records_more}
+use Rattle.service_core.proofs.Limits.{IfMade, Limits, limits_so}
 use Rattle.service_core.proofs.Splits.{stays_between}
-use Rattle.service_core.proofs.Standing.{living_is, one_less, seen_with}
-use Rattle.service_core.proofs.Taken.{IsReady, StaysSo, made_ready, not_fewer, others_apart, session_shown, stays_so, taken_held}
+use Rattle.service_core.proofs.Standing.{later_call, living_is, one_less, seen_with}
+use Rattle.service_core.proofs.Taken.{IsReady, StaysSo, made_ready, not_fewer, taken_counted, others_apart, session_shown, stays_so, taken_held}
 
 -- ---- stops
 
@@ -98,6 +99,16 @@ module _ (grants : Grants) (disk end : DiskState) (core later : Core) (held rest
   stay : StaysSo core later session new
   stay = stays_so frame now (1 + sequences_in frame) told core later disk end session new own.reads own.noted up.fits served
 
+  limits : Limits session new told
+  limits = limits_so frame now (1 + sequences_in frame) told core later disk end session new own.reads own.noted up.fits served
+
+  -- what is told keeps within the limits of frames
+  pub served_made : notes.calls < 2 ^ 48 → IfMade told
+  served_made few =
+      let more = not_fewer core held notes.sessions connection session made taken.session_is in
+      let number = taken_counted grants disk core held notes connection session made up taken.session_is in
+      limits.made (omega (arith, few, up.room, served.belongs.incarnation, stay.incarnation), omega (arith, few, up.few, own.numbered, stay.number, more.1), omega (arith, few, number, limits.number))
+
   apart_from : (other : ℕ) (another : Session) → held_at rest other ≡ Some (Some another) → another.ltxid.session ≢ session.ltxid.session
   apart_from other another at = others_apart grants disk core held rest notes connection other session another made up taken.session_is taken.gone at
 
@@ -108,6 +119,13 @@ module _ (grants : Grants) (disk end : DiskState) (core later : Core) (held rest
       let one = up.each other another (one_less connection held rest taken.gone other another at) in
       let more = not_fewer core held notes.sessions connection session made taken.session_is in
       record { reads = one.reads; noted = one.noted; belongs = served.others another (apart_from other another at) one.belongs; lives = one.lives; numbered = omega (arith, one.numbered, more.0) }
+
+  counted_after : (other : ℕ) (another : Session) → At connection new rest other another → another.ltxid.number ≤ notes.calls + 1
+  counted_after other another (Own number is alive) =
+      let before = taken_counted grants disk core held notes connection session made up taken.session_is in
+      let same : another.ltxid.number ≡ new.ltxid.number = ap (λ (s : Session). s.ltxid.number) is in
+      omega (arith, before, limits.number, same)
+  counted_after other another (Other at) = later_call another.ltxid.number notes.calls (up.counted other another (one_less connection held rest taken.gone other another at))
 
   apart_after : (one other : ℕ) (a b : Session) → At connection new rest one a → At connection new rest other b → b.ltxid.session ≡ a.ltxid.session → other ≡ one
   apart_after one other a b (Own number is alive) (Own number' is' alive') same = number' ∙ sym number
@@ -134,6 +152,7 @@ module _ (grants : Grants) (disk end : DiskState) (core later : Core) (held rest
         few = omega (arith, up.few, more.1);
         crashes = omega (arith, up.crashes);
         each = λ other another at. held_after other another (at_after connection new rest after other another put at);
+        counted = λ other another at. counted_after other another (at_after connection new rest after other another put at);
         unmade_belong = unmade_after;
         apart = λ one other a b here there same. apart_after one other a b (at_after connection new rest after one a put here) (at_after connection new rest after other b put there) same;
       }

@@ -1,12 +1,13 @@
 -- What a service is seen as after a frame.
 use Rattle.std.proofs.Common.{◌≡◌, ◌+◌, ◌<◌, ◌^◌, ℕ, false, refl, sym, subst, [], ◌∷◌, ◌++◌}
-use Rattle.std.specs.Prelude.{IsTrue, Option, Some, None}
+use Rattle.std.specs.Prelude.{IsTrue, IfSome, Option, Some, None}
 use Rattle.disk_model.specs.Moment.{MayLeave}
 use Rattle.disk_model.specs.Disk.{DiskState}
 use Rattle.svc_values.specs.declared.frame.Down.{Down}
 use Rattle.svc_values.specs.declared.frame.Up.{Up}
 use Rattle.svc_values.specs.Calls.{sequences_in}
 use Rattle.svc_values.specs.Identifiers.{session_of}
+use Rattle.canon_bytes.specs.DownBytes.{IsMadeDown}
 use Rattle.server_model.specs.Outcomes.{Telling, Stopped, telling_of}
 use Rattle.server_model.specs.Runs.{Served, is_answered}
 use Rattle.server_model.specs.ServiceCalls.{ServedOne, may_store}
@@ -19,7 +20,8 @@ use Rattle.service_core.specs.Seeing.{LeavesIn, SeesIn, Stands, state_of}
 use Rattle.service_core.specs.Sound.{IsSound, IsSoundWithin, IsUp}
 use Rattle.service_core.specs.Taking.{IsTaken, kept_of}
 use Rattle.service_core.specs.Within.{Within}
-use Rattle.service_core.proofs.Served.{served_base, served_came, served_does, served_up}
+use Rattle.service_core.proofs.Limits.{told_made}
+use Rattle.service_core.proofs.Served.{served_base, served_came, served_does, served_made, served_up}
 use Rattle.service_core.proofs.Standing.{goes_from, seen_with}
 use Rattle.service_core.proofs.StoppedOne.{one_base, one_came, one_does, one_down}
 
@@ -46,6 +48,9 @@ module _ (old : Within) (core : Core) (is_up : old.core ≡ Some core) (sound : 
 
     pub serves_soundly : IsSoundWithin with_served
     serves_soundly = served_up old.grants old.disk end core later old.held rest after old.notes made connection now frame (telling_of told) session new kept kept_is up taken put served_so
+
+    pub serves_made : old.notes.calls < 2 ^ 48 → IfSome told IsMadeDown
+    serves_made few = told_made told (served_made old.grants old.disk end core later old.held rest after old.notes made connection now frame (telling_of told) session new kept kept_is up taken put served_so few)
 
     pub serves_on_base : HaveOneBase old.disk.now.seen end.now.seen
     serves_on_base = served_base old.grants old.disk end core later old.held rest after old.notes made connection now frame (telling_of told) session new kept kept_is up taken put served_so

@@ -1,5 +1,5 @@
 -- What a service is seen as, after the calls that leave its store and the plain server beside it.
-use Rattle.std.proofs.Common.{◌≡◌, ◌∙◌, ℕ, Bool, true, false, refl, sym, ap, subst, List, [], arith}
+use Rattle.std.proofs.Common.{◌≡◌, ◌+◌, ◌≤◌, ◌∙◌, ℕ, Bool, true, false, refl, sym, ap, subst, List, [], arith}
 use Rattle.std.specs.Prelude.{◌==◌, Option, Some, None, option_map, is_some, if◌then◌else◌}
 use Rattle.std.specs.Ordering.{nat_cmp, is_eq}
 use Rattle.disk_model.specs.Disk.{DiskState}
@@ -51,6 +51,10 @@ fewer_stand grants disk (Some core) held less notes start history fewer stands =
   stands = record { power = stands.stands.power; plain = stands.stands.plain; count = stands.stands.count; attends = λ connection session at. stands.stands.attends connection session (fewer connection session at) };
 }
 
+-- one call later
+pub later_call : (number calls : ℕ) → number ≤ calls → number ≤ calls + 1
+later_call number calls few = omega (arith, few)
+
 fewer_up : (grants : Grants) (disk : DiskState) (core : Core) (held less : Held) (notes : Notes) → HasNoMore held less → IsUp grants disk core held notes → IsUp grants disk core less (called notes)
 fewer_up grants disk core held less notes fewer up = record {
   fits = up.fits;
@@ -61,6 +65,7 @@ fewer_up grants disk core held less notes fewer up = record {
   few = omega (arith, up.few);
   crashes = omega (arith, up.crashes);
   each = λ connection session at. let one = up.each connection session (fewer connection session at) in record { reads = one.reads; noted = one.noted; belongs = one.belongs; lives = one.lives; numbered = one.numbered };
+  counted = λ connection session at. later_call session.ltxid.number notes.calls (up.counted connection session (fewer connection session at));
   unmade_belong = up.unmade_belong;
   apart = λ connection other session another here there one. up.apart connection other session another (fewer connection session here) (fewer other another there) one;
 }
@@ -203,6 +208,7 @@ stop_sound grants disk (Some core) held notes stop up = record {
   few = omega (arith, up.few);
   crashes = omega (arith, up.crashes);
   each = up.each;
+  counted = λ connection session at. later_call session.ltxid.number notes.calls (up.counted connection session at);
   unmade_belong = up.unmade_belong;
   apart = up.apart;
 }

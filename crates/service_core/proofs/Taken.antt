@@ -76,6 +76,12 @@ taken_held grants disk core held notes connection session made up (inr is) =
     new : IsHeld core made (unmade core (notes.sessions + 1))
     new = record { reads = []; noted = λ at. tt; belongs = up.unmade_belong (notes.sessions + 1) (omega arith); lives = refl; numbered = omega (arith, is.2) }
 
+-- it has committed no more often than calls were made
+pub taken_counted : (grants : Grants) (disk : DiskState) (core : Core) (held : Held) (notes : Notes) (connection : ℕ) (session : Session) (made : ℕ) → IsUp grants disk core held notes
+    → IsSessionOf core held notes.sessions connection session made → session.ltxid.number ≤ notes.calls
+taken_counted grants disk core held notes connection session made up (inl is) = up.counted connection session is.0
+taken_counted grants disk core held notes connection session made up (inr is) = let none : session.ltxid.number ≡ 0 = ap (λ (s : Session). s.ltxid.number) is.1 in omega (arith, none)
+
 pub not_fewer : (core : Core) (held : Held) (sessions connection : ℕ) (session : Session) (made : ℕ) → IsSessionOf core held sessions connection session made → (sessions ≤ made) × (made ≤ sessions + 1)
 not_fewer core held sessions connection session made (inl is) = (omega (arith, is.1), omega (arith, is.1))
 not_fewer core held sessions connection session made (inr is) = (omega (arith, is.2), omega (arith, is.2))

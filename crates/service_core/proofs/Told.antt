@@ -33,7 +33,7 @@ use Rattle.service_core.specs.Sound.{IsDown, IsUp, unmade}
 use Rattle.service_core.proofs.Blocking.{MayBlock, adds_block, block_stays, same_in, told_blocks}
 use Rattle.service_core.proofs.Faulty.{never_falls, none_before, rises, still_counted, still_none, still_none_by_less}
 use Rattle.service_core.proofs.Gained.{Grew, added_grew, book_stored, grew_base}
-use Rattle.service_core.proofs.Standing.{seen_with}
+use Rattle.service_core.proofs.Standing.{later_call, seen_with}
 use Rattle.service_core.proofs.Stopping.{HasSome, has_some}
 use Rattle.service_core.proofs.Taken.{has_plain}
 
@@ -66,6 +66,7 @@ module _ (grants : Grants) (disk end : DiskState) (core : Core) (held : Held) (n
       few = omega (arith, up.few);
       crashes = omega (arith, up.crashes);
       each = λ connection session at. let one = up.each connection session at in record { reads = one.reads; noted = one.noted; belongs = asked.belongs session one.belongs; lives = one.lives; numbered = one.numbered };
+      counted = λ connection session at. later_call session.ltxid.number notes.calls (up.counted connection session at);
       unmade_belong = λ number above.
           subst (λ n. Belongs later (begins (ltxid_of (record { incarnation = n; session = number }) 0))) (sym same_incarnation) (asked.belongs (unmade core number) (up.unmade_belong number above));
       apart = up.apart;

@@ -20,7 +20,7 @@ use Rattle.service_core.specs.Through.{Item, Through, Still, Then}
 use Rattle.service_core.proofs.Beside.{IsBeside}
 use Rattle.service_core.proofs.Faulty.{still_none}
 use Rattle.service_core.proofs.Gained.{Grew, added_grew}
-use Rattle.service_core.proofs.Standing.{seen_with}
+use Rattle.service_core.proofs.Standing.{later_call, seen_with}
 use Rattle.service_core.proofs.Taken.{incarnation_is}
 
 -- ---- the disk
@@ -82,6 +82,7 @@ made_beside grants disk core held notes up = record {
     few = omega (arith, up.few);
     crashes = omega (arith, up.crashes);
     each = λ connection other at. let one = up.each connection other at in record { reads = one.reads; noted = one.noted; belongs = one.belongs; lives = one.lives; numbered = omega (arith, one.numbered) };
+    counted = λ connection other at. later_call other.ltxid.number notes.calls (up.counted connection other at);
     unmade_belong = λ number above. up.unmade_belong number (omega (arith, above));
     apart = up.apart;
   };

@@ -42,6 +42,8 @@ pub record IsUp (grants : Grants) (disk : DiskState) (core : Core) (held : Held)
   pub few : notes.sessions ≤ notes.calls
   pub crashes : notes.crashes ≤ notes.calls
   pub each : (connection : ℕ) (session : Session) → held_at held connection ≡ Some (Some session) → IsHeld core notes.sessions session
+  -- each commit was a call
+  pub counted : (connection : ℕ) (session : Session) → held_at held connection ≡ Some (Some session) → session.ltxid.number ≤ notes.calls
   -- no session above those that were made has committed
   pub unmade_belong : (session : ℕ) → notes.sessions < session → Belongs core (unmade core session)
   -- no two connections have one session

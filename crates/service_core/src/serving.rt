@@ -1,7 +1,8 @@
 //! A frame, served by its connection's session.
-ghost use Rattle.std.specs.Prelude.{◌≡◌, ◌≢◌, ◌+◌, ◌<◌, ◌^◌, None, Some, OnOk, false};
+ghost use Rattle.std.specs.Prelude.{◌≡◌, ◌≢◌, ◌+◌, ◌<◌, ◌^◌, None, Some, OnOk, IfOk, IfSome, false};
 ghost use Rattle.svc_values.specs.Identifiers.{ltxid_of};
 ghost use Rattle.canon_bytes.specs.UpBytes.{IsMadeUp};
+ghost use Rattle.canon_bytes.specs.DownBytes.{IsMadeDown};
 ghost use Rattle.server_model.specs.Seen.{Seen, Lives};
 ghost use Rattle.server_model.specs.ServiceCalls.{ServedOne};
 ghost use Rattle.service_calls.specs.Answers.{IfTold, NotMemory};
@@ -75,6 +76,7 @@ impl<D: StopDisk> OneService<D> {
         requires few { self.old.notes.calls < 2 ^ 48 }
         requires lives { Lives (state_in self.old) connection }
         requires made { IsMadeUp frame.now }
+        ensures made { IfOk result (λ told. IfSome told IsMadeDown) }
         ensures served { IfTold result (λ told. Goes (SeesIn self.old) (SeesIn self.new) (λ old new. ServedOne old connection now frame.now told (LeavesIn self.new) new)) }
         ensures base { NotMemory result (HaveOneBase (bytes_in self.old) (bytes_in self.new)) }
     {

@@ -10,7 +10,7 @@ use Rattle.service_calls.specs.Kept.{Goes, HaveOneBase}
 use Rattle.service_core.specs.Seeing.{LeavesIn, SeesIn, bytes_in}
 use Rattle.service_core.specs.Sound.{IsSound, IsUp}
 use Rattle.service_core.specs.Within.{Within}
-use Rattle.service_core.proofs.Serves.{serves, serves_on_base, serves_soundly, stops, stops_on_base, stops_soundly, with_served, with_stopped}
+use Rattle.service_core.proofs.Serves.{serves, serves_made, serves_on_base, serves_soundly, stops, stops_on_base, stops_soundly, with_served, with_stopped}
 use Rattle.service_core.proofs.Taken.{gone_at, taken_held}
 use Rattle.service_core.proofs.one.OneService.serve_frame.Goals as goal
 
@@ -53,6 +53,18 @@ returns-in-Ok-put_back-clause-served g c =
     let new = with_served old c.in-Some.core is_up (c.self.invariant live) c.take_session-session.new.held c.take_session-session.new.made c.args.connection c.args.now frame session c.left-self-inside.result c.left-self-inside.ensures taken end c.serve.new.core c.put_back.new.held c.in-Ok.told c.serve.new.self c.in-Ok-put_back.ensures c.in-Ok.ensures.served in
     subst (λ (w : Within). Goes (SeesIn w) (SeesIn new) (λ before behind. ServedOne before c.args.connection c.args.now frame (telling_of c.in-Ok.told) (LeavesIn new) behind)) {x = old} c.self.view_is
     (serves old c.in-Some.core is_up (c.self.invariant live) c.take_session-session.new.held c.take_session-session.new.made c.args.connection c.args.now frame session c.left-self-inside.result c.left-self-inside.ensures taken end c.serve.new.core c.put_back.new.held c.in-Ok.told c.serve.new.self c.in-Ok-put_back.ensures c.in-Ok.ensures.served live (λ quiet. (c.in-Ok.ensures.silent quiet).0))
+
+pub returns-in-Ok-put_back-clause-made : goal.returns-in-Ok-put_back-clause-made
+returns-in-Ok-put_back-clause-made g c =
+    let old : Within = record { grants = c.self.inside.grants; disk = g.D.Disk.state c.self.inside.disk; core = c.self.inside.core; held = c.self.inside.held; notes = c.self.inside.notes } in
+    let end = g.D.Disk.state c.serve.new.disk in
+    let frame = c.args.frame.now in
+    let session = c.take_session-session.result in
+    let taken = c.take_session-session.ensures in
+    let is_up : old.core ≡ Some c.in-Some.core = sym c.in-Some.ensures.value in
+    let live = ap (λ (w : Within). w.notes.is_spent) c.self.view_is ∙ c.requires.live in
+    let few = subst (λ n. n < 2 ^ 48) (sym (ap (λ (w : Within). w.notes.calls) c.self.view_is)) c.requires.few in
+    serves_made old c.in-Some.core is_up (c.self.invariant live) c.take_session-session.new.held c.take_session-session.new.made c.args.connection c.args.now frame session c.left-self-inside.result c.left-self-inside.ensures taken end c.serve.new.core c.put_back.new.held c.in-Ok.told c.serve.new.self c.in-Ok-put_back.ensures c.in-Ok.ensures.served few
 
 pub returns-in-Ok-put_back-clause-base : goal.returns-in-Ok-put_back-clause-base
 returns-in-Ok-put_back-clause-base g c =
