@@ -241,6 +241,16 @@ module _ (terms : Terms) (settings : List (List ℕ × Value)) (calls : List Cal
       let s : Stepped terms settings calls a one.0 one.1 step = step_stepped a gone one.1 talk talks one.0 fits may.0 in
       last_fits inputs (after_step terms calls a (done_at terms talk one)) (is_gone_next one.0 step.1.hold) step.0 (next_talks a one.0 one.1 step s) (next_fits a one.0 one.1 step s) may.1
 
+  -- and what is left of it, while it is not idle
+  pub last_talks : (inputs : List Timed) (a : Account) (gone : Bool) (talk : Talk) → (is_idle talk.phase ≡ false → IsTalk terms settings calls a talk) → Fits terms calls a gone talk.phase
+      → MayCome terms talk gone inputs
+      → is_idle (talk_after terms talk inputs).phase ≡ false → IsTalk terms settings calls (fold (after_step terms calls) a (steps_of terms talk inputs)) (talk_after terms talk inputs)
+  last_talks [] a gone talk talks fits may = talks
+  last_talks (one ∷ inputs) a gone talk talks fits may =
+      let step : Step = talk_step terms talk one.0 one.1 in
+      let s : Stepped terms settings calls a one.0 one.1 step = step_stepped a gone one.1 talk talks one.0 fits may.0 in
+      last_talks inputs (after_step terms calls a (done_at terms talk one)) (is_gone_next one.0 step.1.hold) step.0 (next_talks a one.0 one.1 step s) (next_fits a one.0 one.1 step s) may.1
+
   keeps_none : (keeps : Bool) (all : List (List ℕ × Value)) → all ≡ (if keeps then all else all)
   keeps_none true all = refl
   keeps_none false all = refl

@@ -45,6 +45,7 @@ pub mod StoppedBefore
 pub mod StoppedHistories
 pub mod Steps
 pub mod Stored
+pub mod StoredTold
 pub mod StoringCalls
 pub mod Tells
 pub mod Takings

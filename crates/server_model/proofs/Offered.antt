@@ -4,6 +4,8 @@
 pub use Rattle.server_model.proofs.Marked.{marked_stores_none}
 -- a service's store goes on by serial entries that are numbered in order, and each identifier that it blocked is its session's next one
 pub use Rattle.server_model.proofs.Services.{service_stores, service_stands}
+-- and each frame is told as it has to be
+pub use Rattle.server_model.proofs.WalkRuns.{runs_told}
 -- a frame's entry is of its session, and an entry comes from a call; what was answered Committed or told uncommitted stands
 pub use Rattle.server_model.proofs.Growth.{serve_grows}
 pub use Rattle.server_model.proofs.Stays.{serve_stays}
@@ -17,6 +19,8 @@ pub use Rattle.server_model.proofs.Tells.{tells_next, tells_outcomes, tells_asks
 -- a frame adds an entry, a block, a line, or nothing, and so does what is asked from outside
 pub use Rattle.server_model.proofs.Fronts.{Adds, serve_adds, outcomes_add}
 pub use Rattle.server_model.proofs.Stored.{AddsBy, answered_adds, stopped_adds}
+-- and what is told of it is stored
+pub use Rattle.server_model.proofs.StoredTold.{store_beside, told_stored, stopped_stored, told_blocks, asked_blocks}
 -- a front of a run is a run, and while a server runs on it stopped in no frame of its opening
 pub use Rattle.server_model.proofs.Fronts.{runs_front}
 pub use Rattle.server_model.proofs.NumberRuns.{runs_stand}

@@ -66,7 +66,7 @@ already state number is =
 parts : (n m : ℕ) (b : Bool) → ((n == m) && b) ≡ true → (n ≡ m) × (b ≡ true)
 parts n m b is = (grind (arith, nat_tests), grind (arith, nat_tests))
 
-already-blocked : (core : Core) (x : Ltxid) → verdict_on core x ≡ verdict.AlreadyBlocked → IsBlocked core x
+pub already-blocked : (core : Core) (x : Ltxid) → verdict_on core x ≡ verdict.AlreadyBlocked → IsBlocked core x
 already-blocked core x = by (nat_lt x.incarnation core.horizon)
   where
     by : (lost : Bool) → (let state = if lost then untouched else state_of (map committed_of (all_entries core)) (all_blocked core) x.incarnation x.session in if lost then verdict.Forgotten core.horizon else outcome_in state x.number) ≡ verdict.AlreadyBlocked → IsBlocked core x

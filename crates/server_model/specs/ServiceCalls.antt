@@ -2,6 +2,7 @@
 use Rattle.std.specs.Prelude.{◌≡◌, ◌≢◌, ◌⊎◌, ◌+◌, ◌*◌, ◌%◌, ◌<◌, ◌≤◌, ℕ, Bool, true, false, List, [], ◌∷◌, ◌++◌, length, Option, Some, None, All, Contains, nat_lt, max, if◌then◌else◌}
 use Rattle.svc_values.specs.declared.draw.Draw.{Draw}
 use Rattle.svc_values.specs.declared.call.Call.{Call}
+use Rattle.svc_values.specs.declared.call.Call.TheVariants as call
 use Rattle.svc_values.specs.declared.answer.Answer.{Answer}
 use Rattle.svc_values.specs.declared.entry.Entry.{Entry}
 use Rattle.svc_values.specs.declared.entry.Ltxid.{Ltxid}
@@ -10,9 +11,11 @@ use Rattle.svc_values.specs.declared.frame.Up.TheVariants as up
 use Rattle.svc_values.specs.declared.frame.Down.TheVariants as down
 use Rattle.ltxid_book.specs.declared.verdict.Verdict.{Verdict}
 use Rattle.ltxid_book.specs.declared.verdict.Verdict.TheVariants as verdict
+use Rattle.ltxid_book.specs.Journal.{is_blocked}
 use Rattle.ltxid_book.specs.Outcomes.{verdict_of}
 use Rattle.svc_values.specs.declared.entry.SessionId.{SessionId}
 use Rattle.svc_values.specs.Calls.{sequences_in}
+use Rattle.svc_values.specs.Endings.{ends_committed}
 use Rattle.svc_values.specs.Identifiers.{ltxid_of}
 use Rattle.server_model.specs.Outcomes.{Telling, Silent, Says, Stopped, down_of}
 use Rattle.server_model.specs.Runs.{Happened, Served, Asked}
@@ -143,6 +146,28 @@ abbrev pub TellsByTable : Store → Up → Telling → Type 0
 TellsByTable store (up.Outcome x) (Says told) = (told ≡ down.Refused 2) ⊎ (told ≡ down_of (verdict_of (book_in store) x))
 TellsByTable store _ _ = Unit {0}
 
+-- a line that was answered was added
+abbrev pub AddsLine : Store → Call → Store → Type 0
+AddsLine old (call.Alter line) new = new.alerts ≡ old.alerts ++ line ∷ []
+AddsLine old called new = Unit {0}
+
+-- What is told is stored: of an answer Committed one entry was added, of a line that was answered the line, and of an identifier that
+-- is told uncommitted, and was not blocked before, the block.
+abbrev pub StoresTold : Store → Up → Telling → Store → Type 0
+StoresTold old (up.Call replay kept called) (Says (down.Reply answers draws x)) new = (ends_committed answers ≡ true → (entry : Entry) × (new.entries ≡ old.entries ++ entry ∷ [])) × AddsLine old called new
+StoresTold old (up.Outcome x) (Says (down.OutcomeIs false completed)) new = is_blocked old.blocked x ≡ false → new.blocked ≡ old.blocked ++ x ∷ []
+StoresTold old _ _ new = Unit {0}
+
+-- an identifier may have been blocked: it was told uncommitted, or nothing was told since the store was stopped
+abbrev pub may_block : Telling → Bool
+may_block (Says (down.OutcomeIs false completed)) = true
+may_block Stopped = true
+may_block _ = false
+
+-- but where it may have been, none was blocked
+abbrev pub BlocksAsTold : Store → Telling → Store → Type 0
+BlocksAsTold old told new = may_block told ≡ false → new.blocked ≡ old.blocked
+
 -- A frame joins the history as one thing, of the connection's session. It adds at most one entry,
 -- block or line, and a reservation for each sequence operand; so does what a crash leaves of it.
 pub record ServedOne (old : Seen) (connection now : ℕ) (frame : Up) (told : Telling) (leaves : Store → Type 0) (new : Seen) : Type 0 where
@@ -156,6 +181,8 @@ pub record ServedOne (old : Seen) (connection now : ℕ) (frame : Up) (told : Te
   pub outcome : TellsByTable old.state.store frame told
   pub adds : Adds (Served session now frame told ∷ []) (1 + sequences_in frame) old.state.store new.state.store
   pub left : HoldsBehind told leaves (Adds (Served session now frame told ∷ []) (1 + sequences_in frame) old.state.store)
+  pub stored : StoresTold old.state.store frame told new.state.store
+  pub blocks : BlocksAsTold old.state.store told new.state.store
   pub cause : StopCause old new (1 + sequences_in frame) told
   -- a frame that stores nothing is never stopped
   pub silent : may_store frame ≡ false → (told ≢ Stopped) × (new.state.faults ≡ old.state.faults) × (new.state.store ≡ old.state.store)
@@ -289,6 +316,7 @@ pub record AskedOne (old : Seen) (x : Ltxid) (told : Verdict) (new : Seen) : Typ
   pub history : new.history ≡ old.history ++ Asked x (Says (down_of told)) ∷ []
   pub others : SameLiving new.state.living old.state.living × (new.state.is_up ≡ true) × (new.state.kept ≡ old.state.kept) × (new.state.sessions ≡ old.state.sessions)
   pub adds : AddsBlock x old.state.store new.state.store
+  pub blocks : BlocksAsTold old.state.store (Says (down_of told)) new.state.store
   pub cause : StopsOnly old new false
 
 pub record StoppedAsk (old : Seen) (x : Ltxid) (leaves : Store → Type 0) (new : Seen) : Type 0 where

@@ -1,11 +1,12 @@
 -- What a store gains in a frame: what the plain server beside it does, in so many records more.
-use Rattle.std.proofs.Common.{◌≡◌, ◌∙◌, ◌+◌, ◌≤◌, ℕ, refl, sym, ap, List, [], ◌∷◌, ◌++◌, length, map, fold, append_assoc, length-append, arith}
+use Rattle.std.proofs.Common.{◌≡◌, ◌∙◌, ◌+◌, ◌≤◌, ℕ, refl, sym, ap, subst, List, [], ◌∷◌, ◌++◌, length, map, fold, append_assoc, length-append, arith}
 use Rattle.std.proofs.lemmas.List.{length-map}
 use Rattle.std.proofs.lemmas.List.Elements.{All-weaker}
 use Rattle.std.specs.Prelude.{Result, Ok, Err}
 use Rattle.redo_store.specs.Records.{records_of, record_count}
 use Rattle.svc_values.specs.declared.entry.Entry.{Entry}
 use Rattle.svc_values.specs.declared.entry.Ltxid.{Ltxid}
+use Rattle.svc_values.specs.declared.frame.Up.{Up}
 use Rattle.ltxid_book.specs.Journal.{book_of, committed_of}
 use Rattle.commit_log.specs.declared.journal.Journal.{Journal}
 use Rattle.commit_log.specs.declared.records.Record.{Record}
@@ -17,10 +18,13 @@ use Rattle.commit_log.specs.Journals.{journal_of, journal_in, so_far_of, with_ga
 use Rattle.server_model.specs.Base.{Base}
 use Rattle.server_model.specs.Core.{Core as Plain, book}
 use Rattle.server_model.specs.Laws.{CommitsAs}
+use Rattle.server_model.specs.Outcomes.{Telling, Outcomes}
 use Rattle.server_model.specs.Runs.{Happened}
 use Rattle.server_model.specs.Seen.{Store, book_in}
-use Rattle.server_model.specs.ServiceCalls.{CameFrom, WasAsked, AsksFor, Gains, Adds}
-use Rattle.server_model.proofs.Offered.{AddsBy}
+use Rattle.server_model.specs.Serve.{Serve}
+use Rattle.server_model.specs.ServiceCalls.{CameFrom, WasAsked, AsksFor, Gains, Adds, StoresTold, BlocksAsTold}
+use Rattle.server_model.specs.Sessions.{Sess}
+use Rattle.server_model.proofs.Offered.{AddsBy, store_beside, told_stored, told_blocks, asked_blocks}
 use Rattle.server_session.specs.Plain.{IsStored}
 use Rattle.service_calls.specs.Kept.{HaveOneBase}
 use Rattle.service_core.specs.Seeing.{store_in, store_of}
@@ -188,3 +192,33 @@ adds_between one most core after adds old image records journal later reads read
       stored = stored_by (one ∷ []) (store_of old) (store_of image) gains (length records) more (few_items old records image journal reads has);
       records = (omega (arith, more), omega (arith, more, few));
     }
+
+-- ---- what is told
+
+-- the store of an image that a plain server stands beside
+stands_beside : (core : Plain) (image : List ℕ) (journal : Journal) → journal_of image ≡ Ok journal → IsStored core journal → store_beside core (record_count (records_of image)) ≡ store_of image
+stands_beside core image journal reads is =
+    let beside : store_beside core (record_count (records_of image)) ≡ store_in (Ok journal) (record_count (records_of image)) =
+    (λ i. record { incarnation = is.source.incarnation i; horizon = is.horizon i; entries = is.entries i; blocked = is.blocked i; alerts = is.alerts i; records = record_count (records_of image) }) in
+    beside ∙ sym (store_is image journal reads)
+
+-- what is told is stored, and no more is blocked, between two images that plain servers stand beside
+module _ (core after : Plain) (old image : List ℕ) (journal later : Journal) (reads : journal_of old ≡ Ok journal) (reads_later : journal_of image ≡ Ok later) (was : IsStored core journal) (is : IsStored after later) where
+  n : ℕ
+  n = record_count (records_of old)
+
+  m : ℕ
+  m = record_count (records_of image)
+
+  between : (Holds : Store → Store → Type 0) → Holds (store_beside core n) (store_beside after m) → Holds (store_of old) (store_of image)
+  between Holds beside = subst (λ (s : Store). Holds (store_of old) s) (stands_beside after image later reads_later is) (subst (λ (s : Store). Holds s (store_beside after m)) (stands_beside core old journal reads was) beside)
+
+  module _ (sess t : Sess) (now : ℕ) (frame : Up) (told : Telling) (serve : Serve core sess now frame after t told) where
+    pub stored_between : StoresTold (store_of old) frame told (store_of image)
+    stored_between = between (λ before behind. StoresTold before frame told behind) (told_stored core sess now frame after t told n m serve)
+
+    pub blocks_between : BlocksAsTold (store_of old) told (store_of image)
+    blocks_between = between (λ before behind. BlocksAsTold before told behind) (told_blocks core sess now frame after t told n m serve)
+
+  pub asked_between : (x : Ltxid) (told : Telling) → after.base ≡ core.base → Outcomes core x after told → BlocksAsTold (store_of old) told (store_of image)
+  asked_between x told base asked = between (λ before behind. BlocksAsTold before told behind) (asked_blocks core x after told n m base asked)

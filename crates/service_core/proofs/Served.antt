@@ -35,7 +35,7 @@ use Rattle.service_core.specs.Sound.{IsHeld, IsUp, unmade}
 use Rattle.service_core.specs.Taking.{IsTaken, kept_of}
 use Rattle.service_core.proofs.Ending.{serve_ends, serve_tells}
 use Rattle.service_core.proofs.Faulty.{still_none}
-use Rattle.service_core.proofs.Gained.{added_grew, adds_between, grew_base, book_stored, records_more}
+use Rattle.service_core.proofs.Gained.{added_grew, adds_between, grew_base, book_stored, records_more, stored_between, blocks_between}
 use Rattle.service_core.proofs.Limits.{IfMade, Limits, limits_so}
 use Rattle.service_core.proofs.Splits.{stays_between}
 use Rattle.service_core.proofs.Standing.{later_call, living_is, one_less, seen_with}
@@ -309,6 +309,8 @@ module _ (grants : Grants) (disk end : DiskState) (core later : Core) (held rest
           adds_between (Served (session_of session.ltxid) now frame told) (1 + sequences_in frame) ready.server.core stepped.after adds disk.now.seen end.now.seen served.records up.fits.journal served.fits.journal up.fits.reads served.fits.reads stored_before stored_behind
           (record { base = stays.base; incarnation = stays.incarnation; horizon = stays.horizon }) served.gained.added served.few;
       left = behind_told told answered leaves _;
+      stored = stored_between ready.server.core stepped.after disk.now.seen end.now.seen up.fits.journal served.fits.journal up.fits.reads served.fits.reads stored_before stored_behind old_sess new_sess now frame told stepped.step;
+      blocks = blocks_between ready.server.core stepped.after disk.now.seen end.now.seen up.fits.journal served.fits.journal up.fits.reads served.fits.reads stored_before stored_behind old_sess new_sess now frame told stepped.step;
       cause = cause;
       silent = λ quiet. (not_stopped told answered, ap (λ (d : DiskState). d.faults) (silent quiet), ap (λ (d : DiskState). store_of d.now.seen) (silent quiet));
     }

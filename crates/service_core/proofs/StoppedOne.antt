@@ -13,6 +13,7 @@ use Rattle.server_model.specs.Outcomes.{Stopped}
 use Rattle.server_model.specs.Runs.{Happened, Served}
 use Rattle.server_model.specs.Seen.{Store, Seen, Keeps}
 use Rattle.server_model.specs.ServiceCalls.{Adds, ServedOne, StopCause, TellsByTable, may_store}
+use Rattle.server_model.proofs.Offered.{stopped_stored}
 use Rattle.server_session.specs.declared.shared.Core.{Core}
 use Rattle.server_session.specs.SeenSession.{SeenSession as Session}
 use Rattle.server_session.specs.Serving.{HasStopped, served_as}
@@ -111,6 +112,8 @@ module _ (grants : Grants) (disk end : DiskState) (core : Core) (held rest : Hel
       outcome = stopped_by_table (store_of disk.now.seen) frame;
       adds = adds_at end.now.seen reads_now;
       left = λ store leaves. subst (Adds (Served (session_of session.ltxid) now frame Stopped ∷ []) (1 + sequences_in frame) (store_of disk.now.seen)) (sym leaves.store_is) (adds_at leaves.image leaves.left);
+      stored = stopped_stored (store_of disk.now.seen) frame (store_of end.now.seen);
+      blocks = λ none. absurd (let no : ⊥ = cc in no);
       cause = cause few;
       silent = λ quiet. absurd (stores quiet);
     }

@@ -32,7 +32,7 @@ use Rattle.service_core.specs.Seeing.{Came, Leaves, StandsDown, StandsUp, called
 use Rattle.service_core.specs.Sound.{IsDown, IsUp, unmade}
 use Rattle.service_core.proofs.Blocking.{MayBlock, adds_block, block_stays, same_in, told_blocks}
 use Rattle.service_core.proofs.Faulty.{never_falls, none_before, rises, still_counted, still_none, still_none_by_less}
-use Rattle.service_core.proofs.Gained.{Grew, added_grew, book_stored, grew_base}
+use Rattle.service_core.proofs.Gained.{Grew, added_grew, asked_between, book_stored, grew_base}
 use Rattle.service_core.proofs.Standing.{later_call, seen_with}
 use Rattle.service_core.proofs.Stopping.{HasSome, has_some}
 use Rattle.service_core.proofs.Taken.{has_plain}
@@ -124,6 +124,9 @@ module _ (grants : Grants) (disk end : DiskState) (core : Core) (held : Held) (n
         adds =
             adds_block x came.server.core after (told_blocks judged came.server.core x) disk.now.seen end.now.seen asked.records up.fits.journal asked.fits.journal up.fits.reads asked.fits.reads (stored_before came.server.core came.stands.plain)
             (subst (λ (r : Result Journal ℕ). IfOk r (IsStored after)) asked.fits.reads plain_after.stored) asked.gained.added asked.few;
+        blocks =
+            asked_between came.server.core after disk.now.seen end.now.seen up.fits.journal asked.fits.journal up.fits.reads asked.fits.reads (stored_before came.server.core came.stands.plain)
+            (subst (λ (r : Result Journal ℕ). IfOk r (IsStored after)) asked.fits.reads plain_after.stored) x (Says (down_of told)) (block_stays x came.server.core after (told_blocks judged came.server.core x)).base outcomes;
         cause = record { rose = λ stopped. absurd (let no : ⊥ = cc in no); quiet = λ quiet changed. absurd (changed asked.gained.faults) };
       }
 

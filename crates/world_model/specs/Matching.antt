@@ -1,5 +1,5 @@
 -- An event beside its note.
-use Rattle.std.specs.Prelude.{ℕ, ◌==◌, Bool, Option, Some, None}
+use Rattle.std.specs.Prelude.{ℕ, ◌==◌, Bool, true, false, Option, Some, None}
 use Rattle.svc_values.specs.declared.entry.Ltxid.{Ltxid}
 use Rattle.svc_values.specs.Identifiers.{same_ltxid}
 use Rattle.outage_schedule.specs.declared.event.Event.{Event}
@@ -42,3 +42,8 @@ matched (event.Outside calls) (note.Outside ran) = Some (RanOutside ran)
 matched (event.Ask ltxid) (note.Ask named told) = only_if (same_ltxid named ltxid) (Asked ltxid told)
 matched event.Drain (note.Drain closed) = Some (Drained closed)
 matched _ _ = None
+
+-- a step of a client
+abbrev pub is_go : Event → Bool
+is_go (event.Go client) = true
+is_go _ = false
