@@ -1,5 +1,5 @@
 -- The journal that an image holds.
-use Rattle.std.specs.Prelude.{ℕ, ◌+◌, List, [], ◌∷◌, length, Option, Some, None, option_and_then, Result, Ok, Err}
+use Rattle.std.specs.Prelude.{ℕ, ◌+◌, Bool, false, List, [], ◌∷◌, length, Option, Some, None, option_and_then, Result, Ok, Err}
 use Rattle.canon_bytes.specs.declared.fault.Fault.{Fault}
 use Rattle.redo_store.specs.Records.{records_of, whole_records}
 use Rattle.commit_log.specs.declared.journal.Journal.{Journal}
@@ -51,3 +51,8 @@ journal_in (Ok (Begun journal is_opened has_horizon)) = Ok journal
 -- the journal of an image, or the first place where it is damaged
 abbrev pub journal_of : List ℕ → Result Journal ℕ
 journal_of image = journal_in (so_far_of image)
+
+-- the store was opened in it
+abbrev pub is_opened : Result SoFar ℕ → Bool
+is_opened (Ok (Begun journal opened has_horizon)) = opened
+is_opened _ = false

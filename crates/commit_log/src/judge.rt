@@ -280,6 +280,13 @@ impl Judge {
         !self.has_horizon || self.journal.horizon < horizon
     }
 
+    // Whether the store was opened in the journal.
+    pub fn is_opened(&self) -> bool
+        ensures { result ≡ self.now.is_opened }
+    {
+        self.is_opened
+    }
+
     // The journal. It takes no memory.
     pub fn into_journal(self) -> Journal
         ensures { result ≡ self.journal }

@@ -10,7 +10,7 @@ ghost use Rattle.commit_log.specs.declared.records.Record.TheVariants as kept;
 ghost use Rattle.commit_log.specs.Bases.{IsBase};
 ghost use Rattle.commit_log.specs.RecordBytes.{IsMadeRecord};
 ghost use Rattle.commit_log.specs.Rules.{new_journal};
-ghost use Rattle.commit_log.specs.Journals.{so_far_of, journal_of};
+ghost use Rattle.commit_log.specs.Journals.{so_far_of, journal_of, is_opened};
 ghost use Rattle.commit_log.specs.Adding.{record_in, HasAlso, IsOldOrWith};
 ghost use Rattle.commit_log.specs.Adds.{MayAddTo, MayAdd, AddsTo, Adds};
 ghost use Rattle.commit_log.specs.Growth.{HasAdded, IsGrown, horizon_of, first_of_opening, opening_of, with_opening};
@@ -92,6 +92,18 @@ impl Log {
     {
         let (_, judge) = judge_all(alloc, disk)?;
         Ok(judge.into_journal())
+    }
+
+    /// Whether the store was opened before. It reads as `read` does, and changes nothing.
+    pub fn was_opened<D: Disk>(alloc: Global, disk: &mut D) -> Result<bool, LogFault>
+        ensures opened { IfOk result (λ opened. opened ≡ is_opened (so_far_of (D.state disk.old).now.seen)) }
+
+        // The place is the first at which the bytes are no journal.
+        ensures damaged { (place : ℕ) → IsErrOf result (LogFault.Damaged place) → journal_of (D.state disk.old).now.seen ≡ Err place }
+        ensures only_reads { OnlyReads (IsErrOf result LogFault.Stopped) (D.state disk.old) (D.state disk.new) }
+    {
+        let (_, judge) = judge_all(alloc, disk)?;
+        Ok(judge.is_opened())
     }
 
     /// Opens the store: reads the journal, stores the horizon where it rises, and adds an opening with the next incarnation,

@@ -11,8 +11,8 @@ use Rattle.commit_log.specs.declared.base.BaseTable.{BaseTable}
 use Rattle.commit_log.specs.declared.base.BaseSequence.{BaseSequence}
 use Rattle.commit_log.specs.declared.journal.Journal.{Journal}
 use Rattle.commit_log.specs.Bases.{shape_of, start_of}
-use Rattle.commit_log.specs.Rules.{SoFar, Begun, new_journal}
-use Rattle.commit_log.specs.Journals.{so_far_of, journal_of}
+use Rattle.commit_log.specs.Rules.{new_journal}
+use Rattle.commit_log.specs.Journals.{so_far_of, journal_of, is_opened}
 use Rattle.outage_schedule.specs.declared.document.DocTable.{DocTable}
 use Rattle.outage_schedule.specs.declared.document.DocSequence.{DocSequence}
 use Rattle.outage_schedule.specs.declared.document.Document.{Document}
@@ -41,10 +41,6 @@ abbrev pub journal_before : Document → Journal
 journal_before document = given_journal (base_of document) document.image
 
 -- the store was opened before
-abbrev pub is_opened : Result SoFar ℕ → Bool
-is_opened (Ok (Begun journal opened has_horizon)) = opened
-is_opened _ = false
-
 abbrev pub was_opened : Document → Bool
 was_opened document = option_map_or (λ image. is_opened (so_far_of image)) document.image false
 
