@@ -1,5 +1,5 @@
 //! Bytes that arrive in pieces, and the frames that stand in them.
-ghost use Rattle.std.specs.Prelude.{◌≡◌, ◌≢◌, ◌+◌, ◌<◌, ◌≤◌, ◌^◌, ◌++◌, length, drop, OnOk, OnErr, IfOk, IfSome};
+ghost use Rattle.std.specs.Prelude.{◌≡◌, ◌≢◌, ◌+◌, ◌<◌, ◌≤◌, ◌^◌, ◌++◌, length, drop, OnOk, OnErr, IfOk, IfSome, is_some};
 ghost use Rattle.std.specs.Option.{option_map};
 ghost use Rattle.canon_bytes.specs.TextBytes.{spell_bytes};
 ghost use Rattle.frame_wire.specs.Stream.{nothing_pending, with_bytes, with_first, first_payload, IsNext};
@@ -128,6 +128,12 @@ impl Feed {
             self.bytes.truncate(left);
             self.read = 0;
         }
+    }
+
+    pub(crate) fn has_frame(&self) -> bool
+        ensures { result ≡ is_some (first_payload self.now.bytes) }
+    {
+        payload_of(self.pending()).is_some()
     }
 
     pub(crate) fn next<F: Take + Drop>(&mut self) -> Result<Option<F>, FrameFault>

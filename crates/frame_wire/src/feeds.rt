@@ -1,8 +1,8 @@
 //! The feeds of the two directions.
-ghost use Rattle.std.specs.Prelude.{◌≡◌, ◌≤◌, length, OnOk, OnErr};
+ghost use Rattle.std.specs.Prelude.{◌≡◌, ◌≤◌, length, OnOk, OnErr, is_some};
 ghost use Rattle.canon_bytes.specs.UpBytes.{spell_up, FitsUp};
 ghost use Rattle.canon_bytes.specs.DownBytes.{spell_down, FitsDown};
-ghost use Rattle.frame_wire.specs.Stream.{nothing_pending, with_bytes, with_first, IsNext};
+ghost use Rattle.frame_wire.specs.Stream.{nothing_pending, with_bytes, with_first, first_payload, IsNext};
 
 use crate::feed::{Feed, FrameFault};
 use std::alloc::Global;
@@ -56,6 +56,13 @@ impl UpFeed {
         ensures { self.new ≡ with_first self.old bytes }
     {
         self.feed.keep_first(bytes)
+    }
+
+    /// Whether a whole frame stands first, or a bad one. Constant: only its length is read.
+    pub fn has_frame(&self) -> bool
+        ensures { result ≡ is_some (first_payload self.now.bytes) }
+    {
+        self.feed.has_frame()
     }
 
     /// The frame that stands first, which is taken off; `None` exactly where no whole frame stands
