@@ -183,7 +183,7 @@ crash_happens setting m number after failover false down items left up n e =
 -- OTHERS ------------------------------------------------------------------------------------------
 
 -- a state alone is reached
-leaves : (next : Option Machine) (n : Machine) (items left : List Served) → leaving items next ≡ Some (n, left) → next ≡ Some n
+pub leaves : (next : Option Machine) (n : Machine) (items left : List Served) → leaving items next ≡ Some (n, left) → next ≡ Some n
 leaves None n items left e = absurd (let none : ⊥ = cc in none)
 leaves (Some a) n items left e = ap Some (reached_is a n items left e)
 

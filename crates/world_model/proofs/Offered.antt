@@ -9,5 +9,6 @@ pub use Rattle.world_model.proofs.Awaiting.{IsLent, is_lent, open_lent}
 -- nothing is sent where a frame comes from a connection that has ended, and a request that goes on behind a frame awaits another
 pub use Rattle.world_model.proofs.Awaiting.{dead_sends_none}
 pub use Rattle.world_model.proofs.TalkRests.{awaits_after}
--- no event but a step of a client changes a client, and none turns the clock back
-pub use Rattle.world_model.proofs.Beside.{Rest, others_rest}
+-- no event but a step of a client changes a client, and none turns the clock back; each is one event more, with one opening at most, and a
+-- note of one tells the incarnation
+pub use Rattle.world_model.proofs.Beside.{Rest, others_rest, last_incarnation, opens_once, opens_noted}
