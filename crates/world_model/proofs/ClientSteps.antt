@@ -1,5 +1,5 @@
 -- What an event does to the clients and to what was sent: nothing, or one client steps and sends, or idle connections are closed.
-use Rattle.std.proofs.Common.{◌≡◌, refl, sym, ap, subst, ◌∙◌, Bool, true, false, ℕ, ◌+◌, ◌-◌, fold, List, [], ◌∷◌, ◌++◌, map, Option, Some, None, if◌then◌else◌}
+use Rattle.std.proofs.Common.{◌≡◌, refl, sym, ap, subst, ◌∙◌, Bool, true, false, ℕ, ◌+◌, ◌-◌, fold, List, [], ◌∷◌, ◌++◌, map, Option, Some, None, ◌⊎◌, inl, inr, suc, zero, if◌then◌else◌}
 use Rattle.std.specs.Prelude.{nat_le, unwrap_or, option_and_then}
 use Rattle.std.proofs.lemmas.List.{map-append}
 use Rattle.svc_values.specs.declared.entry.Ltxid.{Ltxid}
@@ -20,7 +20,7 @@ use Rattle.client_model.specs.Talk.{wants_of, stands, quiet, fails, with_tried, 
 use Rattle.client_model.specs.Terms.{Talk, Queued, Seeking}
 use Rattle.world_model.specs.Settings.{Setting}
 use Rattle.world_model.specs.Frames.{Sent, Reply}
-use Rattle.world_model.specs.Links.{Link, new_link, link_at, with_link, changed, sends, takes}
+use Rattle.world_model.specs.Links.{Link, new_link, link_at, with_link, changed, sends, takes, told_by}
 use Rattle.world_model.specs.Clients.{Doing, Client, client_at, with_client, doing_at, doing_of, heard, step_at, after_hold, after_step}
 use Rattle.world_model.specs.Conversing.{connected}
 use Rattle.world_model.specs.Words.{brought}
@@ -34,7 +34,7 @@ use Rattle.world_model.specs.Outside.{closed_by_drain}
 use Rattle.world_model.specs.Serving.{handled, after_front}
 use Rattle.world_model.proofs.AllClients.{stepped_client, client_set, client_twice}
 use Rattle.world_model.proofs.AllLinks.{front_is, open_is}
-use Rattle.world_model.proofs.Lookups.{handled_said, fallen_said, cut_said, with_own, changed_own}
+use Rattle.world_model.proofs.Lookups.{handled_said, fallen_said, cut_said, with_others, with_own, changed_own, further}
 use Rattle.world_model.proofs.Moves.{Tries, FromQueue, Again, IsDoing, IsOn, next_number, with_new, takes_one, Goes, Rests, Waits, Lends, Opens, Fails, Takes, Loses, ServesLast, LastNone, LastStopped, LastServed, Happens, Nothing, IsStep, Serves, Cuts, Reaps, Crashes, OpensUp, StopsOpening, Ticks, RunsOutside, Asks, Drains}
 use Rattle.world_model.proofs.SentLists.{sent_lists, spoken, with_same, changed_same, mapped_same, changed_more, sends_more, each_more}
 
@@ -59,6 +59,11 @@ pub data Brings (m : Machine) (lists : List (List Sent)) : Input → Type 0 wher
   NoneNew : (input : Input) → brought input ≡ None → Brings m lists input
   IdleOne : (connection : ℕ) (ltxid : Ltxid) (link : Link) → link_at m.links connection ≡ Some link → Brings m lists (Lent connection ltxid)
   NewOne : lists ≡ sent_lists m.links ++ [] ∷ [] → Brings m lists (Opened (next_number m))
+
+-- before its frames are sent every other connection is as it was, and one that is lent has the identifier that comes with it
+pub record LeftAlone (m : Machine) (links : List Link) (connection : Option ℕ) (input : Input) : Type 0 where
+  pub others : (number : ℕ) (link : Link) → link_at m.links number ≡ Some link → (connection ≡ Some number → ⊥) → link_at links number ≡ Some link
+  pub lent : (number : ℕ) (ltxid : Ltxid) → input ≡ Lent number ltxid → (link : Link) × ((link_at m.links number ≡ Some link) × ((link_at links number ≡ Some link) × (link.held ≡ Some ltxid)))
 
 -- behind a step: the loss of its connection is heard exactly where the request goes on and the connection is not open
 pub data Behind (setting : Setting) (first : Doing) (held : Hold) (opens : Bool) (ended : Option ℕ) : Doing → Type 0 where
@@ -95,6 +100,11 @@ pub record HasStepped (setting : Setting) (m : Machine) (number : ℕ) (n : Mach
   pub heard_on : HeardOn setting m n number (heard setting.terms m.event m.tick (record before { connection = connection }) input) (step_at setting.terms m.event m.tick (record before { connection = connection }) input).done.act.hold
       (map (sent_by (owner_at m number) (call_in (heard setting.terms m.event m.tick (record before { connection = connection }) input).talk.phase))
       (frames_of pool (unwrap_or connection 0) (step_at setting.terms m.event m.tick (record before { connection = connection }) input).done.act)) after before.connection input
+  pub links : List Link
+  pub links_are : n.links ≡ changed (sends m.event
+      (map (sent_by (owner_at m number) (call_in (heard setting.terms m.event m.tick (record before { connection = connection }) input).talk.phase))
+      (frames_of pool (unwrap_or connection 0) (step_at setting.terms m.event m.tick (record before { connection = connection }) input).done.act))) links (unwrap_or connection 0)
+  pub alone : LeftAlone m links connection input
   pub lists : List (List Sent)
   pub grows : Grows (sent_lists m.links) lists
   pub brings : Brings m lists input
@@ -123,11 +133,11 @@ module _ (setting : Setting) (m : Machine) (number : ℕ) where
   Heard before connection input = (may_come false (wants_of setting.terms before.talk m.tick) input ≡ true) × (connection ≡ None → (ActOf before connection input).send ≡ [])
 
   one_step : (n : Machine) (client : Client) (before : Doing) (connection : Option ℕ) (input : Input) (pool : Slots) (links : List Link) → client_at m.clients number ≡ Some client
-      → doing_of setting.terms m.event m.tick client ≡ Some before → connected before.connection input ≡ connection → Heard before connection input → Grows (sent_lists m.links) (sent_lists links) → Brings m (sent_lists links) input
+      → doing_of setting.terms m.event m.tick client ≡ Some before → connected before.connection input ≡ connection → Heard before connection input → Grows (sent_lists m.links) (sent_lists links) → Brings m (sent_lists links) input → LeftAlone m links connection input
       → n.clients ≡ after_step setting m.clients number (FirstOf before connection input) (ActOf before connection input).hold
       → n.links ≡ changed (sends m.event (SaidOf pool before connection input)) links (unwrap_or connection 0)
       → HeardOn setting m n number (FirstOf before connection input) (ActOf before connection input).hold (SaidOf pool before connection input) (FirstOf before connection input) before.connection input → HasStepped setting m number n
-  one_step n client before connection input pool links here does connects hears grows brings clients said on = record {
+  one_step n client before connection input pool links here does connects hears grows brings alone clients said on = record {
     client = client;
     here = here;
     before = before;
@@ -143,6 +153,9 @@ module _ (setting : Setting) (m : Machine) (number : ℕ) where
     heard_on = on;
     clients_are = clients ∙ stepped_client setting m.clients number client (FirstOf before connection input) (ActOf before connection input).hold here;
     pool = pool;
+    links = links;
+    links_are = said;
+    alone = alone;
     lists = sent_lists links;
     grows = grows;
     brings = brings;
@@ -157,15 +170,15 @@ module _ (setting : Setting) (m : Machine) (number : ℕ) where
   lost_links a ended (Some doing) = refl
 
   unless_step : (a : Machine) (ended : Option ℕ) (alive : Bool) (client : Client) (before : Doing) (connection : Option ℕ) (input : Input) (pool : Slots) (links : List Link) → client_at m.clients number ≡ Some client
-      → doing_of setting.terms m.event m.tick client ≡ Some before → connected before.connection input ≡ connection → Heard before connection input → Grows (sent_lists m.links) (sent_lists links) → Brings m (sent_lists links) input
+      → doing_of setting.terms m.event m.tick client ≡ Some before → connected before.connection input ≡ connection → Heard before connection input → Grows (sent_lists m.links) (sent_lists links) → Brings m (sent_lists links) input → LeftAlone m links connection input
       → a.clients ≡ after_step setting m.clients number (FirstOf before connection input) (ActOf before connection input).hold
       → a.links ≡ changed (sends m.event (SaidOf pool before connection input)) links (unwrap_or connection 0)
       → ((n : Machine) (after : Doing) → n.links ≡ a.links → Behind setting (FirstOf before connection input) (ActOf before connection input).hold alive ended after
       → HeardOn setting m n number (FirstOf before connection input) (ActOf before connection input).hold (SaidOf pool before connection input) after before.connection input)
       → HasStepped setting m number (if alive then a else lost_at_once setting a number ended (doing_at a.clients number))
-  unless_step a ended true client before connection input pool links here does connects hears grows brings clients said on =
-      one_step a client before connection input pool links here does connects hears grows brings clients said (on a (FirstOf before connection input) refl (AsFirst (λ shut keep. let none : ⊥ = cc in none)))
-  unless_step a ended false client before connection input pool links here does connects hears grows brings clients said on = by (ActOf before connection input).hold refl
+  unless_step a ended true client before connection input pool links here does connects hears grows brings alone clients said on =
+      one_step a client before connection input pool links here does connects hears grows brings alone clients said (on a (FirstOf before connection input) refl (AsFirst (λ shut keep. let none : ⊥ = cc in none)))
+  unless_step a ended false client before connection input pool links here does connects hears grows brings alone clients said on = by (ActOf before connection input).hold refl
     where
       first : Doing
       first = FirstOf before connection input
@@ -183,7 +196,7 @@ module _ (setting : Setting) (m : Machine) (number : ℕ) where
           → HasStepped setting m number (lost_at_once setting a number ended (doing_at a.clients number))
       over held is lets none =
           subst (λ (one : Option Doing). HasStepped setting m number (lost_at_once setting a number ended one)) (sym (doing_now held is ∙ none))
-          (one_step a client before connection input pool links here does connects hears grows brings clients said (on a first refl (AsFirst (λ shut keep. lets (sym is ∙ keep)))))
+          (one_step a client before connection input pool links here does connects hears grows brings alone clients said (on a first refl (AsFirst (λ shut keep. lets (sym is ∙ keep)))))
 
       gone : Doing
       gone = heard setting.terms a.event a.tick (record first { connection = None }) (Gone (unwrap_or ended 0))
@@ -210,6 +223,9 @@ module _ (setting : Setting) (m : Machine) (number : ℕ) where
             heard_on = on (lost_at_once setting a number ended (Some first)) gone refl (LostBehind a.event a.tick refl is);
             clients_are = stepped_client setting a.clients number one gone hold.Keep found ∙ (ap (λ (c : List Client). with_client c number next) so_far ∙ client_twice m.clients number one next);
             pool = pool;
+            links = links;
+            links_are = said;
+            alone = alone;
             lists = sent_lists links;
             grows = grows;
             brings = brings;
@@ -261,32 +277,56 @@ module _ (setting : Setting) (m : Machine) where
       ap (λ (had : Option ℕ). link_at (changed (sends m.event frames) (with_link m.links connection taken) (unwrap_or had 0)) connection) on.has
       ∙ changed_own (sends m.event frames) (with_link m.links connection taken) connection taken (with_own m.links connection link taken on.there)
 
-  goes_step : (number : ℕ) (a : Machine) → Goes setting m number a → MayStep setting m a
-  goes_step number _ Rests = Still refl refl
-  goes_step number _ (Waits doing is answer) =
-      Stepped number (one_step setting m number _ is.client doing doing.connection Waiting (after_take m.pool number) m.links is.here is.does refl
-      (may_so doing wants.Slot Waiting is.wants refl, λ none. waited_silent doing.talk (waits_from doing.talk.phase m.tick) m.tick) AsBefore (NoneNew Waiting refl) refl refl (OfNone doing.connection Waiting refl refl refl))
-  goes_step number _ (Lends doing connection link ltxid is answer there held) =
-      Stepped number (one_step setting m number _ is.client doing (Some connection) (Lent connection ltxid) (after_take m.pool number) m.links is.here is.does refl
-      (may_so doing wants.Slot (Lent connection ltxid) is.wants refl, some_none (Some connection) connection _ refl) AsBefore (IdleOne connection ltxid link there) refl refl (OfIdle doing.connection connection ltxid answer refl))
-  goes_step number _ (Opens doing wanted pool is tries runs) =
-      Stepped number (one_step setting m number _ is.client doing (Some (next_number m)) (Opened (next_number m)) (with_new m pool).pool (m.links ++ new_link ∷ []) is.here is.does refl
+  left_alone : (connection : Option ℕ) (input : Input) → ((number : ℕ) (ltxid : Ltxid) → input ≡ Lent number ltxid → ⊥) → LeftAlone m m.links connection input
+  left_alone connection input none = record { others = λ number link there apart. there; lent = λ number ltxid heard. absurd (none number ltxid heard) }
+
+  lent_one : (connection number : ℕ) (link : Link) (ltxid x : Ltxid) → link_at m.links connection ≡ Some link → link.held ≡ Some ltxid → Lent connection ltxid ≡ Lent number x
+      → (link : Link) × ((link_at m.links number ≡ Some link) × ((link_at m.links number ≡ Some link) × (link.held ≡ Some x)))
+  lent_one connection number link ltxid x there held same =
+      let at : connection ≡ number = ap (λ (input : Input). unwrap_or (brought input) 0) same in
+      let here : link_at m.links number ≡ Some link = subst (λ (k : ℕ). link_at m.links k ≡ Some link) at there in
+      (link, (here, (here, held ∙ ap told_by same)))
+
+  more_links : (more : List Link) (number : ℕ) (link : Link) → link_at m.links number ≡ Some link → link_at (m.links ++ more) number ≡ Some link
+  more_links more zero link there = absurd (let never : ⊥ = cc in never)
+  more_links more (suc index) link there = further m.links more index link there
+
+  pub goes_steps : (number : ℕ) (a : Machine) → Goes setting m number a → (a ≡ m) ⊎ HasStepped setting m number a
+  goes_steps number _ Rests = inl refl
+  goes_steps number _ (Waits doing is answer) =
+      inr (one_step setting m number _ is.client doing doing.connection Waiting (after_take m.pool number) m.links is.here is.does refl
+      (may_so doing wants.Slot Waiting is.wants refl, λ none. waited_silent doing.talk (waits_from doing.talk.phase m.tick) m.tick) AsBefore (NoneNew Waiting refl) (left_alone doing.connection Waiting (λ connection ltxid heard. let never : ⊥ = cc in never)) refl refl (OfNone doing.connection Waiting refl refl refl))
+  goes_steps number _ (Lends doing connection link ltxid is answer there held) =
+      inr (one_step setting m number _ is.client doing (Some connection) (Lent connection ltxid) (after_take m.pool number) m.links is.here is.does refl
+      (may_so doing wants.Slot (Lent connection ltxid) is.wants refl, some_none (Some connection) connection _ refl) AsBefore (IdleOne connection ltxid link there)
+      (record { others = λ other one at apart. at; lent = λ other x heard. lent_one connection other link ltxid x there held heard }) refl refl (OfIdle doing.connection connection ltxid answer refl))
+  goes_steps number _ (Opens doing wanted pool is tries runs) =
+      inr (one_step setting m number _ is.client doing (Some (next_number m)) (Opened (next_number m)) (with_new m pool).pool (m.links ++ new_link ∷ []) is.here is.does refl
       ((tries_may number (next_number m) doing wanted pool is tries).0, some_none (Some (next_number m)) (next_number m) _ refl)
-      (subst (λ (lists : List (List Sent)). Grows (sent_lists m.links) lists) (sym (map-append (λ (link : Link). link.sent) m.links (new_link ∷ []))) OneMore) (NewOne (map-append (λ (link : Link). link.sent) m.links (new_link ∷ []))) refl refl (OfNew doing.connection refl))
-  goes_step number _ (Fails doing wanted pool is tries down) =
-      Stepped number (one_step setting m number _ is.client doing doing.connection TryFailed pool m.links is.here is.does refl
-      ((tries_may number 0 doing wanted pool is tries).1, λ none. tried_silent doing.talk m.tick) AsBefore (NoneNew TryFailed refl) refl refl (OfNone doing.connection TryFailed refl refl refl))
-  goes_step number _ (Takes doing connection link reply left is on down) =
+      (subst (λ (lists : List (List Sent)). Grows (sent_lists m.links) lists) (sym (map-append (λ (link : Link). link.sent) m.links (new_link ∷ []))) OneMore) (NewOne (map-append (λ (link : Link). link.sent) m.links (new_link ∷ [])))
+      (record { others = λ other one at apart. more_links (new_link ∷ []) other one at; lent = λ other x heard. absurd (let never : ⊥ = cc in never) }) refl refl (OfNew doing.connection refl))
+  goes_steps number _ (Fails doing wanted pool is tries down) =
+      inr (one_step setting m number _ is.client doing doing.connection TryFailed pool m.links is.here is.does refl
+      ((tries_may number 0 doing wanted pool is tries).1, λ none. tried_silent doing.talk m.tick) AsBefore (NoneNew TryFailed refl) (left_alone doing.connection TryFailed (λ connection ltxid heard. let never : ⊥ = cc in never)) refl refl (OfNone doing.connection TryFailed refl refl refl))
+  goes_steps number _ (Takes doing connection link reply left is on down) =
       let taken : Link = takes (Took reply.frame link.is_open) reply left link in
-      Stepped number (unless_step setting m number (takes_one setting m number doing connection link reply left) link.ended link.is_open is.client doing doing.connection (Took reply.frame link.is_open) m.pool
+      inr (unless_step setting m number (takes_one setting m number doing connection link reply left) link.ended link.is_open is.client doing doing.connection (Took reply.frame link.is_open) m.pool
       (with_link m.links connection taken) is.here is.does refl (may_so doing wants.Frame (Took reply.frame link.is_open) is.wants refl, some_none doing.connection connection _ on.has)
-      (grown (with_link m.links connection taken) (with_same m.links connection link taken on.there refl)) (NoneNew (Took reply.frame link.is_open) refl) refl refl
+      (grown (with_link m.links connection taken) (with_same m.links connection link taken on.there refl)) (NoneNew (Took reply.frame link.is_open) refl)
+      (record { others = λ other one at apart. with_others m.links connection other taken (λ same. apart (on.has ∙ ap Some (sym same))) ∙ at; lent = λ other x heard. absurd (let never : ⊥ = cc in never) }) refl refl
       (λ n after same behind. OfReply doing.connection connection link reply left on.has on.there down
       (ap (λ (all : List Link). link_at all connection) same ∙ taken_there (SaidOf setting m number m.pool doing doing.connection (Took reply.frame link.is_open)) connection doing link taken on) behind))
-  goes_step number _ (Loses doing connection link is on none closed) =
-      Stepped number (one_step setting m number _ is.client doing None (Gone (unwrap_or link.ended 0)) m.pool m.links is.here is.does refl
-      (may_so doing wants.Frame (Gone (unwrap_or link.ended 0)) is.wants refl, λ never. refl) AsBefore (NoneNew (Gone (unwrap_or link.ended 0)) refl) refl refl
+  goes_steps number _ (Loses doing connection link is on none closed) =
+      inr (one_step setting m number _ is.client doing None (Gone (unwrap_or link.ended 0)) m.pool m.links is.here is.does refl
+      (may_so doing wants.Frame (Gone (unwrap_or link.ended 0)) is.wants refl, λ never. refl) AsBefore (NoneNew (Gone (unwrap_or link.ended 0)) refl) (left_alone None (Gone (unwrap_or link.ended 0)) (λ connection ltxid heard. let never : ⊥ = cc in never)) refl refl
       (OfEnded doing.connection connection link on.has on.there closed on.there refl))
+
+  goes_step : (number : ℕ) (a : Machine) → Goes setting m number a → MayStep setting m a
+  goes_step number a moves = by (goes_steps number a moves)
+    where
+      by : (a ≡ m) ⊎ HasStepped setting m number a → MayStep setting m a
+      by (inl same) = Still (ap (λ (one : Machine). one.clients) same) (ap (λ (one : Machine). sent_lists one.links) same)
+      by (inr step) = Stepped number step
 
   fallen_same : (links : List Link) → sent_lists (map (fallen_link m.event) links) ≡ sent_lists links
   fallen_same links = mapped_same (fallen_link m.event) links (λ link. (fallen_said m.event link).sent)

@@ -57,7 +57,7 @@ module _ (t : Traced) (named : are_named t ≡ true) (apart : sessions_differ t 
   outcomes_all course = list_all (is_of_lost t course) course.report.outcomes
 
   -- what is held is of the connection's session
-  held_session : (number : ℕ) (link : Link) (x : Ltxid) → link_at t.machine.links number ≡ Some link → link.held ≡ Some x → link.session ≡ Some (session_of x)
+  pub held_session : (number : ℕ) (link : Link) (x : Ltxid) → link_at t.machine.links number ≡ Some link → link.held ≡ Some x → link.session ≡ Some (session_of x)
   held_session number link x there held =
       named_same link.session (session_of x)
       (subst (λ (one : Option Ltxid). held_of link.session one ≡ true) held (named_held link.session link.served link.held (at_link is_named t.machine.links number link named there)))

@@ -109,7 +109,7 @@ changed_own change links number link is =
     ap (λ (found : Option Link). link_at (option_map_or (λ one. with_link links number (change one)) found links) number) is ∙ with_own links number link (change link) is
 
 -- a new one leaves the others
-further : (links more : List Link) (index : ℕ) (link : Link) → slice_get links index ≡ Some link → slice_get (links ++ more) index ≡ Some link
+pub further : (links more : List Link) (index : ℕ) (link : Link) → slice_get links index ≡ Some link → slice_get (links ++ more) index ≡ Some link
 further [] more index link is = absurd (let none : ⊥ = cc in none)
 further (first ∷ links) more zero link is = is
 further (first ∷ links) more (suc index) link is = further links more index link is

@@ -93,7 +93,7 @@ module _ (setting : Setting) (m : Machine) (talks : AllTalk setting.terms m.clie
   before_scan = scan_by mine step.before.steps
 
   -- behind the input, before its frames
-  abbrev heard_scan : Scan
+  abbrev pub heard_scan : Scan
   heard_scan = record {
     owner = before_scan.owner;
     connection = option_map_or (λ connection. connection) (brought step.input) before_scan.connection;
@@ -156,7 +156,7 @@ module _ (setting : Setting) (m : Machine) (talks : AllTalk setting.terms m.clie
   places = weaker_all (frame_fits phase) (sends_at heard_scan (call_in phase)) one.done.act.send fits_place (send_fits setting.terms step.before.talk step.input m.tick)
 
   -- the scan is on the connection on which it speaks
-  leads : (connection : ℕ) → step.connection ≡ Some connection → heard_scan.connection ≡ connection
+  pub leads : (connection : ℕ) → step.connection ≡ Some connection → heard_scan.connection ≡ connection
   leads connection is =
       let left : connection_after first.steps ≡ Some connection = (first_talks_on setting m talks number n step).has ∙ is in
       ap (λ (scan : Scan). scan.connection) (sym first_scan) ∙ scan_leads None (no_scan mine) first.steps (λ other never. absurd (let none : ⊥ = cc in none)) connection left

@@ -9,6 +9,7 @@ ghost use Rattle.world_model.specs.Hold.{are_had, are_queued, are_held, are_idle
 ghost use Rattle.world_model.specs.Number.{are_near, are_counted as are_numbered, are_told, are_served_near, are_ahead, blocks_next, entries_numbered, known_so_far, none_blocked};
 ghost use Rattle.world_model.specs.Shown.{are_given, in_rows, lose_own, answers_stand};
 ghost use Rattle.world_model.specs.Lost.{stay_gone, want_lost, want_next, outcomes_lost, go_unasked, ask_rightly, leave_none, fail_incomplete, have_events};
+ghost use Rattle.world_model.specs.Once.{on_links};
 ghost use Rattle.world_model.specs.RunLaws.{RunsAreFollowed, RunsAreOrderly};
 ghost use Rattle.world_model.specs.Basic.{have_risen, kept_ticks, items_rise, items_differ, is_down, are_ended, sessions_differ, are_made, are_counted, are_named, living_now, commits_counted, lives};
 
@@ -281,6 +282,11 @@ pub fn incomplete_outcomes_fail()
 /// before.
 pub fn errors_tell_their_events()
     ensures { IsKeptOfAll have_events }
+{}
+
+/// The identifier of each sending with a commit is one of its connection's session.
+pub fn sendings_are_of_sessions()
+    ensures { StaysTrue on_links }
 {}
 
 /// The record of identifiers and entries as a whole.
