@@ -32,6 +32,7 @@ use Rattle.world_model.specs.Remaining.{once_if, may_serve, doing_rounds, rounds
 use Rattle.world_model.specs.Traced.{Traced}
 use Rattle.world_model.proofs.AllClients.{client_set, client_others}
 use Rattle.world_model.proofs.AllLinks.{at_link}
+use Rattle.world_model.proofs.ClientsLong.{with_long}
 use Rattle.world_model.proofs.ClientRounds.{like_itself, doing_like, with_less}
 use Rattle.world_model.proofs.Courses.{clients_apart, held_busy}
 use Rattle.world_model.proofs.FinishFalls.{has_now, client_by, AllStepped, opening_falls, reap_falls, serve_falls, tick_falls}
@@ -56,15 +57,6 @@ use Rattle.world_model.proofs.Strangers.{frame_now}
 use Rattle.world_model.proofs.Tests.{eq_from, eq_to, le_from, le_to}
 
 -- CLIENTS -----------------------------------------------------------------------------------------
-
-clients_long : (clients : List Client) (index : ℕ) (client : Client) → length (slice_set clients index client) ≡ length clients
-clients_long [] index client = refl
-clients_long (first ∷ clients) zero client = omega arith
-clients_long (first ∷ clients) (suc index) client = let rest : length (slice_set clients index client) ≡ length clients = clients_long clients index client in omega arith
-
-with_long : (clients : List Client) (number : ℕ) (client : Client) → length (with_client clients number client) ≡ length clients
-with_long clients zero client = refl
-with_long clients (suc index) client = clients_long clients index client
 
 set_same : (clients : List Client) (index : ℕ) (client : Client) → slice_get clients index ≡ Some client → slice_set clients index client ≡ clients
 set_same [] index client is = refl

@@ -3,7 +3,7 @@ use Rattle.std.proofs.Common.{◌≡◌, ◌≢◌, refl, sym, ap, subst, ◌∙
 use Rattle.std.specs.Prelude.{◌==◌, not, is_some, slice_get, option_and_then}
 use Rattle.std.specs.List.{list_any}
 use Rattle.std.specs.Option.{option_map_or}
-use Rattle.std.proofs.lemmas.Bool.{and_parts, and_from}
+use Rattle.std.proofs.lemmas.Bool.{and_parts}
 use Rattle.outage_schedule.specs.declared.event.Event.TheVariants as event
 use Rattle.outage_schedule.specs.declared.note.Note.{Note}
 use Rattle.outage_schedule.specs.declared.item.Served.{Served}
@@ -19,7 +19,7 @@ use Rattle.world_model.specs.Machines.{Server, Machine}
 use Rattle.world_model.specs.Walking.{follow}
 use Rattle.world_model.specs.Opening.{opened}
 use Rattle.world_model.specs.Cutting.{has_orphan, reaped_link}
-use Rattle.world_model.specs.Serving.{Front, front_of, front_at, is_of_front, is_item_of, is_last, handled, server_after, after_served}
+use Rattle.world_model.specs.Serving.{Front, front_of, front_at, is_of_front, is_item_of, handled, server_after, after_served}
 use Rattle.world_model.specs.Outside.{ticked}
 use Rattle.world_model.specs.Basic.{keeps_ticks, at_most, waits_from}
 use Rattle.world_model.specs.Finishing.{Place, AtServer, AtOrphans, AtRound, AtLinks}
@@ -30,16 +30,16 @@ use Rattle.world_model.specs.Hold.{is_held}
 use Rattle.world_model.specs.Traced.{Traced}
 use Rattle.world_model.proofs.AllLinks.{IsFront, front_is}
 use Rattle.world_model.proofs.AllClients.{at_client}
-use Rattle.world_model.proofs.Ends.{handled_alike, handled_case}
+use Rattle.world_model.proofs.Ends.{handled_case}
 use Rattle.world_model.proofs.FirstBehind.{NoneBehind, any_found}
 use Rattle.world_model.proofs.Happened.{at_event}
 use Rattle.world_model.proofs.Held.{doing_course}
 use Rattle.world_model.proofs.HeldKept.{HasIt, HasNone, HasOne, has_it}
 use Rattle.world_model.proofs.LinkSettled.{known_at, none_blocked, awaits_no_call}
-use Rattle.world_model.proofs.LinksWork.{with_work}
+use Rattle.world_model.proofs.LinksWork.{with_work, handled_work}
 use Rattle.world_model.proofs.Lookups.{with_own, with_others, changed_own}
 use Rattle.world_model.proofs.Others.{changed_others}
-use Rattle.world_model.proofs.ClientRounds.{once_less, IsLike, like_itself, doing_like, with_less, ends_same, doing_tick}
+use Rattle.world_model.proofs.ClientRounds.{IsLike, like_itself, doing_like, with_less, ends_same, doing_tick}
 use Rattle.world_model.proofs.RoundSums.{rounds_at, rounds_most, rounds_less}
 use Rattle.world_model.proofs.SentLinks.{awaits}
 use Rattle.world_model.proofs.Tests.{eq_from, eq_to}
@@ -131,16 +131,6 @@ module _ (t : Traced) (inv : Orderly t) (items left : List Served) (one : Note) 
 
   -- A FRAME THAT IS SERVED ------------------------------------------------------------------------
 
-  handled_less : (front : Front) (served : Served) → front.link.is_living ≡ true → front.link.up ≡ front.first ∷ front.later → link_work (handled (m.event + 1) front served) + 1 ≤ link_work front.link
-  handled_less front served living ups = handled_alike (λ l. link_work l + 1 ≤ link_work front.link) (m.event + 1) front served (λ reply. less) (λ reply. less)
-    where
-      less : (length front.later + once_if (not (is_last served.item) && front.link.is_cut)) + 1 ≤ link_work front.link
-      less =
-          let long : length front.link.up ≡ length (front.first ∷ front.later) = ap length ups in
-          let few : once_if (not (is_last served.item) && front.link.is_cut) ≤ once_if (front.link.is_living && front.link.is_cut) =
-          once_less (not (is_last served.item) && front.link.is_cut) (front.link.is_living && front.link.is_cut) (λ is. and_from front.link.is_living front.link.is_cut living (and_parts (not (is_last served.item)) front.link.is_cut is).1) in
-          omega arith
-
   -- a request that awaits Hello or an outcome keeps its connection
   served_open : (number : ℕ) (front : Front) (served : Served) (owner : Owner) (phase : Phase) → IsFront m.links number front → is_item_of front.first.frame served.item ≡ true → awaits owner phase front.link ≡ true
       → awaits_no_call phase ≡ true → (handled (m.event + 1) front served).is_open ≡ front.link.is_open
@@ -156,7 +146,7 @@ module _ (t : Traced) (inv : Orderly t) (items left : List Served) (one : Note) 
       (rounds_most t.setting m a_now place AtLinks 1 m.clients m.clients refl each)
       (let sum : links_work (with_link m.links number (handled (m.event + 1) front was.served)) + link_work front.link ≡ links_work m.links + link_work (handled (m.event + 1) front was.served) =
       with_work m.links number front.link (handled (m.event + 1) front was.served) at.there in
-      let less : link_work (handled (m.event + 1) front was.served) + 1 ≤ link_work front.link = handled_less front was.served at.living at.up in
+      let less : link_work (handled (m.event + 1) front was.served) + 1 ≤ link_work front.link = handled_work (m.event + 1) front was.served at.living at.up in
       let server : once_if (not a_now.server.is_up) ≡ once_if (not m.server.is_up) = server_up was.served.item in
       let total : (1 + (links_work (with_link m.links number (handled (m.event + 1) front was.served)) + once_if (not a_now.server.is_up))) + 1 ≤ round_work m place + (links_work m.links + once_if (not m.server.is_up)) = omega (arith, sum, less, server, works) in
       total))

@@ -1,11 +1,15 @@
--- What is left on the connections, where one is changed, and where one is opened.
-use Rattle.std.proofs.Common.{◌≡◌, refl, ap, ℕ, suc, zero, ◌+◌, ◌≤◌, ◌&&◌, length, length-append, List, [], ◌∷◌, ◌++◌, Option, Some, None, arith}
-use Rattle.std.specs.Prelude.{slice_get, slice_set}
+-- What is left on the connections, where one is changed, where a frame is served on one, and where one is opened.
+use Rattle.std.proofs.Common.{◌≡◌, refl, ap, true, ℕ, suc, zero, ◌+◌, ◌≤◌, ◌&&◌, length, length-append, List, [], ◌∷◌, ◌++◌, Option, Some, None, arith}
+use Rattle.std.specs.Prelude.{not, slice_get, slice_set}
 use Rattle.std.specs.Option.{option_map_or}
+use Rattle.std.proofs.lemmas.Bool.{and_parts, and_from}
+use Rattle.outage_schedule.specs.declared.item.Served.{Served}
 use Rattle.world_model.specs.Frames.{Sent}
 use Rattle.world_model.specs.Links.{Link, new_link, link_at, with_link, changed, sends}
 use Rattle.world_model.specs.Remaining.{once_if, link_work, links_work}
-use Rattle.world_model.proofs.Ends.{sends_alike}
+use Rattle.world_model.specs.Serving.{Front, is_last, handled}
+use Rattle.world_model.proofs.ClientRounds.{once_less}
+use Rattle.world_model.proofs.Ends.{sends_alike, handled_alike}
 
 set_work : (links : List Link) (index : ℕ) (old new : Link) → slice_get links index ≡ Some old → links_work (slice_set links index new) + link_work old ≡ links_work links + link_work new
 set_work [] index old new is = absurd (let none : ⊥ = cc in none)
@@ -36,3 +40,14 @@ sends_work event frames link =
 pub new_work : (links : List Link) → links_work (links ++ new_link ∷ []) ≡ links_work links
 new_work [] = refl
 new_work (link ∷ links) = let rest : links_work (links ++ new_link ∷ []) ≡ links_work links = new_work links in omega arith
+
+-- a frame less is left where it is served
+pub handled_work : (event : ℕ) (front : Front) (served : Served) → front.link.is_living ≡ true → front.link.up ≡ front.first ∷ front.later → link_work (handled event front served) + 1 ≤ link_work front.link
+handled_work event front served living ups = handled_alike (λ one. link_work one + 1 ≤ link_work front.link) event front served (λ reply. less) (λ reply. less)
+  where
+    less : (length front.later + once_if (not (is_last served.item) && front.link.is_cut)) + 1 ≤ link_work front.link
+    less =
+        let long : length front.link.up ≡ length (front.first ∷ front.later) = ap length ups in
+        let few : once_if (not (is_last served.item) && front.link.is_cut) ≤ once_if (front.link.is_living && front.link.is_cut) =
+        once_less (not (is_last served.item) && front.link.is_cut) (front.link.is_living && front.link.is_cut) (λ is. and_from front.link.is_living front.link.is_cut living (and_parts (not (is_last served.item)) front.link.is_cut is).1) in
+        omega arith

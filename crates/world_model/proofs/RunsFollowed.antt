@@ -1,35 +1,34 @@
 -- A whole run is followed: event by event through the schedule, and then through the finish.
-use Rattle.std.proofs.Common.{◌≡◌, refl, sym, ap, subst, ◌∙◌, append_assoc, append-nil, Bool, true, false, List, [], ◌∷◌, ◌++◌, Option, Some, None, if◌then◌else◌}
+use Rattle.std.proofs.Common.{◌≡◌, refl, sym, ap, subst, ◌∙◌, append_assoc, append-nil, true, List, [], ◌∷◌, ◌++◌, Option, Some, None, if◌then◌else◌}
 use Rattle.std.specs.Prelude.{is_none, option_and_then}
 use Rattle.std.proofs.lemmas.Bool.{and_from}
 use Rattle.std.specs.Cmp.Lexicographic.{pointwise}
-use Rattle.svc_values.specs.declared.entry.SessionId.{SessionId}
 use Rattle.svc_values.specs.Same.{same_bool}
 use Rattle.outage_schedule.specs.declared.document.Document.{Document}
 use Rattle.outage_schedule.specs.declared.event.Event.{Event}
 use Rattle.outage_schedule.specs.declared.item.Served.{Served}
 use Rattle.outage_schedule.specs.declared.note.Note.{Note}
-use Rattle.outage_schedule.specs.declared.report.Report.{Report}
 use Rattle.outage_schedule.specs.declared.request.Outcome.{Outcome}
 use Rattle.outage_schedule.specs.declared.request.RequestReport.{RequestReport}
 use Rattle.server_model.specs.Seen.{Seen}
 use Rattle.svc_values.specs.Identifiers.{same_ltxid, same_session}
-use Rattle.world_model.specs.Finishing.{Place, AtServer, Finished, next_finish, walk_finish}
+use Rattle.world_model.specs.Finishing.{Place, AtServer, Finished, walk_finish}
 use Rattle.world_model.specs.Followed.{run_of, transcripts_of, same_outcome, tells_steps, ends_so}
 use Rattle.world_model.specs.KeptLaws.{OrderlyIsKept}
 use Rattle.world_model.specs.Machines.{start_of}
-use Rattle.world_model.specs.Reached.{Reached, Begins, GoesOn, IsFinishing, Scheduled, Finishes, IsRun}
+use Rattle.world_model.specs.Reached.{Reached, Begins, GoesOn, IsFinishing, Scheduled, Finishes}
 use Rattle.world_model.specs.RunLaws.{RunsAreFollowed, RunsAreOrderly}
 use Rattle.world_model.specs.Settings.{Setting, setting_of}
 use Rattle.world_model.specs.Traced.{Traced}
-use Rattle.world_model.specs.Walking.{After, Walked, follow, walk}
+use Rattle.world_model.specs.Walking.{Walked, follow, walk}
 use Rattle.world_model.proofs.Items.{walk_more, finish_step}
 use Rattle.world_model.proofs.SameSelf.{each_self, bool_self, ltxid_self}
 use Rattle.world_model.proofs.Tests.{session_self}
 
 -- THE SCHEDULE ------------------------------------------------------------------------------------
 
-reached_setting : (document : Document) (events : List Event) (notes : List Note) (items : List Served) (seen : Seen) (t : Traced) → Reached document events notes items seen t → t.setting ≡ setting_of document
+-- its setting is that of the document
+pub reached_setting : (document : Document) (events : List Event) (notes : List Note) (items : List Served) (seen : Seen) (t : Traced) → Reached document events notes items seen t → t.setting ≡ setting_of document
 reached_setting document _ _ _ _ _ (Begins seen start history coupled) = refl
 reached_setting document _ _ _ _ _ (GoesOn events notes items more before after old new event note reached one) = one.setting ∙ reached_setting document events notes items before old reached
 

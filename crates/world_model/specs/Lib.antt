@@ -43,3 +43,4 @@ pub mod Words
 pub mod RoundsLeft
 pub mod Remaining
 pub mod FinishEnds
+pub mod FinishShort

@@ -1,6 +1,7 @@
 //! What of the invariant holds of the start and is kept in each event, if what is orderly held before it. Each law is the clause of
 //! a function with nothing to run.
 ghost use Rattle.world_model.specs.FinishEnds.{FinishFalls, FinishBegins, FinishGoesOn};
+ghost use Rattle.world_model.specs.FinishShort.{FinishIsShort};
 ghost use Rattle.world_model.specs.KeptLaws.{IsKept, IsKeptOfCalls, IsOfService, BasicBegins, BasicIsKept, WireBegins, WireIsKept, HoldBegins, HoldIsKept, IsKeptOfAll, StaysTrue, OrderlyIsKept, NumberBegins, NumberIsKept, TalksBegin, TalksAreKept};
 ghost use Rattle.world_model.specs.Wire.{sent_fronts, reply_fronts, are_handled, in_grammar, one_out, answered_in_order, up_lives, are_fresh};
 ghost use Rattle.world_model.specs.Ready.{are_ready};
@@ -333,4 +334,12 @@ pub fn finish_goes_on()
 {
     commit_log::laws::keeps_journal();
     server_model::laws::runs_number();
+}
+
+/// The finish of a run is short: wherever a run of at most 100,000 events has come to, what is left of the finish that begins there is at
+/// most 2^44, in documents within the limits of a document. So a count of its events has room in 64 bits.
+pub fn finish_is_short()
+    ensures { FinishIsShort }
+{
+    runs_are_orderly();
 }
