@@ -1,5 +1,5 @@
 -- A test that holds of each item of a list: where one is changed, where all are, and where one comes behind them.
-use Rattle.std.proofs.Common.{◌≡◌, refl, subst, ◌∙◌, Bool, true, ℕ, suc, zero, List, [], ◌∷◌, ◌++◌, map, Some}
+use Rattle.std.proofs.Common.{◌≡◌, refl, subst, ◌∙◌, Bool, true, false, ℕ, suc, zero, List, [], ◌∷◌, ◌++◌, map, filter, Some, if◌then◌else◌}
 use Rattle.std.specs.Prelude.{slice_get, slice_set}
 use Rattle.std.specs.List.{list_all}
 use Rattle.std.proofs.lemmas.Bool.{and_parts, and_from}
@@ -37,3 +37,21 @@ append_all test xs ys first second = list_all-append test xs ys ∙ and_from (li
 
 pub one_all : {A : Type 0} (test : A → Bool) (x : A) → test x ≡ true → list_all test (x ∷ []) ≡ true
 one_all test x here = and_from (test x) true here refl
+
+-- of those that are left in
+pub filter_all : {A : Type 0} (test keep : A → Bool) (xs : List A) → list_all test xs ≡ true → list_all test (filter keep xs) ≡ true
+filter_all test keep [] all = refl
+filter_all test keep (x ∷ xs) all = let parts = and_parts (test x) (list_all test xs) all in by (keep x) parts.0 (filter_all test keep xs parts.1)
+  where
+    by : (kept : Bool) → test x ≡ true → list_all test (filter keep xs) ≡ true → list_all test (if kept then x ∷ filter keep xs else filter keep xs) ≡ true
+    by true here rest = and_from (test x) (list_all test (filter keep xs)) here rest
+    by false here rest = rest
+
+-- what is left in passes the test of the filter
+pub filter_passes : {A : Type 0} (keep : A → Bool) (xs : List A) → list_all keep (filter keep xs) ≡ true
+filter_passes keep [] = refl
+filter_passes keep (x ∷ xs) = by (keep x) refl (filter_passes keep xs)
+  where
+    by : (kept : Bool) → keep x ≡ kept → list_all keep (filter keep xs) ≡ true → list_all keep (if kept then x ∷ filter keep xs else filter keep xs) ≡ true
+    by true is rest = and_from (keep x) (list_all keep (filter keep xs)) is rest
+    by false is rest = rest

@@ -223,11 +223,16 @@ pub named_same : (session : Option SessionId) (s : SessionId) → is_of_one sess
 named_same None s is = absurd (let none : ⊥ = cc in none)
 named_same (Some one) s is = ap Some (sym (same_session_is s one is))
 
-held_near : (t : Traced) (link : Link) (x h : Ltxid) → link.held ≡ Some h → same_ltxid x h ≡ true → is_named link ≡ true → is_near t link ≡ true → IsNear t x
+-- its session has as many entries as there are of the identifier's
+pub held_count : (t : Traced) (link : Link) (x : Ltxid) → link.held ≡ Some x → is_named link ≡ true → number_of t.entries link ≡ entries_of t.entries (session_of x)
+held_count t link x held named =
+    let own : is_of_one link.session (session_of x) ≡ true = subst (λ (o : Option Ltxid). held_of link.session o ≡ true) held (named_held link.session link.served link.held named) in
+    number_named t.entries link (session_of x) (named_same link.session (session_of x) own)
+
+pub held_near : (t : Traced) (link : Link) (x h : Ltxid) → link.held ≡ Some h → same_ltxid x h ≡ true → is_named link ≡ true → is_near t link ≡ true → IsNear t x
 held_near t link x h held same named near =
     let equal : x ≡ h = (same_ltxid_decides x h).0 same in
-    let own : is_of_one link.session (session_of h) ≡ true = subst (λ (o : Option Ltxid). held_of link.session o ≡ true) held (named_held link.session link.served link.held named) in
-    let count : number_of t.entries link ≡ entries_of t.entries (session_of h) = number_named t.entries link (session_of h) (named_same link.session (session_of h) own) in
+    let count : number_of t.entries link ≡ entries_of t.entries (session_of h) = held_count t link h held named in
     let number : held_number link ≡ h.number = ap (λ (o : Option Ltxid). option_map_or (λ y. y.number) o 0) held in
     let parts = and_parts (nat_le (held_number link) (number_of t.entries link)) (nat_le (number_of t.entries link) (held_number link + cond_held link)) near in
     let least : held_number link ≤ number_of t.entries link = le_from (held_number link) (number_of t.entries link) parts.0 in

@@ -50,7 +50,7 @@ pub by_hello : (terms : Terms) (talk : Talk) (lost : Option Losing) (x : Ltxid) 
 by_hello terms talk None x now kept = by_next terms talk (record { track = unsubmitted terms; ltxid = x }) true (begin_of talk ∷ []) None now (next_call talk) kept
 by_hello terms talk (Some lost) x now kept = refl
 
-by_reply : (terms : Terms) (talk : Talk) (state : Living) (answers : List Answer) (draws : List Draw) (x : Ltxid) (alive : Bool) (now : ℕ) (call : Option Call) → IsBy x (on_reply terms talk state answers draws x alive now call)
+pub by_reply : (terms : Terms) (talk : Talk) (state : Living) (answers : List Answer) (draws : List Draw) (x : Ltxid) (alive : Bool) (now : ℕ) (call : Option Call) → IsBy x (on_reply terms talk state answers draws x alive now call)
 by_reply terms talk state answers draws x alive now None kept = absurd (let none : ⊥ = cc in none)
 by_reply terms talk state answers draws x alive now (Some call) kept =
     let after : Talk = talk_shown terms talk call answers in
@@ -64,7 +64,7 @@ by_compared : (terms : Terms) (talk : Talk) (state : Repeating) (alive : Bool) (
 by_compared terms talk state alive seen answers now true kept = by_marked terms talk (verified_more state) alive [] now (next_of (verified_more state)) kept
 by_compared terms talk state alive seen answers now false kept = absurd (let none : ⊥ = cc in none)
 
-by_repeated : (terms : Terms) (talk : Talk) (state : Repeating) (answers : List Answer) (draws : List Draw) (x : Ltxid) (alive : Bool) (now : ℕ) (one : Option Recorded) → IsBy state.ltxid (on_repeated terms talk state answers draws x alive now one)
+pub by_repeated : (terms : Terms) (talk : Talk) (state : Repeating) (answers : List Answer) (draws : List Draw) (x : Ltxid) (alive : Bool) (now : ℕ) (one : Option Recorded) → IsBy state.ltxid (on_repeated terms talk state answers draws x alive now one)
 by_repeated terms talk state answers draws x alive now None kept = absurd (let none : ⊥ = cc in none)
 by_repeated terms talk state answers draws x alive now (Some one) kept = by_compared terms talk state alive one.seen.digest (terms.digest answers) now (bytes_eq one.seen.digest (terms.digest answers)) kept
 

@@ -78,7 +78,7 @@ incomplete_fails terms talk asking alive now phase =
 incomplete_drops : (terms : Terms) (talk : Talk) (asking : Asking) (alive : Bool) (now : ℕ) → talk.phase ≡ Asked asking → (talk_step terms talk (Took (down.OutcomeIs true false) alive) now).1.hold ≡ hold.Drop
 incomplete_drops terms talk asking alive now phase = ap (λ (p : Phase). (takes terms talk p (down.OutcomeIs true false) alive now).1.hold) phase
 
-kept_hold : (setting : _) (first : Doing) (held : Hold) (after : Doing) (kept : Hold) → GoesOn setting first held after kept → kept ≡ hold.Keep → held ≡ hold.Keep
+pub kept_hold : (setting : _) (first : Doing) (held : Hold) (after : Doing) (kept : Hold) → GoesOn setting first held after kept → kept ≡ hold.Keep → held ≡ hold.Keep
 kept_hold setting first held _ _ AtOnce keep = keep
 kept_hold setting first held _ _ (LostToo event tick ended is) keep = is
 

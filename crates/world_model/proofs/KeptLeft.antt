@@ -59,7 +59,7 @@ use Rattle.world_model.proofs.UpsLess.{HasLess, or_false_from, sends_less, happe
 
 -- LISTS -------------------------------------------------------------------------------------------
 
-none_kept : {A : Type 0} (test : A → Bool) (xs : List A) → length (filter test xs) ≡ 0 → list_any test xs ≡ false
+pub none_kept : {A : Type 0} (test : A → Bool) (xs : List A) → length (filter test xs) ≡ 0 → list_any test xs ≡ false
 none_kept test [] none = refl
 none_kept {A} test (x ∷ xs) none = by (test x) (λ rest. none_kept test xs rest) none
   where
@@ -67,7 +67,7 @@ none_kept {A} test (x ∷ xs) none = by (test x) (λ rest. none_kept test xs res
     by true later none = absurd (let never : ⊥ = omega arith in never)
     by false later none = later none
 
-none_weaker : {A : Type 0} (test next : A → Bool) (xs : List A) → ((x : A) → next x ≡ true → test x ≡ true) → list_any test xs ≡ false → list_any next xs ≡ false
+pub none_weaker : {A : Type 0} (test next : A → Bool) (xs : List A) → ((x : A) → next x ≡ true → test x ≡ true) → list_any test xs ≡ false → list_any next xs ≡ false
 none_weaker test next [] implies none = refl
 none_weaker {A} test next (x ∷ xs) implies none = by (test x) (next x) (implies x) (λ rest. none_weaker test next xs implies rest) none
   where

@@ -1,5 +1,5 @@
 -- Of Shown: on a connection that a request lost, the answered frame that was sent last is its own, at the start and behind each event.
-use Rattle.std.proofs.Common.{◌≡◌, refl, sym, ap, subst, ◌∙◌, Bool, true, false, ℕ, filter, length, List, [], ◌∷◌, ◌++◌, map, Option, Some, None, if◌then◌else◌}
+use Rattle.std.proofs.Common.{◌≡◌, refl, sym, ap, subst, ◌∙◌, Bool, true, false, ℕ, filter, length, List, [], ◌∷◌, ◌++◌, map, Option, Some, None}
 use Rattle.std.specs.Prelude.{unwrap_or}
 use Rattle.std.specs.List.{list_all, last_or}
 use Rattle.std.specs.Option.{option_map_or}
@@ -12,7 +12,7 @@ use Rattle.world_model.specs.Frames.{Owner, Sent}
 use Rattle.world_model.specs.Invariant.{Orderly}
 use Rattle.world_model.specs.KeptLaws.{IsKeptOfAll}
 use Rattle.world_model.specs.Links.{Link, link_at}
-use Rattle.world_model.specs.Lost.{is_gone, lost_links}
+use Rattle.world_model.specs.Lost.{lost_links}
 use Rattle.world_model.specs.Machines.{Machine}
 use Rattle.world_model.specs.Matching.{Noted}
 use Rattle.world_model.specs.Parts.{is_rep}
@@ -20,14 +20,14 @@ use Rattle.world_model.specs.Reached.{traced_start}
 use Rattle.world_model.specs.Sames.{owned_by, same_owner}
 use Rattle.world_model.specs.Settings.{setting_of}
 use Rattle.world_model.specs.Shown.{ends_own, loses_own, lose_own}
-use Rattle.world_model.specs.Traced.{Traced, Course, courses_of}
-use Rattle.world_model.proofs.AllLists.{append_all}
+use Rattle.world_model.specs.Traced.{Traced, Course}
+use Rattle.world_model.proofs.AllLists.{append_all, filter_all}
 use Rattle.world_model.proofs.ClientSteps.{HasStepped, happens_step}
 use Rattle.world_model.proofs.FrontLists.{last_kept}
 use Rattle.world_model.proofs.Happened.{Followed, follow_happens, at_event}
 use Rattle.world_model.proofs.KeptRows.{before_on}
 use Rattle.world_model.proofs.KeptSendings.{spoken_passes, resting_none}
-use Rattle.world_model.proofs.LostKept.{KeepsLost, lost_kept, found_still, course_before, course_kept, course_ended}
+use Rattle.world_model.proofs.LostKept.{KeepsLost, lost_kept, all_still, course_before, course_kept, course_ended}
 use Rattle.world_model.proofs.LostLists.{LostMore, NoneLost, OneLost}
 use Rattle.world_model.proofs.LostSteps.{IsLeft, kept_lost, over_lost}
 use Rattle.world_model.proofs.Moves.{Happens}
@@ -52,19 +52,11 @@ last_over : (owner : Owner) (found : Option Sent) (more : List Sent) → option_
 last_over owner found [] here all = here
 last_over owner found (sent ∷ more) here all = let parts = and_parts (owned_by owner sent) (list_all (owned_by owner) more) all in last_over owner (Some sent) more parts.0 parts.1
 
-filtered_all : (test keep : Sent → Bool) (sents : List Sent) → list_all test sents ≡ true → list_all test (filter keep sents) ≡ true
-filtered_all test keep [] all = refl
-filtered_all test keep (sent ∷ sents) all = let parts = and_parts (test sent) (list_all test sents) all in by (keep sent) parts.0 (filtered_all test keep sents parts.1)
-  where
-    by : (kept : Bool) → test sent ≡ true → list_all test (filter keep sents) ≡ true → list_all test (if kept then sent ∷ filter keep sents else filter keep sents) ≡ true
-    by true here rest = and_from (test sent) (list_all test (filter keep sents)) here rest
-    by false here rest = rest
-
 own_more : (owner : Owner) (sents more : List Sent) → list_all (owned_by owner) more ≡ true → own_sents owner sents ≡ true → own_sents owner (sents ++ more) ≡ true
 own_more owner sents more all here =
     ap (λ (list : List Sent). option_map_or (owned_by owner) (last_or None list) false) (filter-append is_rep sents more)
     ∙ (ap (λ (found : Option Sent). option_map_or (owned_by owner) found false) (last_appended None (filter is_rep sents) (filter is_rep more))
-    ∙ last_over owner (last_or None (filter is_rep sents)) (filter is_rep more) here (filtered_all (owned_by owner) is_rep more all))
+    ∙ last_over owner (last_or None (filter is_rep sents)) (filter is_rep more) here (filter_all (owned_by owner) is_rep more all))
 
 own_frames : (owner : Owner) (call : ℕ) (frames : List Up) → list_all (owned_by owner) (map (sent_by owner call) frames) ≡ true
 own_frames owner call [] = refl
@@ -78,16 +70,6 @@ module _ (t : Traced) (inv : Orderly t) (new : Traced) (setting : new.setting �
 
   frozen_own : (course : Course) (a b : Link) → IsFrozen a b → ends_own course a ≡ true → ends_own course b ≡ true
   frozen_own course a b same here = ap (own_sents course.owner) same.sent ∙ here
-
-  -- those that were lost before
-  still_own : (course : Course) (numbers : List ℕ) → list_all (is_gone t.machine.links (courses_of t)) numbers ≡ true → list_all (λ number. option_map_or (ends_own course) (link_at t.machine.links number) false) numbers ≡ true
-      → list_all (λ number. option_map_or (ends_own course) (link_at new.machine.links number) false) numbers ≡ true
-  still_own course [] gone all = refl
-  still_own course (number ∷ numbers) gone all =
-      let one = and_parts (is_gone t.machine.links (courses_of t) number) (list_all (is_gone t.machine.links (courses_of t)) numbers) gone in
-      let two = and_parts (option_map_or (ends_own course) (link_at t.machine.links number) false) (list_all (λ n. option_map_or (ends_own course) (link_at t.machine.links n) false) numbers) all in
-      and_from (option_map_or (ends_own course) (link_at new.machine.links number) false) (list_all (λ n. option_map_or (ends_own course) (link_at new.machine.links n) false) numbers)
-      (found_still t inv new setting items left kind happens (ends_own course) (frozen_own course) number one.0 two.0) (still_own course numbers one.1 two.1)
 
   module _ (who : ℕ) (step : HasStepped t.setting now who new.machine) where
     abbrev mine : Owner
@@ -140,16 +122,16 @@ module _ (t : Traced) (inv : Orderly t) (new : Traced) (setting : new.setting �
 
   keeps_own : KeepsLost t inv new setting items left kind happens loses_own
   keeps_own = record {
-    others = λ course gone here. still_own course (lost_links course) gone here;
+    others = λ course gone here. all_still t inv new setting items left kind happens (ends_own course) (frozen_own course) (lost_links course) gone here;
     begins = λ who place request. refl;
     goes = λ who step keep gone here.
         by_lost who step (IsLeft t inv who new.machine step) (course_kept t inv new setting items left kind happens who step) refl (lost_links (course_before t inv new setting items left kind happens who step))
         (lost_links (course_kept t inv new setting items left kind happens who step)) (kept_lost t inv who new.machine step)
-        (still_own (course_before t inv new setting items left kind happens who step) (lost_links (course_before t inv new setting items left kind happens who step)) gone here);
+        (all_still t inv new setting items left kind happens (ends_own (course_before t inv new setting items left kind happens who step)) (frozen_own (course_before t inv new setting items left kind happens who step)) (lost_links (course_before t inv new setting items left kind happens who step)) gone here);
     ends = λ who step over gone here.
         by_lost who step (λ (connection : ℕ). ⊥) (course_ended t inv new setting items left kind happens who step) refl (lost_links (course_before t inv new setting items left kind happens who step))
         (lost_links (course_ended t inv new setting items left kind happens who step)) (over_lost t inv who new.machine step over)
-        (still_own (course_before t inv new setting items left kind happens who step) (lost_links (course_before t inv new setting items left kind happens who step)) gone here);
+        (all_still t inv new setting items left kind happens (ends_own (course_before t inv new setting items left kind happens who step)) (frozen_own (course_before t inv new setting items left kind happens who step)) (lost_links (course_before t inv new setting items left kind happens who step)) gone here);
   }
 
 pub own_law : IsKeptOfAll lose_own

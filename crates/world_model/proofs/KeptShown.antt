@@ -65,6 +65,18 @@ any_at test (first ∷ numbers) number is here = by (first == number) refl is (�
 
 -- THE STEP ----------------------------------------------------------------------------------------
 
+-- what is known of a connection
+pub known_of : (t : Traced) → Orderly t → (number : ℕ) (link : Link) → link_at t.machine.links number ≡ Some link → Known link
+known_of t inv number link there = record {
+  sent = at_link is_sent_front t.machine.links number link inv.wire.sent there;
+  replies = at_link is_reply_front t.machine.links number link inv.wire.replies there;
+  handled = at_link (λ l. handled_from 0 l.served) t.machine.links number link inv.wire.handled there;
+  out = at_link one_is_out t.machine.links number link inv.wire.out there;
+  near = at_link served_near t.machine.links number link inv.number.served there;
+  counts = at_link counts_commits t.machine.links number link inv.basic.commits there;
+  held = at_link is_told t.machine.links number link inv.number.told there;
+}
+
 abbrev given_test : Traced → Course → Bool
 given_test t course = all_given t course 0 course.report.calls
 
@@ -78,15 +90,7 @@ module _ (old new : Traced) (inv : Orderly old) (rows : list_all (course_rows ol
       all_more old new longer course course refl [] (sym (append-nil (held_in course.steps))) [] (sym (append-nil course.report.outcomes)) refl 0 course.report.calls
 
   known : (number : ℕ) (link : Link) → link_at old.machine.links number ≡ Some link → Known link
-  known number link there = record {
-    sent = at_link is_sent_front old.machine.links number link inv.wire.sent there;
-    replies = at_link is_reply_front old.machine.links number link inv.wire.replies there;
-    handled = at_link (λ l. handled_from 0 l.served) old.machine.links number link inv.wire.handled there;
-    out = at_link one_is_out old.machine.links number link inv.wire.out there;
-    near = at_link served_near old.machine.links number link inv.number.served there;
-    counts = at_link counts_commits old.machine.links number link inv.basic.commits there;
-    held = at_link is_told old.machine.links number link inv.number.told there;
-  }
+  known = known_of old inv
 
   module _ (number : ℕ) (n : Machine) (step : HasStepped old.setting m number n) where
     abbrev mine : Owner

@@ -168,7 +168,7 @@ module _ (t : Traced) (inv : Orderly t) (next : want_next t ≡ true) (new : Tra
     spoken = spoken_as (frames_of step.pool (unwrap_or step.connection 0) act)
 
     -- behind its step it wants what it did, or nothing, or what is held on the connection that it lost
-    data WantsNow : Type 0 where
+    pub data WantsNow : Type 0 where
       AsItWas : wanted_in step.after.talk.phase ≡ wanted_in phase → act.shown ≡ None → WantsNow
       NoLonger : wanted_in step.after.talk.phase ≡ None → WantsNow
       NowLost : (number : ℕ) (link : Link) (wanted : Wanted) → step.before.connection ≡ Some number → brought step.input ≡ None → step.after.connection ≡ None → link_at new.machine.links number ≡ Some link
@@ -273,7 +273,7 @@ module _ (t : Traced) (inv : Orderly t) (next : want_next t ≡ true) (new : Tra
         by (inl stays) = inl (stays.0, ap (λ (i : Input). (step_on i).1.shown) is ∙ stays.1)
         by (inr none) = inr none
 
-    wants_now : WantsNow
+    pub wants_now : WantsNow
     wants_now = by spoken step.before.connection step.input step.after refl refl refl refl step.heard_on
       where
         by : (said : List Sent) (had : Option ℕ) (input : Input) (later : Doing) → spoken ≡ said → step.before.connection ≡ had → step.input ≡ input → step.after ≡ later

@@ -51,6 +51,15 @@ module _ (t : Traced) (inv : Orderly t) (new : Traced) (setting : new.setting �
       ap (λ (found : Option Link). option_map_or test found false) stays.there
       ∙ alike gone.link stays.now stays.same (sym (ap (λ (found : Option Link). option_map_or test found false) gone.there) ∙ here)
 
+  -- and if it does now it did before
+  pub found_back : (test : Link → Bool) → ((a b : Link) → IsFrozen a b → test b ≡ true → test a ≡ true) → (number : ℕ) → is_gone t.machine.links (courses_of t) number ≡ true
+      → option_map_or test (link_at new.machine.links number) false ≡ true → option_map_or test (link_at t.machine.links number) false ≡ true
+  found_back test alike number is here =
+      let gone : GoneAt t.machine.links (courses_of t) number = gone_at t.machine.links (courses_of t) number is in
+      let stays : StaysShut new.machine.links number gone.link = gone_stays t inv new setting items left kind happens number gone in
+      ap (λ (found : Option Link). option_map_or test found false) gone.there
+      ∙ alike gone.link stays.now stays.same (sym (ap (λ (found : Option Link). option_map_or test found false) stays.there) ∙ here)
+
   -- and so does one of those that were
   pub any_still : (test : Link → Bool) → ((a b : Link) → IsFrozen a b → test a ≡ true → test b ≡ true) → (numbers : List ℕ) → list_all (is_gone t.machine.links (courses_of t)) numbers ≡ true
       → any_link test t.machine.links numbers ≡ true → any_link test new.machine.links numbers ≡ true
@@ -65,6 +74,16 @@ module _ (t : Traced) (inv : Orderly t) (new : Traced) (setting : new.setting �
           → (option_map_or test (link_at new.machine.links number) false || any_link test new.machine.links numbers) ≡ true
       by parts (inl here) again = or_left (option_map_or test (link_at new.machine.links number) false) (any_link test new.machine.links numbers) (found_still test alike number parts.0 here)
       by parts (inr later) again = or_right (option_map_or test (link_at new.machine.links number) false) (any_link test new.machine.links numbers) (again parts.1 later)
+
+  -- and so do all of them
+  pub all_still : (test : Link → Bool) → ((a b : Link) → IsFrozen a b → test a ≡ true → test b ≡ true) → (numbers : List ℕ) → list_all (is_gone t.machine.links (courses_of t)) numbers ≡ true
+      → list_all (λ number. option_map_or test (link_at t.machine.links number) false) numbers ≡ true → list_all (λ number. option_map_or test (link_at new.machine.links number) false) numbers ≡ true
+  all_still test alike [] gone all = refl
+  all_still test alike (number ∷ numbers) gone all =
+      let one = and_parts (is_gone t.machine.links (courses_of t) number) (list_all (is_gone t.machine.links (courses_of t)) numbers) gone in
+      let two = and_parts (option_map_or test (link_at t.machine.links number) false) (list_all (λ n. option_map_or test (link_at t.machine.links n) false) numbers) all in
+      and_from (option_map_or test (link_at new.machine.links number) false) (list_all (λ n. option_map_or test (link_at new.machine.links n) false) numbers) (found_still test alike number one.0 two.0)
+      (all_still test alike numbers one.1 two.1)
 
   module _ (who : ℕ) (step : HasStepped t.setting now who new.machine) where
     abbrev pub course_before : Course

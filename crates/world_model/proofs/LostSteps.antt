@@ -137,7 +137,7 @@ module _ (t : Traced) (inv : Orderly t) (number : ℕ) (n : Machine) (step : Has
   holds : same_bool (is_some step.before.connection) (holds_connection step.before.talk.phase) ≡ true
   holds = (and_parts (same_bool (is_some step.before.connection) (holds_connection step.before.talk.phase)) _ (before_so (is_held t) inv.hold.held (λ request. refl))).0
 
-  wanted : is_wanted (wants_of t.setting.terms step.before.talk now.tick) step.input ≡ true
+  pub wanted : is_wanted (wants_of t.setting.terms step.before.talk now.tick) step.input ≡ true
   wanted = (and_parts (is_wanted (wants_of t.setting.terms step.before.talk now.tick) step.input) (is_gone step.input || not false) step.may).0
 
   wanted_at : (input : Input) → step.input ≡ input → is_wanted (wants_of t.setting.terms step.before.talk now.tick) input ≡ true
@@ -216,7 +216,7 @@ module _ (t : Traced) (inv : Orderly t) (number : ℕ) (n : Machine) (step : Has
   abbrev one : Step
   one = first_step t.setting now inv.script.talks number n step
 
-  connection_is : step.after ≡ first → step.after.connection ≡ connected had step.input
+  pub connection_is : step.after ≡ first → step.after.connection ≡ connected had step.input
   connection_is same = ap (λ (doing : Doing). doing.connection) same ∙ sym step.connects
 
   -- it has none then, and the one that it had is not open

@@ -15,6 +15,8 @@ use Rattle.svc_values.specs.declared.answer.Answer.TheVariants as answer
 use Rattle.svc_values.specs.declared.draw.Draw.{Draw}
 use Rattle.svc_values.specs.declared.draw.Draw.TheVariants as draw
 use Rattle.svc_values.specs.declared.entry.Ltxid.{Ltxid}
+use Rattle.svc_values.specs.declared.frame.Ahead.{Ahead}
+use Rattle.svc_values.specs.declared.frame.Ahead.TheVariants as ahead
 use Rattle.svc_values.specs.declared.frame.Up.{Up}
 use Rattle.svc_values.specs.declared.frame.Up.TheVariants as up
 use Rattle.svc_values.specs.declared.frame.Down.{Down}
@@ -23,7 +25,7 @@ use Rattle.svc_values.specs.Identifiers.{same_ltxid}
 use Rattle.svc_values.specs.Same.{same_value, same_answer, same_answers, same_bool, same_call, same_draw, same_draws, fault_code}
 use Rattle.svc_values.specs.SameLaws.{same_call_decides, same_settings_equiv}
 use Rattle.world_model.specs.Frames.{Owner, Sent, Reply}
-use Rattle.world_model.specs.Sames.{same_owner, same_owners, same_up, same_sent, same_reply, same_down}
+use Rattle.world_model.specs.Sames.{same_owner, same_owners, same_up, same_sent, same_reply, same_ahead, same_down}
 use Rattle.world_model.specs.Wire.{same_replies}
 use Rattle.world_model.proofs.Tests.{eq_to}
 
@@ -67,13 +69,18 @@ bool_self false = refl
 pub ltxid_self : (x : Ltxid) → same_ltxid x x ≡ true
 ltxid_self x = grind (arith, nat_tests)
 
+ahead_self : (one : Ahead) → same_ahead one one ≡ true
+ahead_self ahead.Server = refl
+ahead_self ahead.Client = refl
+ahead_self ahead.Forgotten = refl
+
 down_self : (one : Down) → same_down one one ≡ true
 down_self (down.Hello x) = ltxid_self x
 down_self (down.Reply answers draws x) =
     and_from (same_answers answers answers) (same_draws draws draws && same_ltxid x x) (each_self same_answer answer_self answers)
     (and_from (same_draws draws draws) (same_ltxid x x) (each_self same_draw draw_self draws) (ltxid_self x))
 down_self (down.OutcomeIs a b) = and_from (same_bool a a) (same_bool b b) (bool_self a) (bool_self b)
-down_self (down.OutcomeRefused why n) = number_self n
+down_self (down.OutcomeRefused why n) = and_from (same_ahead why why) (n == n) (ahead_self why) (number_self n)
 down_self down.Blocked = refl
 down_self (down.Refused cause) = number_self cause
 

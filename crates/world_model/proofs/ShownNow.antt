@@ -45,7 +45,7 @@ use Rattle.world_model.proofs.TalkShows.{ShowsBy, ByReply, ByOutcome, IsTaken, s
 use Rattle.world_model.proofs.Tests.{eq_from, eq_to}
 
 -- the last one passes what all do
-all_last : {A : Type 0} (test : A → Bool) (found : Option A) (xs : List A) (last : A) → ((x : A) → found ≡ Some x → test x ≡ true) → list_all test xs ≡ true → last_or found xs ≡ Some last → test last ≡ true
+pub all_last : {A : Type 0} (test : A → Bool) (found : Option A) (xs : List A) (last : A) → ((x : A) → found ≡ Some x → test x ≡ true) → list_all test xs ≡ true → last_or found xs ≡ Some last → test last ≡ true
 all_last test found [] last first all is = first last is
 all_last {A} test found (x ∷ xs) last first all is =
     let parts = and_parts (test x) (list_all test xs) all in all_last test (Some x) xs last (λ y same. let e : x ≡ y = cc in subst (λ (z : A). test z ≡ true) e parts.0) parts.1 is
@@ -70,7 +70,7 @@ pub record FirstReply (m : Machine) (had : Option ℕ) (frame : Down) : Type 0 w
 no_first : (sent : Sent) → None ≡ Some sent → ⊥
 no_first sent is = let none : ⊥ = cc in none
 
-first_reply : (setting : Setting) (m n : Machine) (who : ℕ) (first : Doing) (held : Hold) (said : List Sent) (after : Doing) (had : Option ℕ) (input : Input) → HeardOn setting m n who first held said after had input
+pub first_reply : (setting : Setting) (m n : Machine) (who : ℕ) (first : Doing) (held : Hold) (said : List Sent) (after : Doing) (had : Option ℕ) (input : Input) → HeardOn setting m n who first held said after had input
     → (frame : Down) (alive : Bool) → input ≡ Took frame alive → FirstReply m had frame
 first_reply setting m n who first held said after _ _ (OfNone had input none plain same) frame alive is = absurd (let e : is_frame input ≡ true = ap is_frame is in let never : ⊥ = cc in never)
 first_reply setting m n who first held said after _ _ (OfIdle had connection ltxid answer same) frame alive is = absurd (let never : ⊥ = cc in never)

@@ -1,5 +1,7 @@
 -- When two frames, or two tagged frames, are the same one; fronts of lists.
 use Rattle.std.specs.Prelude.{ℕ, ◌==◌, ◌&&◌, Bool, true, false, nat_le, List, [], ◌∷◌, Option, Some, None}
+use Rattle.svc_values.specs.declared.frame.Ahead.{Ahead}
+use Rattle.svc_values.specs.declared.frame.Ahead.TheVariants as ahead
 use Rattle.svc_values.specs.declared.frame.Up.{Up}
 use Rattle.svc_values.specs.declared.frame.Up.TheVariants as up
 use Rattle.svc_values.specs.declared.frame.Down.{Down}
@@ -33,11 +35,17 @@ same_up up.End up.End = true
 same_up up.Close up.Close = true
 same_up _ _ = false
 
+abbrev pub same_ahead : Ahead → Ahead → Bool
+same_ahead ahead.Server ahead.Server = true
+same_ahead ahead.Client ahead.Client = true
+same_ahead ahead.Forgotten ahead.Forgotten = true
+same_ahead _ _ = false
+
 abbrev pub same_down : Down → Down → Bool
 same_down (down.Hello x) (down.Hello y) = same_ltxid x y
 same_down (down.Reply a d x) (down.Reply b e y) = same_answers a b && (same_draws d e && same_ltxid x y)
 same_down (down.OutcomeIs a b) (down.OutcomeIs c d) = same_bool a c && same_bool b d
-same_down (down.OutcomeRefused w n) (down.OutcomeRefused v m) = n == m
+same_down (down.OutcomeRefused w n) (down.OutcomeRefused v m) = same_ahead w v && (n == m)
 same_down down.Blocked down.Blocked = true
 same_down (down.Refused a) (down.Refused b) = a == b
 same_down _ _ = false

@@ -21,7 +21,9 @@ use Rattle.world_model.specs.Sames.{owned_by}
 use Rattle.run_clauses.specs.Tried.{holds}
 use Rattle.world_model.specs.Words.{held_in}
 use Rattle.world_model.specs.Parts.{implies, is_unmarked, out_frame}
+use Rattle.outage_schedule.specs.declared.note.AskResult.{AskResult}
 use Rattle.outage_schedule.specs.declared.note.AskResult.TheVariants as told
+use Rattle.outage_schedule.specs.declared.request.Outcome.{Outcome}
 use Rattle.run_clauses.specs.Outcomes.{completed_of}
 
 -- S6: WHERE A SHOWN CALL IS FROM ------------------------------------------------------------------
@@ -150,8 +152,19 @@ stands t one = true
 abbrev pub answers_stand : Traced → Bool
 answers_stand t = list_all (λ link. list_all (λ one. stands t one.served.item) link.served) t.machine.links
 
+-- and so does each outcome that a request took
+abbrev pub told_as : Outcome → AskResult
+told_as outcome = if outcome.committed then told.Committed outcome.completed else told.Uncommitted
+
+abbrev pub outcome_stands : Traced → Outcome → Bool
+outcome_stands t outcome = stands t (item.Outcome outcome.ltxid (told_as outcome))
+
+abbrev pub outcomes_stand : Traced → Bool
+outcomes_stand t = list_all (λ course. list_all (outcome_stands t) course.report.outcomes) (courses_of t)
+
 pub record Shown (t : Traced) : Type 0 where
   pub shown : IsTrue (are_from t)
   pub rows : IsTrue (in_rows t)
   pub own : IsTrue (lose_own t)
   pub answers : IsTrue (answers_stand t)
+  pub outcomes : IsTrue (outcomes_stand t)

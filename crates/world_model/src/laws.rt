@@ -8,8 +8,8 @@ ghost use Rattle.world_model.specs.Ready.{are_ready};
 ghost use Rattle.world_model.specs.Script.{are_conversations, are_kept, all_sent, are_owned, carry_draws, follow_scripts, report_rightly};
 ghost use Rattle.world_model.specs.Hold.{are_had, are_queued, are_held, are_idle, slots_held, are_opened, are_by_held};
 ghost use Rattle.world_model.specs.Number.{are_near, are_counted as are_numbered, are_told, are_served_near, are_ahead, blocks_next, entries_numbered, known_so_far, none_blocked};
-ghost use Rattle.world_model.specs.Shown.{are_given, in_rows, lose_own, answers_stand};
-ghost use Rattle.world_model.specs.Lost.{stay_gone, want_lost, want_next, outcomes_lost, go_unasked, ask_rightly, leave_none, fail_incomplete, have_events};
+ghost use Rattle.world_model.specs.Shown.{are_given, in_rows, lose_own, answers_stand, outcomes_stand};
+ghost use Rattle.world_model.specs.Lost.{stay_gone, are_lost, are_pending, want_lost, want_next, outcomes_lost, go_unasked, ask_rightly, leave_none, fail_incomplete, have_events};
 ghost use Rattle.world_model.specs.Once.{on_links};
 ghost use Rattle.world_model.specs.RunLaws.{RunsAreFollowed, RunsAreOrderly};
 ghost use Rattle.world_model.specs.Basic.{have_risen, kept_ticks, items_rise, items_differ, is_down, are_ended, sessions_differ, are_made, are_counted, are_named, living_now, commits_counted, lives};
@@ -244,9 +244,33 @@ pub fn answers_stay()
     ensures { IsKeptOfAll answers_stand }
 {}
 
+/// Each outcome that a request took stands, if the whole invariant held before: uncommitted, its identifier is blocked; committed, its
+/// entry is there and says whether it is completed.
+pub fn outcomes_stay()
+    ensures { IsKeptOfAll outcomes_stand }
+{}
+
 /// A connection that a request lost is no longer open, and no request has it, if the whole invariant held before.
 pub fn lost_connections_stay_shut()
     ensures { IsKeptOfAll stay_gone }
+{}
+
+/// What becomes of each connection that a request lost, if the whole invariant held before. It is no longer open, and one of four: no call was
+/// sent on it without the mark, and no outcome of it was taken; or none was taken, and it is what the request is to ask for, or ended
+/// without knowing; or it was said uncommitted, and is blocked; or it was said committed, its entry is there and says whether it is
+/// completed, that entry is the last of its session, and no call is left to be served that could commit.
+pub fn lost_connections_are_settled()
+    ensures { IsKeptOfAll are_lost }
+{
+    commit_log::laws::keeps_journal();
+    server_model::laws::runs_number();
+}
+
+/// Of the connections that a request lost at most one had a call sent without the mark and no outcome taken, if the whole invariant held
+/// before. There is one only while the request is to ask for an outcome, or where it ended without knowing it; and what it is to ask for
+/// is held on a connection that it lost.
+pub fn one_outcome_is_pending()
+    ensures { IsKeptOfAll are_pending }
 {}
 
 /// What a request that lost a connection is to ask for is held on one that it lost, which ended at the event that it knows of. If a call
