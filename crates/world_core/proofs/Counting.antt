@@ -3,7 +3,7 @@ use Rattle.std.proofs.Common.{◌≡◌, ℕ, suc, ◌+◌, Bool, true, false, L
 use Rattle.std.specs.Prelude.{◌||◌, All, cond, drop, nat_lt, if◌then◌else◌}
 use Rattle.std.specs.List.{list_all}
 use Rattle.std.proofs.lemmas.Bool.{lt-leb}
-use Rattle.std.proofs.lemmas.List.{append-nil}
+use Rattle.std.proofs.lemmas.List.{append-nil, append_cancel_left}
 use Rattle.std.proofs.lemmas.List.Elements.{All-nil, All-cons, All-head, All-contains}
 use Rattle.std.proofs.lemmas.List.Sums.{sum_by-cons}
 use Rattle.svc_values.specs.declared.entry.Entry.{Entry}
@@ -19,16 +19,16 @@ use Rattle.server_model.specs.Laws.{CommitsAs}
 use Rattle.server_model.specs.Outcomes.{telling_of}
 use Rattle.server_model.specs.Runs.{Happened, Served}
 use Rattle.server_model.specs.Seen.{Seen}
-use Rattle.server_model.specs.ServiceCalls.{CameFrom}
+use Rattle.server_model.specs.ServiceCalls.{CameFrom, IsOf}
 use Rattle.world_model.specs.Basic.{is_made}
 use Rattle.world_model.specs.Coupled.{HasStored, entries_in, Coupled}
 use Rattle.world_model.specs.Links.{Link, link_at}
 use Rattle.world_model.specs.Machines.{next_session}
 use Rattle.world_model.specs.Number.{is_known, is_of_run, known_so_far}
 use Rattle.world_model.specs.Traced.{Traced}
-use Rattle.world_core.specs.InOrder.{ServedWith, commits_in}
+use Rattle.world_core.proofs.InOrder.{ServedWith, commits_in}
 use Rattle.world_core.proofs.Recorded.{has_so}
-use Rattle.world_core.proofs.Storing.{both, counts, sessions_differ, unmade, none_more}
+use Rattle.world_core.proofs.Storing.{AreOf, both, came_of, counts, one_of, sessions_differ, unmade, none_more}
 use Rattle.world_core.proofs.Written.{Which}
 
 clash : (b : Bool) → b ≡ true → b ≡ false → ⊥
@@ -97,11 +97,18 @@ module _ (exact : AreExact) (seen : Seen) (t : Traced) (number : ℕ) (link : Li
 
   -- it has as many as it answered commits, this one included
   pub counted_behind : (new : Seen) (now : ℕ) (frame : Up) (reply : Option Down) → Which t.machine.server link.session session sessions → (did : ServedWith seen number now frame reply new) → did.session ≡ session
-      → (commits_in reply ≡ true → entries_in new.state.store.entries session ≡ link.commits + 1) → entries_in new.state.store.entries session ≡ link.commits + cond (commits_in reply) 1 0
+      → (commits_in reply ≡ true → (entry : Entry) × (new.state.store.entries ≡ seen.state.store.entries ++ entry ∷ [])) → entries_in new.state.store.entries session ≡ link.commits + cond (commits_in reply) 1 0
   counted_behind new now frame reply which did same stored = by (commits_in reply) refl
     where
       by : (commits : Bool) → commits_in reply ≡ commits → entries_in new.state.store.entries session ≡ link.commits + cond commits 1 0
-      by true is = stored is
+      by true is =
+          let gains = did.adds.gains in
+          let one = stored is in
+          let more : one.0 ∷ [] ≡ gains.more_entries = append_cancel_left seen.state.store.entries (one.0 ∷ []) gains.more_entries (sym one.1 ∙ gains.entries) in
+          let happened = Served did.session now frame (telling_of reply) ∷ [] in
+          let are : AreOf did.session gains.more_entries = came_of did.session happened gains.more_entries (All-cons (IsOf did.session) (Served did.session now frame (telling_of reply)) [] refl (All-nil (IsOf did.session))) gains.own in
+          let own : did.session ≡ session_of one.0.ltxid = (subst (AreOf did.session) (sym more) are).0 in
+          ap (λ e. entries_in e session) one.1 ∙ one_of exact session seen.state.store.entries one.0 (sym same ∙ own) ∙ ap (λ (n : ℕ). n + 1) (before which)
       by false is =
           let gains = did.adds.gains in
           let none : gains.more_entries ≡ [] = came_none (Served did.session now frame (telling_of reply)) gains.more_entries (λ entry commits. stores_none did.session now frame reply entry is commits) gains.own in

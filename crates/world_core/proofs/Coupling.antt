@@ -13,6 +13,7 @@ use Rattle.outage_schedule.specs.declared.note.Reached.{Reached}
 use Rattle.outage_schedule.specs.declared.item.Served.{Served}
 use Rattle.server_model.specs.Runs.{Happened}
 use Rattle.server_model.specs.Seen.{Seen}
+use Rattle.server_model.specs.Sessions.{Life}
 use Rattle.server_model.specs.ServiceCalls.{CameFrom, WasAsked}
 use Rattle.world_model.specs.Links.{Link, link_at, with_link}
 use Rattle.world_model.specs.Machines.{Machine}
@@ -22,12 +23,13 @@ use Rattle.world_model.specs.Cutting.{reached_of, cut_link, after_cut, cuts, ope
 use Rattle.world_model.specs.Outside.{ticked}
 use Rattle.world_model.specs.Walking.{follow}
 use Rattle.world_model.specs.ServiceDid.{ServiceDid}
-use Rattle.world_model.specs.Coupled.{living_of, HasStored, SameServer, Coupled}
+use Rattle.world_model.specs.Coupled.{living_of, HasStored, life_of, HasLived, IsLater, SameServer, Coupled}
 use Rattle.world_model.specs.KeptLaws.{OrderlyIsKept}
 use Rattle.world_model.specs.OneEvent.{OneEvent, session_outside, drawn_outside}
 use Rattle.world_core.specs.declared.traffic.Traffic.{Traffic}
 use Rattle.world_core.specs.Underway.{IsUnderway, Leads}
 use Rattle.world_core.specs.Making.{IsReady, IsAt, Made, Makes}
+use Rattle.world_core.specs.Stopping.{AreKnown}
 
 -- VIEWS -------------------------------------------------------------------------------------------
 
@@ -36,9 +38,10 @@ pub record View : Type 0 where
   pub is_living : Bool
   pub session : Option SessionId
   pub commits : ℕ
+  pub life : Life
 
 abbrev pub view : Link → View
-view link = record { is_living = link.is_living; session = link.session; commits = link.commits }
+view link = record { is_living = link.is_living; session = link.session; commits = link.commits; life = life_of link.served }
 
 abbrev pub views : List Link → List View
 views links = map view links
@@ -82,6 +85,9 @@ same_found new old number link same there =
 abbrev StoredIn : List Entry → View → Type 0
 StoredIn entries one = HasStored entries (living_in (Some one)) one.commits
 
+abbrev LivedIn : List Happened → View → Type 0
+LivedIn history one = HasLived history (living_in (Some one)) one.life
+
 -- COUPLED -----------------------------------------------------------------------------------------
 
 abbrev pub moved : Traced → Machine → Traced
@@ -98,9 +104,14 @@ stays_coupled seen t m coupled server same = record {
   stored = λ number link there.
       let other = same_found m.links t.machine.links number link same there in
       subst (StoredIn seen.state.store.entries) other.1.1 (coupled.stored number other.0 other.1.0);
+  lives = λ number link there.
+      let other = same_found m.links t.machine.links number link same there in
+      subst (LivedIn seen.history) other.1.1 (coupled.lives number other.0 other.1.0);
+  later = λ session is. coupled.later session (subst (λ s. IsLater s session) server is);
   entries = coupled.entries;
   blocked = coupled.blocked;
   image = coupled.image;
+  blocks = subst (λ s. AreKnown s t.blocked) (sym server) coupled.blocks;
 }
 
 -- AN EVENT THAT THE SERVICE HAS NO PART IN --------------------------------------------------------

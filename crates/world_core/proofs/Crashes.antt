@@ -1,5 +1,5 @@
 -- A crash, behind the frame that was served last.
-use Rattle.std.proofs.Common.{◌≡◌, ◌≤◌, ℕ, zero, suc, ◌+◌, Bool, true, false, List, [], ◌∷◌, ◌++◌, Option, Some, None, map, refl, sym, ap, ◌∙◌, subst, arith, eq-eqb, inl}
+use Rattle.std.proofs.Common.{◌≡◌, ◌<◌, ◌≤◌, ℕ, zero, suc, ◌+◌, Bool, true, false, List, [], ◌∷◌, ◌++◌, Option, Some, None, map, refl, sym, ap, ◌∙◌, subst, arith, eq-eqb, inl, inr}
 use Rattle.std.specs.Prelude.{slice_get, fold, option_map, if◌then◌else◌}
 use Rattle.std.proofs.lemmas.List.{append-nil}
 use Rattle.outage_schedule.specs.declared.event.Event.TheVariants as event
@@ -10,10 +10,10 @@ use Rattle.svc_values.specs.declared.entry.Entry.{Entry}
 use Rattle.svc_values.specs.declared.entry.SessionId.{SessionId}
 use Rattle.server_model.specs.Laws.{stops_last}
 use Rattle.server_model.specs.Runs.{Happened}
-use Rattle.server_model.specs.Seen.{Store, Seen, IsHistory}
+use Rattle.server_model.specs.Seen.{Store, ServiceState, Seen, IsHistory}
 use Rattle.server_model.specs.ServiceCalls.{is_failover, Gains, Crashed}
 use Rattle.service_calls.specs.Kept.{Goes}
-use Rattle.world_model.specs.Coupled.{living_of, HasStored, SameServer, Coupled}
+use Rattle.world_model.specs.Coupled.{living_of, HasStored, life_by, life_of, IsLater, SameServer, Coupled}
 use Rattle.world_model.specs.Crashing.{fallen_link, fallen_server, falls, crashes, follow_crash}
 use Rattle.world_model.specs.Links.{Link, link_at, open_from}
 use Rattle.world_model.specs.Machines.{Server, Machine}
@@ -26,15 +26,16 @@ use Rattle.world_model.specs.Traced.{Traced}
 use Rattle.world_model.specs.Walking.{follow}
 use Rattle.world_core.specs.declared.traffic.Traffic.{Traffic}
 use Rattle.world_core.specs.Underway.{IsUnderway}
-use Rattle.world_core.specs.Making.{MakesWhere}
-use Rattle.world_core.specs.Stopping.{InOrderUnder, ServedLast, LeadsLast}
+use Rattle.world_core.specs.Making.{Makes, IsSomewhere}
+use Rattle.world_core.specs.Stopping.{ServedLast, LeadsLast}
+use Rattle.world_core.proofs.Living.{none_lived}
 use Rattle.world_core.proofs.Coupling.{begun, one_alone, made, made_alone}
 use Rattle.world_core.proofs.Opening.{any_server}
 
 -- the server is down
 pub crashes_none : OrderlyIsKept → (sees : Seen → Type 0) (before after : Traffic) (number calls pick : ℕ) → ((seen : Seen) → sees seen → seen.state.is_up ≡ false) → ((m : Machine) → IsUnderway before m → IsUnderway after (begun m))
-    → MakesWhere (InOrderUnder number calls) sees before sees after (event.Crash number calls pick) (note.Crash number true) []
-crashes_none kept sees before after number calls pick down goes seen t is ordered =
+    → Makes sees before sees after (event.Crash number calls pick) (note.Crash number true) []
+crashes_none kept sees before after number calls pick down goes seen t is =
     let server_down : t.machine.server.is_up ≡ false = is.coupled.server.is_up ∙ down seen is.seen_so in
     let follows : follow t.setting t.machine (event.Crash number calls pick) (note.Crash number true) [] ≡ Some (begun t.machine, []) = rw (eq-eqb number number refl, server_down) refl in
     made_alone kept sees before after (event.Crash number calls pick) (note.Crash number true) seen t (begun t.machine) is
@@ -80,6 +81,11 @@ server_fallen server failover incarnation per_record new same records down store
       closed = λ none. (same_least server.incarnation new.state.store.incarnation is, same_most server.incarnation new.state.store.incarnation server.stopped is);
     }
 
+-- a session that is made later is of an incarnation to come
+later_fallen : (server : Server) (failover : Bool) (incarnation : ℕ) (session : SessionId) → server.incarnation ≡ incarnation → IsLater (fallen_server failover server) session → incarnation < session.incarnation
+later_fallen server failover incarnation session same (inl later) = omega (arith, same, later)
+later_fallen server failover incarnation session same (inr (up, later)) = absurd (let clash : false ≡ true = up in let nothing : ⊥ = cc in nothing)
+
 when_up : {A : Type 0} (up : Bool) (a b : A) → up ≡ true → (if up then a else b) ≡ a
 when_up true a b e = refl
 when_up false a b e = absurd (let nothing : ⊥ = cc in nothing)
@@ -108,9 +114,14 @@ module _ (seen between new : Seen) (t : Traced) (number calls pick : ℕ) (items
     server = server;
     living = λ other. crashed.living other ∙ sym (none_living m.event m.links other);
     stored = λ other link there. none_stored new.state.store.entries (living_of (Some link)) link.commits (ap living_of (sym there) ∙ none_living m.event m.links other);
+    lives = λ other link there. none_lived new.history (living_of (Some link)) (life_of link.served) (ap living_of (sym there) ∙ none_living m.event m.links other);
+    later = λ session is.
+        let above = later_fallen m.server (is_failover pick) t.machine.server.incarnation session last.server.0 is in
+        ap (λ h. life_by h session) crashed.history ∙ last.later session above ∙ coupled.later session (inl above);
     entries = refl;
     blocked = refl;
     image = rw (crashed.start ∙ last.start) coupled.image;
+    blocks = last.blocks new.state.store remains (λ up. crashed.store (inl up));
   }
 
   follows : follow t.setting t.machine (event.Crash number calls pick) (note.Crash number false) items ≡ Some (fallen, [])
@@ -148,9 +159,9 @@ pub crashes_served : OrderlyIsKept → (sees sees_between sees_later : Seen → 
     → LeadsLast sees before sees_between leaves between number calls items
     → Goes sees_between sees_later (λ old new. Crashed old pick new)
     → ((m : Machine) → IsUnderway between m → IsUnderway after (record m { links = map (fallen_link m.event) m.links; pool = fold after_gone m.pool (open_from 1 m.links) }))
-    → MakesWhere (InOrderUnder number calls) sees before sees_later after (event.Crash number calls pick) (note.Crash number false) items
-crashes_served kept sees sees_between sees_later leaves before between after number calls pick items up honest remains leads falls_so goes seen t is ordered =
-    let led = leads seen t is ordered in
+    → Makes sees before sees_later after (event.Crash number calls pick) (note.Crash number false) items
+crashes_served kept sees sees_between sees_later leaves before between after number calls pick items up honest remains leads falls_so goes seen t is =
+    let led = leads seen t is in
     let m = led.1.0 in
     let last = led.1.1.1.0 in
     let fell = falls_so led.0 led.1.1.0 in
@@ -161,3 +172,12 @@ crashes_served kept sees sees_between sees_later leaves before between after num
     (crash_event seen led.0 new t number calls pick items leaves m is.coupled (up seen is.seen_so) (honest new fell.1.0) last crashed (remains new fell.1.0)) fell.1.0
     (record { live = crashed.is_spent; quiet = crashed.is_quiet ∙ last.ready.1 ∙ is.ready.quiet; unstopped = crashed.stop.0; settled = λ down. crashed.down.1 })
     (any_server after (record m { links = map (fallen_link m.event) m.links; pool = fold after_gone m.pool (open_from 1 m.links) }) fallen.server (goes m led.1.1.1.1))
+
+-- behind the frame that is served last the service may be crashed, as it might before
+pub may_fall : (sees sees_between : Seen → Type 0) (leaves : Store → Type 0) (before between : Traffic) (number calls : ℕ) (items : List Served) (old new : ServiceState) → IsSomewhere sees before
+    → LeadsLast sees before sees_between leaves between number calls items → ((seen : Seen) → sees seen → seen.state ≡ old) → ((seen : Seen) → sees_between seen → seen.state ≡ new) → (new.is_spent ≡ false) × (new.is_opened ≡ old.is_opened)
+may_fall sees sees_between leaves before between number calls items old new there leads old_is new_is =
+    let led = leads there.0 there.1.0 there.1.1 in
+    let ready = led.1.1.1.0.ready in
+    let is = sym (new_is led.0 led.1.1.0) in
+    (ap (λ (s : ServiceState). s.is_spent) is ∙ ready.0, ap (λ (s : ServiceState). s.is_opened) is ∙ ready.2 ∙ ap (λ (s : ServiceState). s.is_opened) (old_is there.0 there.1.1.seen_so))

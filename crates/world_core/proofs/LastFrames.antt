@@ -19,23 +19,28 @@ use Rattle.server_model.specs.Laws.{stops_last}
 use Rattle.server_model.specs.Outcomes.{Telling, Stopped, telling_of}
 use Rattle.server_model.specs.Runs.{Happened, Served as ServedFrame}
 use Rattle.server_model.specs.Seen.{Store, Seen, IsHistory}
-use Rattle.server_model.specs.ServiceCalls.{Gains, ServedOne, may_store, with_stop}
-use Rattle.world_model.specs.Coupled.{living_of, entries_in, SameServer, Coupled}
+use Rattle.server_model.specs.ServiceCalls.{Gains, ServedOne, SessionOf, may_store, with_stop}
+use Rattle.world_model.specs.Basic.{living_now}
+use Rattle.world_model.specs.Coupled.{living_of, life_by, SameServer, Coupled}
 use Rattle.world_model.specs.Crashing.{is_crashed_item, is_stopped, is_over, is_alert, is_new_block, has_stored, with_doubt, after_stopped, serves_last}
 use Rattle.world_model.specs.Hold.{is_connect}
 use Rattle.world_model.specs.Links.{Link}
 use Rattle.world_model.specs.Machines.{Server, Machine}
 use Rattle.world_model.specs.ServiceDid.{front_served, item_telling}
-use Rattle.world_model.specs.Serving.{Front, front_at, outcome_frame, is_item_of, is_served_by, is_commit, commits_after, after_served}
+use Rattle.world_model.specs.Serving.{Front, front_at, outcome_frame, is_item_of, is_served_by, is_commit, commits_after, after_served, server_after}
 use Rattle.world_model.specs.Traced.{Traced}
 use Rattle.world_core.specs.Answering.{session_served, served_item, crashed_item}
-use Rattle.world_core.specs.InOrder.{Answers, Connects, Begins, Replies, Blocks, Tells, Ends, Closes, ServedWith}
-use Rattle.world_core.specs.Stopping.{StopsInOrder, ServedLast}
+use Rattle.world_core.proofs.InOrder.{Answers, Connects, Begins, Replies, Blocks, Tells, Ends, Closes, ServedWith}
+use Rattle.world_core.specs.Stopping.{AreKnown, ServedLast}
 use Rattle.world_core.proofs.Coupling.{begun, none_came, none_asked}
-use Rattle.world_core.proofs.Serving.{item_now, which, session_from, answered_last, served_so}
+use Rattle.world_core.proofs.Serving.{item_now, served_so}
+use Rattle.world_core.proofs.Sessions.{session_most, which, session_from, answered_last}
 use Rattle.world_core.proofs.Fronts.{front_there}
 use Rattle.world_core.proofs.Ordered.{ServesInOrder}
-use Rattle.world_core.proofs.Recorded.{named_by, commit_later, has_so, one_more, recorded}
+use Rattle.world_core.proofs.Added.{one_added, entry_added, others_added}
+use Rattle.world_core.proofs.Blocking.{known_blocks, known_served, known_stopped}
+use Rattle.world_core.proofs.Living.{life_apart}
+use Rattle.world_core.proofs.Recorded.{named_by, recorded}
 use Rattle.world_core.proofs.Stops.{stops_behind}
 use Rattle.world_core.proofs.Written.{reads, bools_same, same_named, named_session, stays_up}
 
@@ -55,9 +60,12 @@ stop_coupled seen t stop coupled = record {
   server = same_server t.machine.server seen stop coupled.server;
   living = coupled.living;
   stored = coupled.stored;
+  lives = coupled.lives;
+  later = coupled.later;
   entries = coupled.entries;
   blocked = coupled.blocked;
   image = coupled.image;
+  blocks = coupled.blocks;
 }
 
 few_calls : (old new : ℕ) → new ≡ old + 1 + 1 → new ≤ old + 2
@@ -92,10 +100,27 @@ last_none seen t number after leaves coupled up live there = record {
   start = refl;
   history = sym (append-nil seen.history) ∙ ap (λ h. seen.history ++ h) (sym (served_none t.machine.tick (front_at t.machine.links number)));
   lasts = coupled.stops;
+  later = λ session above. refl;
   per_record = refl;
   ready = (live, refl, refl, omega arith);
   left = λ store leaves_it same. subst (λ s. Gains (front_served t.machine.tick (front_at t.machine.links number) []) seen.state.store s) (sym (same up)) (gains_none (front_served t.machine.tick (front_at t.machine.links number) []) seen.state.store);
+  blocks = λ store leaves_it same. subst (λ s. AreKnown t.machine.server s.blocked) (sym (same up)) (known_blocks seen t coupled);
 }
+
+-- WHAT IS NOT IN IT -------------------------------------------------------------------------------
+
+other_incarnation : (a b : SessionId) → a.incarnation < b.incarnation → a ≡ b → ⊥
+other_incarnation a b less same = let one : a.incarnation ≡ b.incarnation = ap (λ (s : SessionId). s.incarnation) same in omega (arith, less, one)
+
+-- the frame is of this incarnation
+later_behind : AreExact → (seen new : Seen) (t : Traced) (number : ℕ) (front : Front) (session : SessionId) (told : Telling) (sessions : ℕ) → Coupled seen t → seen.state.is_up ≡ true → living_now t ≡ true → front_at t.machine.links number ≡ Some front
+    → SessionOf seen number session sessions → new.history ≡ seen.history ++ ServedFrame session t.machine.tick front.first.frame told ∷ []
+    → (other : SessionId) → t.machine.server.incarnation < other.incarnation → life_by new.history other ≡ life_by seen.history other
+later_behind exact seen new t number front session told sessions coupled up now there of added other above =
+    let least = session_most seen t number front session sessions coupled up now there of in
+    let opened = (coupled.server.opened up).0 in
+    let below : session.incarnation < other.incarnation = omega (arith, least, opened, above) in
+    ap (λ h. life_by h other) added ∙ life_apart exact seen.history (ServedFrame session t.machine.tick front.first.frame told ∷ []) other (other_incarnation session other below, tt)
 
 -- ANSWERED ----------------------------------------------------------------------------------------
 
@@ -135,7 +160,7 @@ by_tests : (m : Machine) (number after : ℕ) (front : Front) (served : Served) 
 by_tests m number after front served stopped passes is_s s is_o o = rw (is_s ∙ s, is_o ∙ o) refl
 
 module _ (seen new : Seen) (t : Traced) (number after : ℕ) (front : Front) (leaves : Store → Type 0) (exact : AreExact) (coupled : Coupled seen t) (up : seen.state.is_up ≡ true) (there : front_at t.machine.links number ≡ Some front)
-    (ordered : ServesInOrder (with_stop seen (Some after)) t number front) (stops : StopsInOrder seen t number after front) (history : IsHistory new) where
+    (ordered : ServesInOrder (with_stop seen (Some after)) t number front) (history : IsHistory new) where
   abbrev m : Machine
   m = begun t.machine
 
@@ -156,7 +181,7 @@ module _ (seen new : Seen) (t : Traced) (number after : ℕ) (front : Front) (le
       let session = did.session in
       let served = item_now t.machine front session reply in
       let answered = ordered.answered reply new history did in
-      let read = reads exact session number front.link.commits frame reply answered.answers in
+      let read = reads exact session number front.link.commits frame reply answered in
       let by = served_so exact stopped_seen new t number front reply coupled_stopped there ordered history did in
       let stays = stays_up t.machine.server served.item in
       let happened : ServedFrame session t.machine.tick frame (telling_of reply) ∷ [] ≡ front_served t.machine.tick (front_at t.machine.links number) (served ∷ []) =
@@ -164,29 +189,30 @@ module _ (seen new : Seen) (t : Traced) (number after : ℕ) (front : Front) (le
       let item = ordinary (served.event == m.event) (is_served_by m.server front.link frame session) (is_item_of frame served.item) (eq-eqb m.event m.event refl) by.is_served read.is_item in
       let at = front_there t.machine.links number front there in
       let gains = did.adds.gains in
-      let living : seen.state.living number ≡ Some front.link.session = coupled.living number ∙ ap living_of at.0 ∙ ap (λ b. if b then Some front.link.session else None) at.1 in
-      let known = which t.machine.server stopped_seen front.link.session session number new.state.sessions coupled_stopped.server up living did.of_connection in
+      let known = known_blocks seen t coupled in
       let counted : is_commit served.item ≡ true → 1 ≤ length gains.more_entries = λ commits.
-      one_more seen.state.store.entries gains.more_entries session front.link.commits
-      (ap (λ e. entries_in e session) (sym gains.entries) ∙ answered.stored (sym read.commits_so ∙ commits))
-      (has_so seen.state.store.entries front.link session at.1 (named_by t.machine.server front.link.session session new.state.sessions known (ordered.is_first ∙ commit_later frame reply commits)) (coupled.stored number front.link at.0)) in
+      let one = entry_added session front.link.commits frame reply seen.state.store new.state.store answered did.stored (sym read.commits_so ∙ commits) in
+      one_added seen.state.store.entries gains.more_entries new.state.store.entries one.0 gains.entries one.1 in
       let reaches : has_stored m.server served.item ≡ true → nat_le m.server.per_record after ≡ true = λ stored.
       let few = did.cause.reached after refl
-      (recorded (is_commit served.item) (is_alert served.item || is_new_block m.server served.item) seen.state.store.records new.state.store.records (length gains.more_entries) (length gains.more_blocked) (length gains.more_alerts) did.adds.stored counted (stops.added reply new did) stored)
+      (recorded (is_commit served.item) (is_alert served.item || is_new_block m.server served.item) seen.state.store.records new.state.store.records (length gains.more_entries) (length gains.more_blocked) (length gains.more_alerts) did.adds.stored counted (others_added session front.link.commits frame reply m.server (ServedFrame session t.machine.tick frame (telling_of reply) ∷ []) seen.state.store new.state.store gains answered known did.stored) stored)
       (not_told reply) in
       le-leb m.server.per_record after (subst (λ n. n ≤ after) (sym coupled.server.per_record) few) in
       record {
         follows = ap (serves_last m number after (served ∷ [])) there
-            ∙ by_tests m number after front served false true (unstopped _ _ _ (never_crashed session front.link.commits frame reply answered.answers)) refl (over _ _ _ item reaches) refl;
+            ∙ by_tests m number after front served false true (unstopped _ _ _ (never_crashed session front.link.commits frame reply answered)) refl (over _ _ _ item reaches) refl;
         server = (stays.incarnation, stays.per_record, stays.stopped);
         others = (refl, refl, refl);
         start = did.keeps.start;
         history = did.history ∙ ap (λ h. seen.history ++ h) happened;
         lasts = lasts_with session (telling_of reply) did.history (answered_last session t.machine.tick frame reply) (session_from stopped_seen t number front session new.state.sessions coupled_stopped up ordered.now there did.of_connection);
+        later = later_behind exact seen new t number front session (telling_of reply) new.state.sessions coupled up ordered.now there did.of_connection did.history;
         per_record = did.keeps.per_record;
         ready = (did.keeps.is_spent, did.keeps.is_quiet, did.keeps.is_opened, few_calls seen.state.calls new.state.calls did.keeps.calls);
         left = λ store leaves_it same. subst (λ s. Gains (front_served t.machine.tick (front_at t.machine.links number) (served ∷ [])) seen.state.store s) (sym (same (did.is_up ∙ read.is_up)))
             (subst (λ h. Gains h seen.state.store new.state.store) happened did.adds.gains);
+        blocks = λ store leaves_it same. subst (λ s. AreKnown (server_after t.machine.server served.item) s.blocked) (sym (same (did.is_up ∙ read.is_up)))
+            (known_served exact session front.link.commits frame reply t.machine.server t.machine.tick seen.state.store new.state.store answered gains did.blocks known);
       }
 
 -- STOPPED -----------------------------------------------------------------------------------------
@@ -244,7 +270,8 @@ last_stopped seen new t number after front leaves exact coupled up quiet there o
     let served = crashed_now t.machine front session in
     let coupled_stopped = stop_coupled seen t (Some after) coupled in
     let at = front_there t.machine.links number front there in
-    let is = crashed exact t.machine.server front.link frame session (may_by (may_store frame) (λ none. (did.silent none).0 refl)) in
+    let may = may_by (may_store frame) (λ none. (did.silent none).0 refl) in
+    let is = crashed exact t.machine.server front.link frame session may in
     let living : seen.state.living number ≡ Some front.link.session = coupled.living number ∙ ap living_of at.0 ∙ ap (λ b. if b then Some front.link.session else None) at.1 in
     let known = which t.machine.server (with_stop seen (Some after)) front.link.session session number new.state.sessions coupled_stopped.server up living did.of_connection in
     let named = named_by t.machine.server front.link.session session new.state.sessions known (ordered.is_first ∙ is.first) in
@@ -265,8 +292,10 @@ last_stopped seen new t number after front leaves exact coupled up quiet there o
         start = did.keeps.start;
         history = did.history ∙ ap (λ h. seen.history ++ h) happened;
         lasts = ap stops_last did.history ∙ stops_behind seen (ServedFrame session t.machine.tick frame Stopped ∷ []) coupled.sound coupled.history up coupled.stops refl (from, tt);
+        later = later_behind exact seen new t number front session Stopped new.state.sessions coupled up ordered.now there did.of_connection did.history;
         per_record = did.keeps.per_record;
         ready = (did.keeps.is_spent, did.keeps.is_quiet, did.keeps.is_opened, few_calls seen.state.calls new.state.calls did.keeps.calls);
         left = λ store leaves_it same. subst (λ h. Gains h seen.state.store store) happened (did.left store leaves_it).gains;
+        blocks = λ store leaves_it same. known_stopped exact session frame t.machine.server t.machine.tick seen.state.store store may (did.left store leaves_it).gains (known_blocks seen t coupled);
       },
     )

@@ -16,9 +16,9 @@ use Rattle.world_model.specs.Serving.{Front, front_at, after_front, handled, aft
 use Rattle.world_model.specs.Traced.{Traced}
 use Rattle.world_core.specs.declared.traffic.Traffic.{Traffic}
 use Rattle.world_core.specs.Answering.{served_item, crashed_item}
-use Rattle.world_core.specs.InOrder.{ServedWith, InOrder}
+use Rattle.world_core.proofs.InOrder.{ServedWith}
 use Rattle.world_core.specs.Underway.{IsUnderway, FrontOf, answered_link, IsWritten, IsStopped}
-use Rattle.world_core.specs.Stopping.{ServedLast, InOrderUnder, LeadsLast}
+use Rattle.world_core.specs.Stopping.{ServedLast, LeadsLast}
 use Rattle.world_core.proofs.Coupling.{begun}
 use Rattle.world_core.proofs.Opening.{any_server}
 use Rattle.world_core.proofs.Reaping.{link_same}
@@ -41,7 +41,7 @@ pub leads_none : (sees sees_later : Seen → Type 0) (leaves : Store → Type 0)
     → Goes sees sees_later (SetsStop after)
     → ((m : Machine) → IsUnderway before m → FrontOf (begun m) number (front_at m.links number) None later)
     → LeadsLast sees before sees_later leaves later number after []
-leads_none sees sees_later leaves before later number after up stops takes seen t is ordered = by (front_at t.machine.links number) refl (takes t.machine is.underway)
+leads_none sees sees_later leaves before later number after up stops takes seen t is = by (front_at t.machine.links number) refl (takes t.machine is.underway)
   where
     by : (found : Option Front) → front_at t.machine.links number ≡ found → FrontOf (begun t.machine) number found None later → Last sees_later leaves later seen t number after []
     by None there gives =
@@ -66,7 +66,7 @@ pub leads_answered : (sees sees_between sees_later : Seen → Type 0) (leaves : 
     → ((m : Machine) → IsUnderway before m → FrontOf (begun m) number (front_at m.links number) (Some frame) between)
     → ((m : Machine) (front : Front) → link_at m.links number ≡ Some (record front.link { up = front.later }) → IsUnderway between m → IsWritten between m number front frame reply served later)
     → LeadsLast sees before sees_later leaves later number after (served ∷ [])
-leads_answered sees sees_between sees_later leaves before between later number after frame reply served exact up honest stops goes takes writes seen t is ordered = by (front_at t.machine.links number) refl (takes t.machine is.underway)
+leads_answered sees sees_between sees_later leaves before between later number after frame reply served exact up honest stops goes takes writes seen t is = by (front_at t.machine.links number) refl (takes t.machine is.underway)
   where
     by : (found : Option Front) → front_at t.machine.links number ≡ found → FrontOf (begun t.machine) number found (Some frame) between → Last sees_later leaves later seen t number after (served ∷ [])
     by None there gives = no_frame frame (sym gives.0)
@@ -78,8 +78,7 @@ leads_answered sees sees_between sees_later leaves before between later number a
         let gone = goes stopped.0 stopped.1.0 in
         let new = gone.0 in
         let history = honest new gone.1.0 in
-        let under = ordered front there in
-        let order = serves_in_order (with_stop seen (Some after)) t number front is.orderly there under.answered in
+        let order = serves_in_order exact (with_stop seen (Some after)) t number front is.orderly (stop_coupled seen t (Some after) is.coupled) there in
         let did : ServedWith (with_stop seen (Some after)) number t.machine.tick front.first.frame reply new =
         subst (λ old. ServedWith old number t.machine.tick front.first.frame reply new) stopped.1.1
         (subst (λ f. ServedWith stopped.0 number t.machine.tick f reply new) same (subst (λ now. ServedWith stopped.0 number now frame reply new) (sym gives.1.tick) (served_with stopped.0 new number between.tick frame reply leaves gone.1.1))) in
@@ -90,12 +89,12 @@ leads_answered sees sees_between sees_later leaves before between later number a
         let once = subst (λ links. IsUnderway later (record m { links = links; pool = pool_after t.machine.pool number served.item }))
         (with_twice t.machine.links number (record front.link { up = front.later }) (answered_link m.event front served reply)) written.links in
         let stands = subst (λ s. IsUnderway later (record m { links = with_link t.machine.links number (answered_link m.event front s reply); pool = pool_after t.machine.pool number s.item })) is_one once in
-        let read = reads exact did.session number front.link.commits front.first.frame reply (order.answered reply new history did).answers in
+        let read = reads exact did.session number front.link.commits front.first.frame reply (order.answered reply new history did) in
         let link = handled m.event front one in
         let same_handled : answered_link m.event front one reply ≡ link = ap (λ r. answered_link m.event front one r) (sym read.replies) in
         let underway = any_server later (record m { links = with_link t.machine.links number link; pool = pool_after t.machine.pool number one.item }) (server_after t.machine.server one.item)
         (subst (λ (l : Link). IsUnderway later (record m { links = with_link t.machine.links number l; pool = pool_after t.machine.pool number one.item })) same_handled stands) in
-        let last = last_answered seen new t number after front leaves exact is.coupled (up seen is.seen_so) there order under history reply did in
+        let last = last_answered seen new t number after front leaves exact is.coupled (up seen is.seen_so) there order history reply did in
         subst (λ s. Last sees_later leaves later seen t number after (s ∷ [])) (sym is_one) (new, (after_served m number front one, (gone.1.0, (last, underway))))
 
 -- it was stopped
@@ -106,7 +105,7 @@ pub leads_stopped : (sees sees_between sees_later : Seen → Type 0) (leaves : S
     → ((m : Machine) → IsUnderway before m → FrontOf (begun m) number (front_at m.links number) (Some frame) between)
     → ((m : Machine) (front : Front) → link_at m.links number ≡ Some (record front.link { up = front.later }) → IsUnderway between m → IsStopped between m number front frame served later)
     → LeadsLast sees before sees_later leaves later number after (served ∷ [])
-leads_stopped sees sees_between sees_later leaves before between later number after frame served exact up stops goes takes writes seen t is ordered = by (front_at t.machine.links number) refl (takes t.machine is.underway)
+leads_stopped sees sees_between sees_later leaves before between later number after frame served exact up stops goes takes writes seen t is = by (front_at t.machine.links number) refl (takes t.machine is.underway)
   where
     by : (found : Option Front) → front_at t.machine.links number ≡ found → FrontOf (begun t.machine) number found (Some frame) between → Last sees_later leaves later seen t number after (served ∷ [])
     by None there gives = no_frame frame (sym gives.0)
@@ -121,7 +120,7 @@ leads_stopped sees sees_between sees_later leaves before between later number af
         subst (λ old. ServedOne old number t.machine.tick front.first.frame Stopped leaves new) stopped.1.1
         (subst (λ f. ServedOne stopped.0 number t.machine.tick f Stopped leaves new) same (subst (λ now. ServedOne stopped.0 number now frame Stopped leaves new) (sym gives.1.tick) gone.1.1)) in
         let written = writes (taken_off t.machine number front) front (link_same t.machine.links number front.link (record front.link { up = front.later }) at.0) gives.1 in
-        let last = last_stopped seen new t number after front leaves exact is.coupled (up seen is.seen_so) is.ready.quiet there (serves_in_order (with_stop seen (Some after)) t number front is.orderly there (ordered front there).answered) did in
+        let last = last_stopped seen new t number after front leaves exact is.coupled (up seen is.seen_so) is.ready.quiet there (serves_in_order exact (with_stop seen (Some after)) t number front is.orderly (stop_coupled seen t (Some after) is.coupled) there) did in
         let one = crashed_now t.machine front did.session in
         let is_one : served ≡ one = served_is served m.event did.session one.item written.event (written.session ∙ last.0) (written.item ∙ ap crashed_item same) in
         let once = subst (λ links. IsUnderway later (record m { links = links })) (with_twice t.machine.links number (record front.link { up = front.later }) (after_front front served None)) written.links in
@@ -134,6 +133,3 @@ leads_stopped sees sees_between sees_later leaves before between later number af
 -- what the call of the service asks for is known of it
 pub set_coupled : (seen set : Seen) (t : Traced) (after : ℕ) → set ≡ with_stop seen (Some after) → Coupled seen t → Coupled set t
 set_coupled seen set t after is coupled = subst (λ s. Coupled s t) (sym is) (stop_coupled seen t (Some after) coupled)
-
-pub set_in_order : (seen set : Seen) (t : Traced) (number after : ℕ) → set ≡ with_stop seen (Some after) → InOrderUnder number after seen t → InOrder set t number
-set_in_order seen set t number after is ordered = subst (λ s. InOrder s t number) (sym is) (λ front there. (ordered front there).answered)

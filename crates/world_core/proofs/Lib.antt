@@ -1,3 +1,10 @@
+mod Added
+mod Answered
+mod Blocking
+mod InLife
+mod InOrder
+mod Living
+mod Sessions
 mod Stepped
 mod Placing
 mod Silence

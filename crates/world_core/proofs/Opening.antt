@@ -1,5 +1,6 @@
 -- The store is opened, or the server is up already.
-use Rattle.std.proofs.Common.{◌≡◌, ◌≤◌, ℕ, ◌+◌, Bool, true, false, [], Some, None, refl, sym, ◌∙◌, arith}
+use Rattle.std.proofs.Common.{◌≡◌, ◌<◌, ◌≤◌, ℕ, ◌+◌, Bool, true, false, [], Some, None, refl, sym, ap, ◌∙◌, arith, inl, inr}
+use Rattle.svc_values.specs.declared.entry.SessionId.{SessionId}
 use Rattle.std.proofs.lemmas.List.{append-nil}
 use Rattle.std.proofs.lemmas.Bool.{le-leb}
 use Rattle.outage_schedule.specs.declared.event.Event.TheVariants as event
@@ -11,13 +12,14 @@ use Rattle.world_model.specs.Machines.{Server, Machine}
 use Rattle.world_model.specs.Traced.{Traced}
 use Rattle.world_model.specs.Opening.{may_open, opened}
 use Rattle.world_model.specs.Walking.{follow}
-use Rattle.world_model.specs.Coupled.{SameServer, Coupled}
+use Rattle.world_model.specs.Coupled.{living_of, life_by, life_of, IsLater, SameServer, Coupled}
 use Rattle.world_model.specs.KeptLaws.{OrderlyIsKept}
 use Rattle.world_model.specs.OneEvent.{OneEvent}
 use Rattle.world_core.specs.declared.traffic.Traffic.{Traffic}
 use Rattle.world_core.specs.Underway.{IsUnderway}
 use Rattle.world_core.specs.Making.{Makes}
 use Rattle.world_core.proofs.Readiness.{opened_ready}
+use Rattle.world_core.proofs.Living.{same_lived}
 use Rattle.world_core.proofs.Coupling.{moved, begun, one_alone, made, made_alone, none_came, none_asked}
 
 -- what is underway knows nothing of the server
@@ -51,17 +53,26 @@ server_opened server old new horizon incarnation same did told = record {
 abbrev opened_machine : Machine → ℕ → Machine
 opened_machine m incarnation = record (begun m) { server = opened m.server incarnation }
 
-opened_coupled : (old new : Seen) (t : Traced) (horizon incarnation : ℕ) → Coupled old t → IsHistory new → Opened old horizon new → incarnation ≡ new.state.store.incarnation → Coupled new (moved t (opened_machine t.machine incarnation))
-opened_coupled old new t horizon incarnation coupled history did told = record {
+-- a session that is made later was made later before
+later_opened : (server : Server) (incarnation : ℕ) (session : SessionId) → server.incarnation < incarnation → IsLater (opened server incarnation) session → server.incarnation < session.incarnation
+later_opened server incarnation session above (inl later) = omega (arith, above, later)
+later_opened server incarnation session above (inr (up, (same, later))) = omega (arith, above, same)
+
+opened_coupled : (old new : Seen) (t : Traced) (horizon incarnation : ℕ) → Coupled old t → IsHistory new → Opened old horizon new → incarnation ≡ new.state.store.incarnation → t.machine.server.incarnation < incarnation
+    → Coupled new (moved t (opened_machine t.machine incarnation))
+opened_coupled old new t horizon incarnation coupled history did told above = record {
   history = history;
   sound = rw did.keeps.start coupled.sound;
   stops = rw did.keeps.history coupled.stops;
   server = server_opened t.machine.server old new horizon incarnation coupled.server did told;
   living = λ number. did.keeps.living number ∙ coupled.living number;
   stored = λ number link there. rw did.lists.entries (coupled.stored number link there);
+  lives = λ number link there. same_lived old.history new.history (living_of (Some link)) (life_of link.served) did.keeps.history (coupled.lives number link there);
+  later = λ session is. ap (λ h. life_by h session) did.keeps.history ∙ coupled.later session (inl (later_opened t.machine.server incarnation session above is));
   entries = coupled.entries ∙ sym did.lists.entries;
   blocked = coupled.blocked ∙ sym did.lists.blocked;
   image = rw did.keeps.start coupled.image;
+  blocks = coupled.blocks;
 }
 
 -- it was opened
@@ -84,7 +95,7 @@ ups_some kept sees sees_later before after horizon incarnation down honest told 
     let may = may_open_next t.machine.server seen.state.store.incarnation incarnation near.0 near.1 next in
     let m = opened_machine t.machine incarnation in
     let follows : follow t.setting t.machine event.Up (note.Up (Some incarnation)) [] ≡ Some (m, []) = rw (server_down, may) refl in
-    let coupled : Coupled new (moved t m) = opened_coupled seen new t horizon incarnation is.coupled (honest new gone.1.0) did is_now in
+    let coupled : Coupled new (moved t m) = opened_coupled seen new t horizon incarnation is.coupled (honest new gone.1.0) did is_now (let low = near.0 in omega (arith, low, next)) in
     let one : OneEvent seen t event.Up (note.Up (Some incarnation)) [] [] new (moved t m) = record {
       follows = follows;
       happened = [];

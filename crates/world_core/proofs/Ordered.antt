@@ -1,5 +1,5 @@
 -- Where a frame may be served, what is orderly says on which session.
-use Rattle.std.proofs.Common.{◌≡◌, ℕ, suc, ◌==◌, Bool, true, false, List, [], ◌∷◌, ◌++◌, Option, Some, None, map, length, refl, sym, subst, arith}
+use Rattle.std.proofs.Common.{◌≡◌, ℕ, suc, ◌==◌, Bool, true, false, List, [], ◌∷◌, ◌++◌, Option, Some, None, map, length, refl, sym, ap, ◌∙◌, subst, arith}
 use Rattle.std.specs.Prelude.{◌&&◌, ◌||◌, not, fold, is_some, is_none, IsTrue}
 use Rattle.std.specs.List.{list_all}
 use Rattle.std.specs.Option.{option_map_or}
@@ -9,8 +9,12 @@ use Rattle.svc_values.specs.declared.frame.Up.{Up}
 use Rattle.svc_values.specs.declared.frame.Up.TheVariants as up
 use Rattle.svc_values.specs.Identifiers.{same_session, session_of}
 use Rattle.svc_values.specs.Same.{same_bool}
-use Rattle.server_model.specs.Seen.{Seen}
+use Rattle.svc_values.specs.declared.frame.Down.{Down}
+use Rattle.svc_values.specs.Laws.{AreExact}
+use Rattle.server_model.specs.Seen.{Seen, IsHistory}
+use Rattle.server_model.specs.ToldRight.{must_refuse}
 use Rattle.world_model.specs.Basic.{is_down, is_named, first_is_connect, living_now, sessions_differ, are_made}
+use Rattle.world_model.specs.Coupled.{life_by, life_of, Coupled}
 use Rattle.world_model.specs.Frames.{Owner, Sent, Handled}
 use Rattle.world_model.specs.Hold.{is_connect}
 use Rattle.world_model.specs.Invariant.{Orderly}
@@ -21,9 +25,15 @@ use Rattle.world_model.specs.Serving.{Front, front_at}
 use Rattle.world_model.specs.Traced.{Traced}
 use Rattle.world_model.specs.Wire.{up_of, nothing_cut, is_sent_front, Stage, New, Wrong, next_stage, stage_of, is_right}
 use Rattle.world_model.proofs.Offered.{connect_first}
-use Rattle.world_core.specs.InOrder.{AnswersInOrder}
+use Rattle.world_core.proofs.Answered.{answers_so, lived_so}
+use Rattle.world_core.proofs.InLife.{in_order_there}
+use Rattle.world_core.proofs.InOrder.{ServedWith, AnswersInOrder}
 use Rattle.world_core.proofs.Fronts.{front_there, front_first}
 use Rattle.world_core.proofs.Storing.{both, all_there}
+
+abbrev pub LivedInOrder : Seen → Traced → ℕ → Front → Type 0
+LivedInOrder seen t number front =
+    (reply : Option Down) (new : Seen) → IsHistory new → (served : ServedWith seen number t.machine.tick front.first.frame reply new) → life_by seen.history served.session ≡ life_of front.link.served
 
 -- Where a frame may be served on the connection of this number, the server is up, the sessions that live are of its incarnation and no
 -- two are one, the frame is Connect exactly where its session has no name yet, and it is answered in order.
@@ -34,6 +44,8 @@ pub record ServesInOrder (seen : Seen) (t : Traced) (number : ℕ) (front : Fron
   pub made : IsTrue (are_made t)
   pub is_first : is_none front.link.session ≡ is_connect front.first.frame
   pub answered : AnswersInOrder seen t number front
+  -- its session is where the frames of its connection led it
+  pub lived : LivedInOrder seen t number front
 
 clash : (b : Bool) → b ≡ true → b ≡ false → ⊥
 clash true is not_it = let nothing : ⊥ = cc in nothing
@@ -115,9 +127,17 @@ named_first None connects (first ∷ others) named none one other = let many : s
 named_first (Some session) false served named none one other = refl
 named_first (Some session) true served named none one other = absurd (nothing_first served (one refl) named)
 
--- what is orderly gives all but the answer
-pub serves_in_order : (seen : Seen) (t : Traced) (number : ℕ) (front : Front) → Orderly t → front_at t.machine.links number ≡ Some front → AnswersInOrder seen t number front → ServesInOrder seen t number front
-serves_in_order seen t number front orderly there answered =
+-- nothing was served before its session had its name
+none_before : (link : Link) → implies (is_none link.session) (length link.served == 0) ≡ true → link.session ≡ None → link.served ≡ []
+none_before link named unnamed = empty link.served (sym (ap (λ (known : Option SessionId). implies (is_none known) (length link.served == 0)) unnamed) ∙ named)
+  where
+    empty : (served : List Handled) → (length served == 0) ≡ true → served ≡ []
+    empty [] none = refl
+    empty (first ∷ others) none = let many : suc (length others) ≡ 0 = eqb-true (suc (length others)) 0 none in absurd (let nothing : ⊥ = omega (arith, many) in nothing)
+
+-- what is orderly gives all of it
+pub serves_in_order : AreExact → (seen : Seen) (t : Traced) (number : ℕ) (front : Front) → Orderly t → Coupled seen t → front_at t.machine.links number ≡ Some front → ServesInOrder seen t number front
+serves_in_order exact seen t number front orderly coupled there =
     let at = front_there t.machine.links number front there in
     let link = front.link in
     let ups : link.up ≡ front.first ∷ front.later = front_first t.machine.links number front there in
@@ -125,11 +145,14 @@ serves_in_order seen t number front orderly there answered =
     let right : is_right (stage_of link) ≡ true = all_there (λ one. is_right (stage_of one)) t.machine.links number link orderly.wire.grammar at.0 in
     let named = named_parts link (all_there is_named t.machine.links number link orderly.basic.named at.0) in
     let sent = (both (is_front same_sent (up_of link) link.sent) (implies (nothing_cut link) (length (up_of link) == length link.sent)) wired).0 in
+    let is_up = up_there t number link orderly.basic.down at.0 at.1 in
+    let order : must_refuse (life_of link.served) front.first.frame ≡ false = in_order_there exact link.served link.up link.sent front.first front.later sent right ups in
     record {
-      is_up = up_there t number link orderly.basic.down at.0 at.1;
+      is_up = is_up;
       now = orderly.basic.now;
       apart = orderly.basic.apart;
       made = orderly.basic.made;
       is_first = named_first link.session (is_connect front.first.frame) link.served named.0 named.1 (λ connects. connect_first link front.first front.later wired right ups connects) (sent_first link.served link.up link.sent front.first front.later sent right ups);
-      answered = answered;
+      answered = λ reply new history did. answers_so exact seen new t number front reply coupled there is_up orderly.basic.now orderly.number.known order (none_before link named.1) history did;
+      lived = λ reply new history did. lived_so exact seen new t number front reply coupled there is_up orderly.basic.now orderly.number.known order (none_before link named.1) history did;
     }

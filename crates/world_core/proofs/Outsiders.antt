@@ -1,6 +1,7 @@
 -- Calls run from outside, in a session of their own.
-use Rattle.std.proofs.Common.{◌≡◌, ◌≤◌, ℕ, ◌+◌, true, false, List, [], ◌∷◌, ◌++◌, Option, Some, None, refl, sym, ap, ◌∙◌, subst, arith, append_assoc}
+use Rattle.std.proofs.Common.{◌≡◌, ◌≤◌, ℕ, ◌+◌, true, false, List, [], ◌∷◌, ◌++◌, Option, Some, None, refl, sym, ap, ◌∙◌, subst, arith, append_assoc, inl, inr}
 use Rattle.std.specs.Prelude.{All}
+use Rattle.std.proofs.lemmas.List.{append-nil}
 use Rattle.std.proofs.lemmas.List.Elements.{All-nil, All-cons, All-head, All-tail, Contains-append_right}
 use Rattle.svc_values.specs.declared.answer.Answer.{Answer}
 use Rattle.svc_values.specs.declared.call.Call.{Call}
@@ -18,6 +19,7 @@ use Rattle.outage_schedule.specs.declared.note.OutsideNote.{OutsideNote}
 use Rattle.server_model.specs.Laws.{stops_last}
 use Rattle.server_model.specs.Outcomes.{Silent, Says}
 use Rattle.server_model.specs.Runs.{Happened, Served}
+use Rattle.server_model.specs.Sessions.{New}
 use Rattle.server_model.specs.Seen.{Seen, IsHistory}
 use Rattle.server_model.specs.ServiceCalls.{CameFrom, WasAsked, IsOf, RunsAre, begins_outside, RanOutside, next_session as next_at_service}
 use Rattle.service_calls.specs.Answers.{runs_of}
@@ -25,7 +27,7 @@ use Rattle.service_calls.specs.Kept.{Goes}
 use Rattle.world_model.specs.KeptLaws.{OrderlyIsKept}
 use Rattle.world_model.specs.OneEvent.{OneEvent, drawn_outside}
 use Rattle.world_model.specs.Basic.{are_made}
-use Rattle.world_model.specs.Coupled.{living_of, HasStored, entries_in, SameServer, Coupled}
+use Rattle.world_model.specs.Coupled.{living_of, HasStored, life_by, life_of, HasLived, IsLater, entries_in, SameServer, Coupled}
 use Rattle.world_model.specs.Links.{Link, link_at}
 use Rattle.world_model.specs.Machines.{Server, Machine, next_session}
 use Rattle.world_model.specs.Serving.{identifier}
@@ -35,6 +37,8 @@ use Rattle.world_core.specs.declared.traffic.Traffic.{Traffic}
 use Rattle.world_core.specs.Underway.{IsUnderway}
 use Rattle.world_core.specs.Making.{Makes}
 use Rattle.world_core.proofs.Readiness.{stays_ready, up_not_down}
+use Rattle.world_core.proofs.Blocking.{AsksNone, none_blocked, known_blocks, known_same}
+use Rattle.world_core.proofs.Living.{all_apart, life_apart, still_lived}
 use Rattle.world_core.proofs.Coupling.{begun, one_alone, made, made_alone}
 use Rattle.world_core.proofs.Opening.{any_server}
 use Rattle.world_core.proofs.Stops.{AreFrom, stops_behind}
@@ -50,27 +54,38 @@ outsides_none kept sees before after calls down goes seen t is =
 
 -- WHAT RAN ----------------------------------------------------------------------------------------
 
--- frames of one session, none of them stopped
+-- frames of one session, none of them stopped, and none a question
 record Ran (session : SessionId) (more : List Happened) : Type 0 where
   lasts : stops_last more ≡ true
   from : AreFrom session.incarnation more
   of : All (IsOf session) more
+  asks : All AsksNone more
 
 same_itself : (n : ℕ) → n ≤ n
 same_itself n = omega arith
 
 ran_none : (session : SessionId) → Ran session []
-ran_none session = record { lasts = refl; from = tt; of = All-nil (IsOf session) }
+ran_none session = record { lasts = refl; from = tt; of = All-nil (IsOf session); asks = All-nil AsksNone }
 
 runs_are : (session : SessionId) (now : ℕ) (calls : List Call) (runs : List (List Answer × List Draw)) (more : List Happened) → RunsAre session now calls runs more → Ran session more
 runs_are session now [] [] more are = subst (Ran session) (sym are) (ran_none session)
 runs_are session now [] (run ∷ runs) more are = absurd are
 runs_are session now (called ∷ calls) [] more are =
-    subst (Ran session) (sym are) (record { lasts = refl; from = (same_itself session.incarnation, tt); of = All-cons (IsOf session) (Served session now (up.Call false [] called) (Says down.Blocked)) [] refl (All-nil (IsOf session)) })
+    subst (Ran session) (sym are) (record {
+      lasts = refl;
+      from = (same_itself session.incarnation, tt);
+      of = All-cons (IsOf session) (Served session now (up.Call false [] called) (Says down.Blocked)) [] refl (All-nil (IsOf session));
+      asks = All-cons AsksNone (Served session now (up.Call false [] called) (Says down.Blocked)) [] (λ x asks. asks) (All-nil AsksNone);
+    })
 runs_are session now (called ∷ calls) (run ∷ runs) more are =
     let rest = runs_are session now calls runs are.1 are.2.1 in
     subst (Ran session) (sym are.2.0)
-    (record { lasts = rest.lasts; from = (same_itself session.incarnation, rest.from); of = All-cons (IsOf session) (Served session now (up.Call false [] called) (Says (down.Reply run.0 run.1 are.0))) are.1 refl rest.of })
+    (record {
+      lasts = rest.lasts;
+      from = (same_itself session.incarnation, rest.from);
+      of = All-cons (IsOf session) (Served session now (up.Call false [] called) (Says (down.Reply run.0 run.1 are.0))) are.1 refl rest.of;
+      asks = All-cons AsksNone (Served session now (up.Call false [] called) (Says (down.Reply run.0 run.1 are.0))) are.1 (λ x asks. asks) rest.asks;
+    })
 
 -- with Connect and Begin before them
 ran_outside : (session : SessionId) (now : ℕ) (more : List Happened) → Ran session more → Ran session (begins_outside session now ++ more)
@@ -78,6 +93,7 @@ ran_outside session now more ran = record {
   lasts = ran.lasts;
   from = (same_itself session.incarnation, (same_itself session.incarnation, ran.from));
   of = All-cons (IsOf session) (Served session now up.Connect (Says (down.Hello (ltxid_of session 0)))) (Served session now (up.Begin []) Silent ∷ more) refl (All-cons (IsOf session) (Served session now (up.Begin []) Silent) more refl ran.of);
+  asks = All-cons AsksNone (Served session now up.Connect (Says (down.Hello (ltxid_of session 0)))) (Served session now (up.Begin []) Silent ∷ more) (λ x asks. asks) (All-cons AsksNone (Served session now (up.Begin []) Silent) more (λ x asks. asks) ran.asks);
 }
 
 -- what came from these came from all of it
@@ -120,6 +136,15 @@ server_behind server old new calls now x runs same up did =
       closed = λ down. absurd (let clash : true ≡ false = sym did.others.1 ∙ down in let nothing : ⊥ = cc in nothing);
     }
 
+-- one that is made later is not the next one, and was made later before
+not_next : (server : Server) (session : SessionId) → IsLater (outside_server server) session → session ≡ next_session server → ⊥
+not_next server session (inl later) same = let one : session.incarnation ≡ server.incarnation = ap (λ (s : SessionId). s.incarnation) same in omega (arith, later, one)
+not_next server session (inr (up, (of, later))) same = let one : session.session ≡ server.sessions + 1 = ap (λ (s : SessionId). s.session) same in omega (arith, later, one)
+
+later_outside : (server : Server) (session : SessionId) → IsLater (outside_server server) session → IsLater server session
+later_outside server session (inl later) = inl later
+later_outside server session (inr (up, (of, later))) = inr (up, (of, omega (arith, later)))
+
 still_stored : (old new : List Entry) (living : Option (Option SessionId)) (commits : ℕ) → ((session : SessionId) → living ≡ Some (Some session) → entries_in new session ≡ entries_in old session) → HasStored old living commits → HasStored new living commits
 still_stored old new None commits same has = tt
 still_stored old new (Some None) commits same has = has
@@ -147,8 +172,15 @@ module _ (old new : Seen) (t : Traced) (calls : List Call) (ran : OutsideNote) (
   same : session ≡ next_session t.machine.server
   same = same_next t.machine.server old coupled.server up
 
+  called : Ran session did.more
+  called = runs_are session t.machine.tick calls (runs_of ran) did.more did.ran
+
   whole : Ran session happened
-  whole = ran_outside session t.machine.tick did.more (runs_are session t.machine.tick calls (runs_of ran) did.more did.ran)
+  whole = ran_outside session t.machine.tick did.more called
+
+  -- nothing is blocked
+  unblocked : new.state.store.blocked ≡ old.state.store.blocked
+  unblocked = did.gains.blocked ∙ ap (λ more. old.state.store.blocked ++ more) (none_blocked did.more did.gains.more_blocked called.asks did.gains.asked) ∙ append-nil old.state.store.blocked
 
   added : new.history ≡ old.history ++ happened
   added = did.history ∙ append_assoc old.history (begins_outside session t.machine.tick) did.more
@@ -162,6 +194,20 @@ module _ (old new : Seen) (t : Traced) (calls : List Call) (ran : OutsideNote) (
       (λ is. next_apart t are number link there (living ∙ ap (λ s. Some (Some s)) (is ∙ same))))
       (coupled.stored number link there)
 
+  lives : (number : ℕ) (link : Link) → link_at t.machine.links number ≡ Some link → HasLived new.history (living_of (Some link)) (life_of link.served)
+  lives number link there =
+      still_lived old.history new.history (living_of (Some link)) (life_of link.served)
+      (λ other living.
+      ap (λ h. life_by h other) added
+      ∙ life_apart exact old.history happened other (all_apart session other happened whole.of (λ is. next_apart t are number link there (living ∙ ap (λ s. Some (Some s)) (sym is ∙ same)))))
+      (coupled.lives number link there)
+
+  later : (other : SessionId) → IsLater (outside_server t.machine.server) other → life_by new.history other ≡ New
+  later other is =
+      ap (λ h. life_by h other) added
+      ∙ life_apart exact old.history happened other (all_apart session other happened whole.of (λ one. not_next t.machine.server other is (sym one ∙ same)))
+      ∙ coupled.later other (later_outside t.machine.server other is)
+
   pub outside_coupled : (draws : List Draw) → Coupled new (traced_behind t new draws)
   outside_coupled draws = record {
     history = history;
@@ -170,9 +216,12 @@ module _ (old new : Seen) (t : Traced) (calls : List Call) (ran : OutsideNote) (
     server = server_behind t.machine.server old new calls t.machine.tick ran.ltxid (runs_of ran) coupled.server up did;
     living = λ number. did.others.0 number ∙ coupled.living number;
     stored = stored;
+    lives = lives;
+    later = later;
     entries = refl;
     blocked = refl;
     image = rw did.keeps.start coupled.image;
+    blocks = known_same t.machine.server old.state.store.blocked new.state.store.blocked unblocked (known_blocks old t coupled);
   }
 
   follows : follow t.setting t.machine (event.Outside calls) (note.Outside (Some ran)) [] ≡ Some (outside_machine t.machine, [])

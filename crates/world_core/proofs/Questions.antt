@@ -4,9 +4,9 @@ use Rattle.std.specs.Prelude.{◌⊎◌, All}
 use Rattle.std.proofs.lemmas.List.{append-nil}
 use Rattle.std.proofs.lemmas.List.Elements.{All-cons, Contains-push}
 use Rattle.svc_values.specs.declared.entry.Ltxid.{Ltxid}
+use Rattle.svc_values.specs.declared.entry.SessionId.{SessionId}
 use Rattle.svc_values.specs.Laws.{AreExact}
 use Rattle.ltxid_book.specs.declared.verdict.Verdict.{Verdict}
-use Rattle.ltxid_book.specs.declared.verdict.Verdict.TheVariants as verdict
 use Rattle.outage_schedule.specs.declared.event.Event.TheVariants as event
 use Rattle.outage_schedule.specs.declared.note.Note.TheVariants as note
 use Rattle.outage_schedule.specs.declared.note.AskResult.{AskResult}
@@ -19,10 +19,9 @@ use Rattle.server_model.specs.ServiceCalls.{WasAsked, AskedOne}
 use Rattle.service_calls.specs.Kept.{Goes}
 use Rattle.world_model.specs.Machines.{Server, Machine}
 use Rattle.world_model.specs.Outside.{after_asked}
-use Rattle.world_model.specs.Serving.{outcome_frame}
 use Rattle.world_model.specs.Traced.{Traced}
 use Rattle.world_model.specs.Walking.{follow}
-use Rattle.world_model.specs.Coupled.{SameServer, Coupled}
+use Rattle.world_model.specs.Coupled.{living_of, life_by, life_of, IsLater, SameServer, Coupled}
 use Rattle.world_model.specs.KeptLaws.{OrderlyIsKept}
 use Rattle.world_model.specs.OneEvent.{OneEvent}
 use Rattle.world_core.specs.declared.traffic.Traffic.{Traffic}
@@ -30,6 +29,9 @@ use Rattle.world_core.specs.Answering.{result_of}
 use Rattle.world_core.specs.Underway.{IsUnderway}
 use Rattle.world_core.specs.Making.{Makes}
 use Rattle.world_core.proofs.Readiness.{stays_ready, up_not_down}
+use Rattle.world_core.proofs.Added.{same_frame}
+use Rattle.world_core.proofs.Blocking.{known_blocks, known_asked}
+use Rattle.world_core.proofs.Living.{life_asked, still_lived}
 use Rattle.world_core.proofs.Coupling.{begun, one_alone, made, made_alone, none_came, none_asked}
 use Rattle.world_core.proofs.Opening.{any_server}
 use Rattle.world_core.proofs.Stops.{stops_behind}
@@ -41,15 +43,6 @@ asks_none kept sees before after x exact down goes seen t is =
     let server_down : t.machine.server.is_up ≡ false = is.coupled.server.is_up ∙ down seen is.seen_so in
     let follows : follow t.setting t.machine (event.Ask x) (note.Ask x None) [] ≡ Some (begun t.machine, []) = rw ((exact.identifiers x x).1 refl, server_down) refl in
     made_alone kept sees before after (event.Ask x) (note.Ask x None) seen t (begun t.machine) is (one_alone seen t (event.Ask x) (note.Ask x None) (begun t.machine) is.coupled follows refl refl refl refl refl) (goes t.machine is.underway)
-
--- the frame that tells a verdict
-same_frame : (told : Verdict) → outcome_frame (result_of told) ≡ down_of told
-same_frame (verdict.Committed completed) = refl
-same_frame verdict.BlockIt = refl
-same_frame verdict.AlreadyBlocked = refl
-same_frame (verdict.ServerAhead next) = refl
-same_frame (verdict.ClientAhead next) = refl
-same_frame (verdict.Forgotten horizon) = refl
 
 blocked_one : (server : Server) (x : Ltxid) (seen : Seen) → SameServer server seen → SameServer (record server { blocked = x ∷ server.blocked }) seen
 blocked_one server x seen same = record { is_up = same.is_up; per_record = same.per_record; opened = same.opened; closed = same.closed }
@@ -87,18 +80,30 @@ asked_machine m x result = record (begun m) { server = after_asked m.server x re
 abbrev traced_behind : Traced → Machine → Seen → Traced
 traced_behind t m new = record t { machine = m; entries = new.state.store.entries; blocked = new.state.store.blocked }
 
-asked_coupled : (old new : Seen) (t : Traced) (x : Ltxid) (told : Verdict) → Coupled old t → old.state.is_up ≡ true → IsHistory new → AskedOne old x told new
+-- what is made later still is
+later_asked : (server : Server) (x : Ltxid) (told : AskResult) (session : SessionId) → IsLater (after_asked server x told) session → IsLater server session
+later_asked server x (result.Committed completed) session is = is
+later_asked server x result.Uncommitted session is = is
+later_asked server x (result.ServerAhead next) session is = is
+later_asked server x (result.ClientAhead next) session is = is
+later_asked server x (result.Forgotten horizon) session is = is
+
+asked_coupled : AreExact → (old new : Seen) (t : Traced) (x : Ltxid) (told : Verdict) → Coupled old t → old.state.is_up ≡ true → IsHistory new → AskedOne old x told new
     → Coupled new (traced_behind t (asked_machine t.machine x (result_of told)) new)
-asked_coupled old new t x told coupled up history did = record {
+asked_coupled exact old new t x told coupled up history did = record {
   history = history;
   sound = rw did.keeps.start coupled.sound;
   stops = ap stops_last did.history ∙ stops_behind old (Asked x (Says (down_of told)) ∷ []) coupled.sound coupled.history up coupled.stops refl tt;
   server = server_asked t.machine.server x (result_of told) new (server_behind t.machine.server old new x told coupled.server up did);
   living = λ number. did.others.0 number ∙ coupled.living number;
   stored = λ number link there. rw did.adds.entries.0 (coupled.stored number link there);
+  lives = λ number link there.
+      still_lived old.history new.history (living_of (Some link)) (life_of link.served) (λ session living. ap (λ h. life_by h session) did.history ∙ life_asked old.history x (Says (down_of told)) session) (coupled.lives number link there);
+  later = λ session is. ap (λ h. life_by h session) did.history ∙ life_asked old.history x (Says (down_of told)) session ∙ coupled.later session (later_asked t.machine.server x (result_of told) session is);
   entries = refl;
   blocked = refl;
   image = rw did.keeps.start coupled.image;
+  blocks = known_asked exact x told t.machine.server old.state.store new.state.store did.adds did.blocks (known_blocks old t coupled);
 }
 
 pub asks_some : OrderlyIsKept → (sees sees_later : Seen → Type 0) (before after : Traffic) (x : Ltxid) (told : Verdict) → AreExact
@@ -115,7 +120,7 @@ asks_some kept sees sees_later before after x told exact up honest goes leads se
     let server_up : t.machine.server.is_up ≡ true = is.coupled.server.is_up ∙ is_up in
     let m = asked_machine t.machine x (result_of told) in
     let follows : follow t.setting t.machine (event.Ask x) (note.Ask x (Some (result_of told))) [] ≡ Some (m, []) = rw ((exact.identifiers x x).1 refl, server_up) refl in
-    let coupled : Coupled new (traced_behind t m new) = asked_coupled seen new t x told is.coupled is_up (honest new gone.1.0) did in
+    let coupled : Coupled new (traced_behind t m new) = asked_coupled exact seen new t x told is.coupled is_up (honest new gone.1.0) did in
     let more = block_added seen.state.store.blocked new.state.store.blocked x (Says (down_of told)) did.adds.blocked in
     let one : OneEvent seen t (event.Ask x) (note.Ask x (Some (result_of told))) [] [] new (traced_behind t m new) = record {
       follows = follows;

@@ -16,14 +16,16 @@ use Rattle.world_model.specs.Traced.{Traced}
 use Rattle.world_model.specs.Noting.{only_if}
 use Rattle.world_model.specs.Cutting.{has_orphan, reaped_link, follow_reap}
 use Rattle.world_model.specs.Walking.{follow}
-use Rattle.world_model.specs.Coupled.{living_of, HasStored, SameServer, Coupled}
+use Rattle.world_model.specs.Coupled.{living_of, HasStored, life_by, life_of, HasLived, IsLater, SameServer, Coupled}
 use Rattle.world_model.specs.KeptLaws.{OrderlyIsKept}
 use Rattle.world_model.specs.OneEvent.{OneEvent}
 use Rattle.world_core.specs.declared.traffic.Traffic.{Traffic}
 use Rattle.world_core.specs.Underway.{IsUnderway, Leads}
 use Rattle.world_core.specs.Making.{Makes}
+use Rattle.world_core.specs.Stopping.{AreKnown}
 use Rattle.world_core.proofs.Places.{slice_same, slice_other}
 use Rattle.world_core.proofs.Readiness.{store_ready}
+use Rattle.world_core.proofs.Living.{same_lived}
 use Rattle.world_core.proofs.Coupling.{moved, begun, one_alone, made, made_alone, none_came, none_asked}
 
 -- ONE OF MANY -------------------------------------------------------------------------------------
@@ -54,17 +56,21 @@ same_server server old new same keeps store = record {
 pub kept_coupled : (old new : Seen) (t : Traced) (m : Machine) → Coupled old t → IsHistory new → Keeps old new → KeepsStore old new → m.server ≡ t.machine.server
     → ((number : ℕ) → new.state.living number ≡ living_of (link_at m.links number))
     → ((number : ℕ) (link : Link) → link_at m.links number ≡ Some link → HasStored old.state.store.entries (living_of (Some link)) link.commits)
+    → ((number : ℕ) (link : Link) → link_at m.links number ≡ Some link → HasLived old.history (living_of (Some link)) (life_of link.served))
     → Coupled new (moved t m)
-kept_coupled old new t m coupled history keeps store server living stored = record {
+kept_coupled old new t m coupled history keeps store server living stored lives = record {
   history = history;
   sound = rw keeps.start coupled.sound;
   stops = rw store.history coupled.stops;
   server = rw server (same_server t.machine.server old new coupled.server keeps store);
   living = living;
   stored = λ number link there. rw store.store (stored number link there);
+  lives = λ number link there. same_lived old.history new.history (living_of (Some link)) (life_of link.served) store.history (lives number link there);
+  later = λ session is. ap (λ h. life_by h session) store.history ∙ coupled.later session (subst (λ s. IsLater s session) server is);
   entries = coupled.entries ∙ ap (λ s. s.entries) (sym store.store);
   blocked = coupled.blocked ∙ ap (λ s. s.blocked) (sym store.store);
   image = rw keeps.start coupled.image;
+  blocks = subst (λ s. AreKnown s t.blocked) (sym server) coupled.blocks;
 }
 
 -- REAPING -----------------------------------------------------------------------------------------
@@ -121,6 +127,16 @@ stored_apart old t number other link one coupled there found = by (eqb_tells oth
         subst (λ l. HasStored old.state.store.entries (living_of (Some l)) l.commits) is tt
     by (inr (told, apart)) = coupled.stored other one (sym (link_other t.machine.links number other (reaped_link link) apart) ∙ found)
 
+lives_apart : (old : Seen) (t : Traced) (number other : ℕ) (link one : Link) → Coupled old t → link_at t.machine.links number ≡ Some link → link_at (with_link t.machine.links number (reaped_link link)) other ≡ Some one
+    → HasLived old.history (living_of (Some one)) (life_of one.served)
+lives_apart old t number other link one coupled there found = by (eqb_tells other number)
+  where
+    by : (((other == number) ≡ true) × (other ≡ number)) ⊎ (((other == number) ≡ false) × (other ≡ number → ⊥)) → HasLived old.history (living_of (Some one)) (life_of one.served)
+    by (inl (told, same)) =
+        let is : reaped_link link ≡ one = some_same (reaped_link link) one (sym (link_same t.machine.links number link (reaped_link link) there) ∙ ap (λ n. link_at (with_link t.machine.links number (reaped_link link)) n) (sym same) ∙ found) in
+        subst (λ l. HasLived old.history (living_of (Some l)) (life_of l.served)) is tt
+    by (inr (told, apart)) = coupled.lives other one (sym (link_other t.machine.links number other (reaped_link link) apart) ∙ found)
+
 abbrev reaped_machine : Machine → ℕ → Link → Machine
 reaped_machine m number link = record (begun m) { links = with_link m.links number (reaped_link link) }
 
@@ -140,7 +156,8 @@ reaps_one kept sees sees_later before after number honest goes leads seen t is =
     let reaped : Reaped seen number new = gone.1.1 in
     let coupled : Coupled new (moved t m) = kept_coupled seen new t m is.coupled (honest new gone.1.0) reaped.keeps reaped.keeps_store refl
     (λ other. living_apart seen new t number other found.0 is.coupled reaped found.1)
-    (λ other one at. stored_apart seen t number other found.0 one is.coupled found.1 at) in
+    (λ other one at. stored_apart seen t number other found.0 one is.coupled found.1 at)
+    (λ other one at. lives_apart seen t number other found.0 one is.coupled found.1 at) in
     let event_made : OneEvent seen t (event.Reap number) (note.Reap number true) [] [] new (moved t m) = record {
       follows = there.1;
       happened = [];

@@ -1,6 +1,6 @@
 -- A frame that is served in order: what the calls ask for and give.
 use Rattle.std.proofs.Common.{◌≡◌, ℕ, ◌+◌, true, false, List, [], ◌∷◌, Option, Some, None, refl, sym, ap, ◌∙◌, subst, eq-eqb}
-use Rattle.std.specs.Prelude.{IfSome, if◌then◌else◌}
+use Rattle.std.specs.Prelude.{if◌then◌else◌}
 use Rattle.svc_values.specs.declared.entry.SessionId.{SessionId}
 use Rattle.svc_values.specs.declared.frame.Up.{Up}
 use Rattle.svc_values.specs.declared.frame.Down.{Down}
@@ -8,7 +8,6 @@ use Rattle.svc_values.specs.Laws.{AreExact}
 use Rattle.std.specs.List.{AllByRecursion}
 use Rattle.svc_values.specs.Calls.{sequences_in}
 use Rattle.canon_bytes.specs.UpBytes.{IsMadeUp}
-use Rattle.canon_bytes.specs.DownBytes.{IsMadeDown}
 use Rattle.world_core.specs.Linked.{up_frames}
 use Rattle.world_core.proofs.Standing.{link_stands}
 use Rattle.outage_schedule.specs.declared.event.Event.TheVariants as event
@@ -31,9 +30,9 @@ use Rattle.world_model.specs.Coupled.{living_of, Coupled}
 use Rattle.world_model.specs.KeptLaws.{OrderlyIsKept}
 use Rattle.world_core.specs.declared.traffic.Traffic.{Traffic}
 use Rattle.world_core.specs.Answering.{served_item}
-use Rattle.world_core.specs.InOrder.{no_store, ServedWith, InOrder}
+use Rattle.world_core.proofs.InOrder.{no_store, ServedWith}
 use Rattle.world_core.specs.Underway.{IsUnderway, FrontOf, answered_link, IsWritten}
-use Rattle.world_core.specs.Making.{Made, MakesInOrder}
+use Rattle.world_core.specs.Making.{Made, Makes}
 use Rattle.world_core.proofs.Serving.{GoesTo, item_now, served_so, serves_front, with_twice, ends_there}
 use Rattle.world_core.proofs.Fronts.{some_front, front_there, front_up}
 use Rattle.world_core.proofs.Ordered.{serves_in_order}
@@ -75,14 +74,16 @@ served_with old new number now frame reply leaves did = record {
   kept = did.kept;
   outcome = did.outcome;
   adds = did.adds;
+  stored = did.stored;
+  blocks = did.blocks;
   left = none_left reply no_store (Adds (ServedFrame did.session now frame (telling_of reply) ∷ []) (1 + sequences_in frame) old.state.store);
   cause = did.cause;
   silent = did.silent;
 }
 
 pub serves_none : OrderlyIsKept → (sees : Seen → Type 0) (before after : Traffic) (number : ℕ) → ((m : Machine) → IsUnderway before m → FrontOf (begun m) number (front_at m.links number) None after)
-    → MakesInOrder sees before sees after number (event.Serve number) (note.Serve number None) []
-serves_none kept sees before after number goes seen t is ordered = by (front_at t.machine.links number) refl (goes t.machine is.underway)
+    → Makes sees before sees after (event.Serve number) (note.Serve number None) []
+serves_none kept sees before after number goes seen t is = by (front_at t.machine.links number) refl (goes t.machine is.underway)
   where
     by : (found : Option Front) → front_at t.machine.links number ≡ found → FrontOf (begun t.machine) number found None after → Made seen t sees after (event.Serve number) (note.Serve number None) []
     by None there gives =
@@ -98,8 +99,8 @@ pub serves_some : OrderlyIsKept → (sees sees_later : Seen → Type 0) (leaves 
     → Goes sees sees_later (λ old new. ServedOne old number between.tick frame (telling_of reply) leaves new)
     → ((m : Machine) → IsUnderway before m → FrontOf (begun m) number (front_at m.links number) (Some frame) between)
     → ((m : Machine) (front : Front) → link_at m.links number ≡ Some (record front.link { up = front.later }) → IsUnderway between m → IsWritten between m number front frame reply served after)
-    → MakesInOrder sees before sees_later after number (event.Serve number) (note.Serve number (Some (name_of frame))) (served ∷ [])
-serves_some kept sees sees_later leaves before between after number frame reply served exact honest goes takes writes seen t is ordered = by (front_at t.machine.links number) refl (takes t.machine is.underway)
+    → Makes sees before sees_later after (event.Serve number) (note.Serve number (Some (name_of frame))) (served ∷ [])
+serves_some kept sees sees_later leaves before between after number frame reply served exact honest goes takes writes seen t is = by (front_at t.machine.links number) refl (takes t.machine is.underway)
   where
     by : (found : Option Front) → front_at t.machine.links number ≡ found → FrontOf (begun t.machine) number found (Some frame) between → GoesTo sees_later seen t number frame served after
     by None there gives = no_frame frame (sym gives.0)
@@ -113,7 +114,7 @@ serves_some kept sees sees_later leaves before between after number frame reply 
         let did : ServedWith seen number t.machine.tick front.first.frame reply new =
         subst (λ f. ServedWith seen number t.machine.tick f reply new) same (subst (λ now. ServedWith seen number now frame reply new) (sym gives.1.tick) (served_with seen new number between.tick frame reply leaves gone.1.1)) in
         let written = writes (taken_off t.machine number front) front (link_same t.machine.links number front.link (record front.link { up = front.later }) at.0) gives.1 in
-        let order = serves_in_order seen t number front is.orderly there (ordered front there) in
+        let order = serves_in_order exact seen t number front is.orderly is.coupled there in
         let ready = stays_ready seen new did.keeps is.ready (up_not_down new.state (did.is_up ∙ told_up reply)) in
         let by_session = served_so exact seen new t number front reply is.coupled there order history did in
         let one = item_now t.machine front did.session reply in
@@ -153,23 +154,6 @@ frame_made m number frame before between is gives = by (front_at m.links number)
         let at = front_there m.links number front there in
         let link = link_stands before.connections.all.items m.links number front.link is.links at.0 in
         subst IsMadeUp (sym (some_frame frame front.first.frame gives.0)) (made_first front.link.up front front.link (front_up m.links number front there) link.1.made)
-
-pub made_there : (sees sees_later : Seen → Type 0) (leaves : Store → Type 0) (before between : Traffic) (number : ℕ) (frame : Up) (reply : Option Down) (seen : Seen) (t : Traced) → sees seen → IsUnderway before t.machine → InOrder seen t number
-    → ((seen : Seen) → sees_later seen → IsHistory seen)
-    → Goes sees sees_later (λ old new. ServedOne old number between.tick frame (telling_of reply) leaves new)
-    → ((m : Machine) → IsUnderway before m → FrontOf (begun m) number (front_at m.links number) (Some frame) between)
-    → IfSome reply IsMadeDown
-made_there sees sees_later leaves before between number frame reply seen t sees_it underway ordered honest goes takes = by (front_at t.machine.links number) refl (takes t.machine underway)
-  where
-    by : (found : Option Front) → front_at t.machine.links number ≡ found → FrontOf (begun t.machine) number found (Some frame) between → IfSome reply IsMadeDown
-    by None there gives = no_frame frame (sym gives.0)
-    by (Some front) there gives =
-        let same : frame ≡ front.first.frame = some_frame frame front.first.frame gives.0 in
-        let gone = goes seen sees_it in
-        let new = gone.0 in
-        let did : ServedWith seen number t.machine.tick front.first.frame reply new =
-        subst (λ f. ServedWith seen number t.machine.tick f reply new) same (subst (λ now. ServedWith seen number now frame reply new) (sym gives.1.tick) (served_with seen new number between.tick frame reply leaves gone.1.1)) in
-        (ordered front there reply new (honest new gone.1.0) did).made
 
 -- WRITTEN DOWN ------------------------------------------------------------------------------------
 

@@ -15,32 +15,38 @@ use Rattle.outage_schedule.specs.declared.item.Item.{Item}
 use Rattle.outage_schedule.specs.declared.item.Served.{Served}
 use Rattle.server_model.specs.Laws.{stops_last}
 use Rattle.server_model.specs.Outcomes.{Telling, telling_of}
-use Rattle.server_model.specs.Runs.{Served as ServedFrame}
+use Rattle.server_model.specs.Runs.{Happened, Served as ServedFrame}
+use Rattle.server_model.specs.Sessions.{Life}
+use Rattle.server_model.specs.ToldRight.{life_after, life_behind}
 use Rattle.server_model.specs.Seen.{Connections, Seen, IsHistory, with_connection, without_connection}
 use Rattle.server_model.specs.ServiceCalls.{IsOf, SessionOf}
 use Rattle.world_model.specs.Links.{Link, link_at, with_link, changed, ends}
 use Rattle.world_model.specs.Machines.{Server, Machine, next_session}
 use Rattle.world_model.specs.Noting.{only_if, name_of, same_name}
 use Rattle.world_model.specs.Serving.{Front, front_at, is_item_of, is_served_by, serves, follow_serve, is_last, is_blocked, is_commit, commits_after, after_front, handled, reply_of, after_served, server_after, pool_after}
-use Rattle.world_model.specs.Basic.{living_now, sessions_differ, are_made}
+use Rattle.world_model.specs.Basic.{sessions_differ, are_made}
 use Rattle.world_model.specs.Traced.{Traced}
 use Rattle.world_model.specs.Walking.{follow}
 use Rattle.world_model.specs.ServiceDid.{front_served}
-use Rattle.world_model.specs.Coupled.{living_of, HasStored, entries_in, SameServer, Coupled}
+use Rattle.world_model.specs.Coupled.{living_of, HasStored, entries_in, life_by, life_of, HasLived, IsLater, SameServer, Coupled}
 use Rattle.world_model.specs.KeptLaws.{OrderlyIsKept}
 use Rattle.world_model.specs.OneEvent.{OneEvent}
 use Rattle.world_core.specs.declared.traffic.Traffic.{Traffic}
 use Rattle.world_core.specs.Answering.{served_item}
-use Rattle.world_core.specs.InOrder.{ServedWith, commits_in}
+use Rattle.world_core.proofs.InOrder.{ServedWith, commits_in}
 use Rattle.world_core.specs.Underway.{IsUnderway, answered_link}
 use Rattle.world_core.specs.Making.{IsReady, IsAt, Made}
 use Rattle.world_core.proofs.Coupling.{View, view, living_in, living_view, begun, made}
+use Rattle.world_core.proofs.Added.{entry_added}
+use Rattle.world_core.proofs.Blocking.{known_blocks, known_served}
+use Rattle.world_core.proofs.Living.{life_served, life_apart, life_more, still_lived}
 use Rattle.world_core.proofs.Counting.{counted_behind}
 use Rattle.world_core.proofs.Fronts.{front_there}
 use Rattle.world_core.proofs.Ordered.{ServesInOrder}
 use Rattle.world_core.proofs.Opening.{any_server}
+use Rattle.world_core.proofs.Sessions.{some_known, session_after, which, session_from, answered_last}
 use Rattle.world_core.proofs.Stops.{stops_behind}
-use Rattle.world_core.proofs.Storing.{others_counted, came_of, next_apart, living_is_now, sessions_apart}
+use Rattle.world_core.proofs.Storing.{others_counted, came_of, next_apart, session_made, sessions_apart}
 use Rattle.world_core.proofs.Reaping.{link_same, link_other}
 use Rattle.world_core.proofs.Written.{names_same, reads, Which, ServedBy, served_by, stays_up}
 
@@ -69,31 +75,12 @@ view_if event link true = view_ends event link
 view_if event link false = refl
 
 abbrev view_behind : Front → Served → View
-view_behind front served = record { is_living = not (is_last served.item); session = Some served.session; commits = commits_after front.link served.item }
+view_behind front served = record { is_living = not (is_last served.item); session = Some served.session; commits = commits_after front.link served.item; life = life_behind front.first.frame (life_of front.link.served) }
 
 view_answered : (event : ℕ) (front : Front) (served : Served) (reply : Option Down) → view (answered_link event front served reply) ≡ view_behind front served
-view_answered event front served reply = view_if event (after_front front served reply) (is_blocked served.item)
-
--- ITS SESSION -------------------------------------------------------------------------------------
-
-pub some_known : (a b : Option SessionId) → ◌≡◌ {A = Option (Option SessionId)} (Some a) (Some b) → a ≡ b
-some_known a b e = cc
-
-abbrev session_after : ℕ → ℕ → SessionId
-session_after incarnation sessions = record { incarnation = incarnation; session = sessions + 1 }
-
-pub which : (server : Server) (seen : Seen) (known : Option SessionId) (session : SessionId) (number sessions : ℕ) → SameServer server seen → seen.state.is_up ≡ true → seen.state.living number ≡ Some known → SessionOf seen number session sessions
-    → Which server known session sessions
-which server seen known session number sessions same up living (inl (named, count)) = inl (some_known known (Some session) (sym living ∙ named), count ∙ sym (same.opened up).1.0)
-which server seen known session number sessions same up living (inr (unnamed, next, count)) =
-    let opened = same.opened up in
-    inr (
-      some_known known None (sym living ∙ unnamed),
-      (
-        next ∙ ap (λ i. session_after i seen.state.sessions) (sym opened.0) ∙ ap (λ n. session_after server.incarnation n) (sym opened.1.0),
-        count ∙ ap (λ (n : ℕ). n + 1) (sym opened.1.0),
-      ),
-    )
+view_answered event front served reply =
+    view_if event (after_front front served reply) (is_blocked served.item)
+    ∙ ap (λ life. record { is_living = not (is_last served.item); session = Some served.session; commits = commits_after front.link served.item; life = life }) (life_more front.link.served (record { sent = front.first; served = served; reply = reply }))
 
 -- COUPLED AGAIN -----------------------------------------------------------------------------------
 
@@ -119,10 +106,10 @@ server_behind server old new number now frame reply one same up did up_later ses
 abbrev LivingBehind : Seen → ℕ → SessionId → Item → Seen → Type 0
 LivingBehind old number session one new = (other : ℕ) → new.state.living other ≡ (if is_last one then without_connection number old.state.living else with_connection number (Some session) old.state.living) other
 
-living_here : (number other : ℕ) (session : SessionId) (last : Bool) (commits : ℕ) (old : ℕ → Option (Option SessionId)) → (other == number) ≡ true
-    → (if last then without_connection number old else with_connection number (Some session) old) other ≡ living_in (Some (record { is_living = not last; session = Some session; commits = commits }))
-living_here number other session true commits old told = rw told refl
-living_here number other session false commits old told = rw told refl
+living_here : (number other : ℕ) (session : SessionId) (last : Bool) (commits : ℕ) (life : Life) (old : ℕ → Option (Option SessionId)) → (other == number) ≡ true
+    → (if last then without_connection number old else with_connection number (Some session) old) other ≡ living_in (Some (record { is_living = not last; session = Some session; commits = commits; life = life }))
+living_here number other session true commits life old told = rw told refl
+living_here number other session false commits life old told = rw told refl
 
 living_there : (number other : ℕ) (session : SessionId) (last : Bool) (old : ℕ → Option (Option SessionId)) → (other == number) ≡ false
     → (if last then without_connection number old else with_connection number (Some session) old) other ≡ old other
@@ -135,7 +122,7 @@ living_behind old new links number front served after coupled living there looks
   where
     by : (((other == number) ≡ true) × (other ≡ number)) ⊎ (((other == number) ≡ false) × (other ≡ number → ⊥)) → new.state.living other ≡ living_of (link_at (with_link links number after) other)
     by (inl (told, same)) =
-        living other ∙ living_here number other served.session (is_last served.item) (commits_after front.link served.item) old.state.living told ∙ ap (λ v. living_in (Some v)) (sym looks) ∙ sym (living_view (Some after))
+        living other ∙ living_here number other served.session (is_last served.item) (commits_after front.link served.item) (life_behind front.first.frame (life_of front.link.served)) old.state.living told ∙ ap (λ v. living_in (Some v)) (sym looks) ∙ sym (living_view (Some after))
         ∙ ap living_of (sym (link_same links number front.link after there)) ∙ ap (λ n. living_of (link_at (with_link links number after) n)) (sym same)
     by (inr (told, apart)) = living other ∙ living_there number other served.session (is_last served.item) old.state.living told ∙ coupled other ∙ ap living_of (sym (link_other links number other after apart))
 
@@ -143,10 +130,10 @@ abbrev StoredBehind : Seen → Option View → Type 0
 StoredBehind new None = Unit {0}
 StoredBehind new (Some one) = HasStored new.state.store.entries (living_in (Some one)) one.commits
 
-has_here : (new : Seen) (session : SessionId) (last : Bool) (commits : ℕ) → entries_in new.state.store.entries session ≡ commits
-    → HasStored new.state.store.entries (living_in (Some (record { is_living = not last; session = Some session; commits = commits }))) commits
-has_here new session true commits counted = tt
-has_here new session false commits counted = counted
+has_here : (new : Seen) (session : SessionId) (last : Bool) (commits : ℕ) (life : Life) → entries_in new.state.store.entries session ≡ commits
+    → HasStored new.state.store.entries (living_in (Some (record { is_living = not last; session = Some session; commits = commits; life = life }))) commits
+has_here new session true commits life counted = tt
+has_here new session false commits life counted = counted
 
 has_there : (old new : Seen) (session : SessionId) (living : Option (Option SessionId)) (commits : ℕ) → (living ≡ Some (Some session) → ⊥) → ((other : SessionId) → (other ≡ session → ⊥) → entries_in new.state.store.entries other ≡ entries_in old.state.store.entries other)
     → HasStored old.state.store.entries living commits → HasStored new.state.store.entries living commits
@@ -167,10 +154,61 @@ stored_behind old new t number front served reply after others aparts coupled co
     by (inl (told, same)) =
         let is : after ≡ link = some_link after link (sym (link_same t.machine.links number front.link after there) ∙ ap (λ n. link_at (with_link t.machine.links number after) n) (sym same) ∙ found) in
         let counted = counts ∙ ap (λ b. front.link.commits + cond b 1 0) (sym commits) in
-        subst (λ v. HasStored new.state.store.entries (living_in (Some v)) v.commits) (sym looks ∙ ap view is) (has_here new served.session (is_last served.item) (commits_after front.link served.item) counted)
+        subst (λ v. HasStored new.state.store.entries (living_in (Some v)) v.commits) (sym looks ∙ ap view is) (has_here new served.session (is_last served.item) (commits_after front.link served.item) (life_behind front.first.frame (life_of front.link.served)) counted)
     by (inr (told, apart)) =
         let at = sym (link_other t.machine.links number other after apart) ∙ found in
         has_there old new served.session (living_of (Some link)) link.commits (λ same. aparts other apart (coupled.living other ∙ ap living_of at ∙ same)) others (coupled.stored other link at)
+
+-- WHERE SESSIONS ARE IN THEIR LIVES ---------------------------------------------------------------
+
+lived_here : (history : List Happened) (session : SessionId) (last : Bool) (commits : ℕ) (life : Life) → (last ≡ false → life_by history session ≡ life) → HasLived history (living_in (Some (record { is_living = not last; session = Some session; commits = commits; life = life }))) life
+lived_here history session true commits life lived = tt
+lived_here history session false commits life lived = lived refl
+
+lived_behind : AreExact → (old new : Seen) (t : Traced) (number now : ℕ) (front : Front) (served : Served) (told : Telling) (after : Link) → new.history ≡ old.history ++ ServedFrame served.session now front.first.frame told ∷ []
+    → ((other : ℕ) → (other ≡ number → ⊥) → old.state.living other ≡ Some (Some served.session) → ⊥) → Coupled old t → life_by old.history served.session ≡ life_of front.link.served
+    → ((life : Life) → is_last served.item ≡ false → life_after front.first.frame told life ≡ life_behind front.first.frame life) → link_at t.machine.links number ≡ Some front.link → view after ≡ view_behind front served
+    → (other : ℕ) (link : Link) → link_at (with_link t.machine.links number after) other ≡ Some link → HasLived new.history (living_of (Some link)) (life_of link.served)
+lived_behind exact old new t number now front served told after added aparts coupled lived goes_on there looks other link found = by (eqb_tells other number)
+  where
+    by : (((other == number) ≡ true) × (other ≡ number)) ⊎ (((other == number) ≡ false) × (other ≡ number → ⊥)) → HasLived new.history (living_of (Some link)) (life_of link.served)
+    by (inl (told_is, same)) =
+        let is : after ≡ link = some_link after link (sym (link_same t.machine.links number front.link after there) ∙ ap (λ n. link_at (with_link t.machine.links number after) n) (sym same) ∙ found) in
+        let life = life_behind front.first.frame (life_of front.link.served) in
+        let now_is : is_last served.item ≡ false → life_by new.history served.session ≡ life = λ on.
+        ap (λ h. life_by h served.session) added ∙ life_served exact old.history served.session now front.first.frame told ∙ goes_on (life_by old.history served.session) on ∙ ap (life_behind front.first.frame) lived in
+        subst (λ v. HasLived new.history (living_in (Some v)) v.life) (sym looks ∙ ap view is) (lived_here new.history served.session (is_last served.item) (commits_after front.link served.item) life now_is)
+    by (inr (told_is, apart)) =
+        let at = sym (link_other t.machine.links number other after apart) ∙ found in
+        still_lived old.history new.history (living_of (Some link)) (life_of link.served)
+        (λ session living. ap (λ h. life_by h session) added
+        ∙ life_apart exact old.history (ServedFrame served.session now front.first.frame told ∷ []) session ((λ same. aparts other apart (coupled.living other ∙ ap living_of at ∙ living ∙ ap (λ s. Some (Some s)) (sym same))), tt)) (coupled.lives other link at)
+
+-- the next one was made, or none
+later_by : (server after : Server) (known : Option SessionId) (session other : SessionId) (sessions : ℕ) → after.incarnation ≡ server.incarnation → after.is_up ≡ server.is_up → after.sessions ≡ sessions → Which server known session sessions → IsLater after other → IsLater server other
+later_by server after known session other sessions same up count which (inl later) = inl (omega (arith, same, later))
+later_by server after known session other sessions same up count (inl (named, all)) (inr (on, (of, later))) = inr (sym up ∙ on, (of ∙ same, omega (arith, count, all, later)))
+later_by server after known session other sessions same up count (inr (unnamed, (next, all))) (inr (on, (of, later))) = inr (sym up ∙ on, (of ∙ same, omega (arith, count, all, later)))
+
+-- it is not the session that serves
+not_later : (server after : Server) (known : Option SessionId) (session other : SessionId) (sessions : ℕ) → after.incarnation ≡ server.incarnation → after.sessions ≡ sessions → Which server known session sessions
+    → (known ≡ Some session → (session.incarnation ≡ server.incarnation) × (session.session ≤ server.sessions)) → IsLater after other → session ≡ other → ⊥
+not_later server after known session other sessions same count (inl (named, all)) made (inl later) is =
+    let was = (made named).0 in
+    let one : session.incarnation ≡ other.incarnation = ap (λ (s : SessionId). s.incarnation) is in
+    omega (arith, same, later, was, one)
+not_later server after known session other sessions same count (inl (named, all)) made (inr (on, (of, later))) is =
+    let was = (made named).1 in
+    let one : session.session ≡ other.session = ap (λ (s : SessionId). s.session) is in
+    omega (arith, count, all, later, was, one)
+not_later server after known session other sessions same count (inr (unnamed, (next, all))) made (inl later) is =
+    let was : session.incarnation ≡ server.incarnation = ap (λ (s : SessionId). s.incarnation) next in
+    let one : session.incarnation ≡ other.incarnation = ap (λ (s : SessionId). s.incarnation) is in
+    omega (arith, same, later, was, one)
+not_later server after known session other sessions same count (inr (unnamed, (next, all))) made (inr (on, (of, later))) is =
+    let was : session.session ≡ server.sessions + 1 = ap (λ (s : SessionId). s.session) next in
+    let one : session.session ≡ other.session = ap (λ (s : SessionId). s.session) is in
+    omega (arith, count, all, later, was, one)
 
 -- the state behind the frame
 abbrev traced_behind : Traced → Machine → Seen → Traced
@@ -183,18 +221,6 @@ GoesTo sees_later seen t number frame served after = Made seen t sees_later afte
 
 all_true : (a b c d : Bool) → a ≡ true → b ≡ true → c ≡ true → d ≡ true → (a && ((b && c) && d)) ≡ true
 all_true a b c d p q r s = rw (p, q, r, s) refl
-
--- it is of this incarnation
-same_least : (a b : ℕ) → b ≡ a → a ≤ b
-same_least a b same = omega (arith, same)
-
-pub session_from : (seen : Seen) (t : Traced) (number : ℕ) (front : Front) (session : SessionId) (sessions : ℕ) → Coupled seen t → seen.state.is_up ≡ true → living_now t ≡ true → front_at t.machine.links number ≡ Some front → SessionOf seen number session sessions
-    → seen.state.store.incarnation ≤ session.incarnation
-session_from seen t number front session sessions coupled up now there (inl (named, count)) =
-    let at = front_there t.machine.links number front there in
-    let living : seen.state.living number ≡ Some front.link.session = coupled.living number ∙ ap living_of at.0 ∙ ap (λ b. if b then Some front.link.session else None) at.1 in
-    same_least seen.state.store.incarnation session.incarnation (living_is_now t now number front.link session at.0 at.1 (some_known front.link.session (Some session) (sym living ∙ named)) ∙ (coupled.server.opened up).0)
-session_from seen t number front session sessions coupled up now there (inr (unnamed, next, count)) = same_least seen.state.store.incarnation session.incarnation (ap (λ (s : SessionId). s.incarnation) next)
 
 -- no other connection has it
 living_found : (found : Option Link) (session : SessionId) → living_of found ≡ Some (Some session) → (link : Link) × (found ≡ Some link)
@@ -216,11 +242,6 @@ session_alone exact seen t number front session sessions coupled up differ made 
     let one = living_found (link_at t.machine.links other) session has in
     next_apart t made other one.0 one.1 (ap living_of (sym one.1) ∙ has ∙ ap (λ s. Some (Some s)) same)
 
--- nothing was stopped
-pub answered_last : (session : SessionId) (now : ℕ) (frame : Up) (reply : Option Down) → stops_last (ServedFrame session now frame (telling_of reply) ∷ []) ≡ true
-answered_last session now frame None = refl
-answered_last session now frame (Some told) = refl
-
 -- no other session has stored anything
 frame_others : AreExact → (old new : Seen) (number now : ℕ) (frame : Up) (reply : Option Down) (did : ServedWith old number now frame reply new) → (other : SessionId) → (other ≡ did.session → ⊥) → entries_in new.state.store.entries other ≡ entries_in old.state.store.entries other
 frame_others exact old new number now frame reply did other apart =
@@ -238,7 +259,7 @@ served_so exact seen new t number front reply coupled there ordered history did 
     let up : seen.state.is_up ≡ true = sym coupled.server.is_up ∙ ordered.is_up in
     let living : seen.state.living number ≡ Some front.link.session = coupled.living number ∙ ap living_of at.0 ∙ ap (λ b. if b then Some front.link.session else None) at.1 in
     let known = which t.machine.server seen front.link.session did.session number new.state.sessions coupled.server up living did.of_connection in
-    served_by exact t.machine.server front.link front.link.commits did.session front.first.frame reply answered.answers new.state.sessions known ordered.is_first
+    served_by exact t.machine.server front.link front.link.commits did.session front.first.frame reply answered new.state.sessions known ordered.is_first
 
 pub serves_front : OrderlyIsKept → (sees sees_later : Seen → Type 0) (seen new : Seen) (t : Traced) (number : ℕ) (front : Front) (reply : Option Down) (before after : Traffic) → AreExact → IsAt sees before seen t → front_at t.machine.links number ≡ Some front → ServesInOrder seen t number front
     → IsHistory new → sees_later new → IsReady new.state → (did : ServedWith seen number t.machine.tick front.first.frame reply new)
@@ -258,8 +279,8 @@ serves_front kept sees sees_later seen new t number front reply before after exa
     let up = sym coupled.server.is_up ∙ ordered.is_up in
     let living : seen.state.living number ≡ Some front.link.session = coupled.living number ∙ ap living_of at.0 ∙ ap (λ b. if b then Some front.link.session else None) at.1 in
     let known = which t.machine.server seen front.link.session session number new.state.sessions coupled.server up living did.of_connection in
-    let counted = counted_behind exact seen t number front.link session new.state.sessions coupled at.0 at.1 is.orderly.number.known new t.machine.tick frame reply known did refl answered.stored in
-    let read = reads exact session number front.link.commits frame reply answered.answers in
+    let counted = counted_behind exact seen t number front.link session new.state.sessions coupled at.0 at.1 is.orderly.number.known new t.machine.tick frame reply known did refl (entry_added session front.link.commits frame reply seen.state.store new.state.store answered did.stored) in
+    let read = reads exact session number front.link.commits frame reply answered in
     let by = served_so exact seen new t number front reply coupled there ordered history did in
     let link = handled m.event front served in
     let same_handled : answered_link m.event front served reply ≡ link = ap (λ r. answered_link m.event front served r) (sym read.replies) in
@@ -277,9 +298,16 @@ serves_front kept sees sees_later seen new t number front reply before after exa
       server = server_behind t.machine.server seen new number t.machine.tick frame reply served.item coupled.server ordered.is_up did (did.is_up ∙ read.is_up) by.sessions_are;
       living = living_behind seen new t.machine.links number front served link coupled.living (λ other. did.living other ∙ ap (λ (living : Connections). living other) (read.living seen.state.living)) at.0 looks;
       stored = stored_behind seen new t number front served reply link others aparts coupled counted read.commits_so at.0 looks;
+      lives = lived_behind exact seen new t number t.machine.tick front served (telling_of reply) link did.history aparts coupled (ordered.lived reply new history did) read.goes_on at.0 looks;
+      later = λ other is_later.
+          let stays = stays_up t.machine.server served.item in
+          let apart = not_later t.machine.server (server_after t.machine.server served.item) front.link.session session other new.state.sessions stays.incarnation by.sessions_are known (λ is_named. session_made t number front.link session ordered.made ordered.now at.0 at.1 is_named) is_later in
+          ap (λ h. life_by h other) did.history ∙ life_apart exact seen.history (ServedFrame session t.machine.tick frame (telling_of reply) ∷ []) other (apart, tt)
+          ∙ coupled.later other (later_by t.machine.server (server_after t.machine.server served.item) front.link.session session other new.state.sessions stays.incarnation stays.is_up by.sessions_are known is_later);
       entries = refl;
       blocked = refl;
       image = rw did.keeps.start coupled.image;
+      blocks = known_served exact session front.link.commits frame reply t.machine.server t.machine.tick seen.state.store new.state.store answered did.adds.gains did.blocks (known_blocks seen t coupled);
     } in
     let one : OneEvent seen t (event.Serve number) (note.Serve number (Some (name_of frame))) (served ∷ []) [] new later = record {
       follows = follows;

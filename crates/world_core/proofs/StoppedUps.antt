@@ -9,7 +9,7 @@ use Rattle.server_model.specs.Seen.{Store, Seen, IsHistory}
 use Rattle.server_model.specs.ServiceCalls.{is_failover, Crashed, SameLists, HasSoFar, Neither, Forgets, Both}
 use Rattle.service_calls.specs.Kept.{Goes}
 use Rattle.world_model.specs.Basic.{is_down}
-use Rattle.world_model.specs.Coupled.{living_of, SameServer, Coupled}
+use Rattle.world_model.specs.Coupled.{living_of, life_by, life_of, SameServer, Coupled}
 use Rattle.world_model.specs.KeptLaws.{OrderlyIsKept}
 use Rattle.world_model.specs.OneEvent.{OneEvent}
 use Rattle.world_model.specs.Links.{Link, link_at}
@@ -20,6 +20,8 @@ use Rattle.world_core.specs.declared.traffic.Traffic.{Traffic}
 use Rattle.world_core.specs.Underway.{IsUnderway}
 use Rattle.world_core.specs.Making.{Makes}
 use Rattle.world_core.specs.Stopping.{BegunOpening}
+use Rattle.world_core.proofs.Living.{same_lived}
+use Rattle.world_core.proofs.Blocking.{known_blocks, known_same}
 use Rattle.world_core.proofs.Coupling.{begun, one_alone, made, made_alone, none_came, none_asked}
 use Rattle.world_core.proofs.Opening.{any_server}
 use Rattle.world_core.proofs.Storing.{both, all_at}
@@ -127,9 +129,12 @@ stopped_coupled old new t coupled down fallen history left fell living =
       server = server_behind t.machine.server old new coupled.server down left fell;
       living = λ number. living number ∙ sym (none_lives t.machine.links number (link_at t.machine.links number) none refl);
       stored = λ number link there. rw left.lists.entries (coupled.stored number link there);
+      lives = λ number link there. same_lived old.history new.history (living_of (Some link)) (life_of link.served) left.history (coupled.lives number link there);
+      later = λ session is. ap (λ h. life_by h session) left.history ∙ coupled.later session is;
       entries = refl;
       blocked = refl;
       image = rw left.start coupled.image;
+      blocks = known_same t.machine.server old.state.store.blocked new.state.store.blocked left.lists.blocked (known_blocks old t coupled);
     }
 
 pub crashes_opening : OrderlyIsKept → (sees sees_between sees_later : Seen → Type 0) (leaves : Store → Type 0) (before after : Traffic) (horizon calls pick : ℕ) → is_failover pick ≡ false

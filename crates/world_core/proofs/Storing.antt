@@ -1,9 +1,10 @@
 -- Entries that come from what one session did, and sessions that are apart.
-use Rattle.std.proofs.Common.{◌≡◌, ℕ, zero, suc, ◌+◌, ◌==◌, Bool, true, false, List, [], ◌∷◌, ◌++◌, Option, Some, None, refl, sym, ap, ◌∙◌, arith}
+use Rattle.std.proofs.Common.{◌≡◌, ◌<◌, ◌≤◌, ℕ, zero, suc, ◌+◌, ◌==◌, Bool, true, false, List, [], ◌∷◌, ◌++◌, Option, Some, None, refl, sym, ap, ◌∙◌, arith}
 use Rattle.std.specs.Prelude.{not, ◌&&◌, ◌||◌, All, cond, filter_map, nat_lt, nat_le, slice_get, if◌then◌else◌}
 use Rattle.std.specs.List.{list_all, list_any, cons_option}
 use Rattle.std.specs.Option.{option_map_or}
 use Rattle.std.proofs.lemmas.Bool.{lt-leb, eqb-true}
+use Rattle.std.proofs.lemmas.Bool.Decides.{nat_tests}
 use Rattle.std.proofs.lemmas.List.Sums.{sum_by-cons, sum_by-append}
 use Rattle.std.proofs.lemmas.List.Elements.{All-head, All-tail, All-contains}
 use Rattle.svc_values.specs.declared.entry.Entry.{Entry}
@@ -58,6 +59,13 @@ none_more n = omega arith
 pub others_counted : AreExact → (session other : SessionId) (old more : List Entry) → AreOf session more → (other ≡ session → ⊥) → entries_in (old ++ more) other ≡ entries_in old other
 others_counted exact session other old more are apart =
     entries_more old more other ∙ ap (λ (n : ℕ). entries_in old other + n) (none_of exact session other more are apart) ∙ none_more (entries_in old other)
+
+-- one entry more of this session
+pub one_of : AreExact → (session : SessionId) (old : List Entry) (entry : Entry) → session ≡ session_of entry.ltxid → entries_in (old ++ entry ∷ []) session ≡ entries_in old session + 1
+one_of exact session old entry own =
+    let here : counts session entry ≡ 1 = ap (λ b. cond b 1 0) ((exact.sessions (session_of entry.ltxid) session).1 (sym own)) in
+    let one : entries_in (entry ∷ []) session ≡ 1 = sum_by-cons (counts session) entry [] ∙ ap (λ (n : ℕ). n + 0) here in
+    entries_more old (entry ∷ []) session ∙ ap (λ (n : ℕ). entries_in old session + n) one
 
 -- COME FROM ---------------------------------------------------------------------------------------
 
@@ -165,6 +173,21 @@ now_by incarnation true (Some one) session lives is now = ap (λ (s : SessionId)
 pub living_is_now : (t : Traced) → living_now t ≡ true → (number : ℕ) (link : Link) (session : SessionId) → link_at t.machine.links number ≡ Some link → link.is_living ≡ true → link.session ≡ Some session → session.incarnation ≡ t.machine.server.incarnation
 living_is_now t now number link session there lives is =
     now_by t.machine.server.incarnation link.is_living link.session session lives is (all_there (is_now t.machine.server.incarnation) t.machine.links number link now there)
+
+made_at_most : (t : Traced) (session : SessionId) → is_made t session ≡ true → session.incarnation ≡ t.machine.server.incarnation → session.session ≤ t.machine.server.sessions
+made_at_most t session made same = by (nat_lt session.incarnation t.machine.server.incarnation) refl (both (nat_lt 0 session.session) (nat_lt session.incarnation t.machine.server.incarnation || ((session.incarnation == t.machine.server.incarnation) && nat_le session.session t.machine.server.sessions)) made).1
+  where
+    by : (less : Bool) → nat_lt session.incarnation t.machine.server.incarnation ≡ less → (less || ((session.incarnation == t.machine.server.incarnation) && nat_le session.session t.machine.server.sessions)) ≡ true → session.session ≤ t.machine.server.sessions
+    by true told is = absurd (let below : session.incarnation < t.machine.server.incarnation = grind (arith, nat_tests, told) in let nothing : ⊥ = omega (arith, below, same) in nothing)
+    by false told is = let most = (both (session.incarnation == t.machine.server.incarnation) (nat_le session.session t.machine.server.sessions) is).1 in grind (arith, nat_tests, most)
+
+-- the session of a connection that lives was made in this incarnation
+pub session_made : (t : Traced) (number : ℕ) (link : Link) (session : SessionId) → are_made t ≡ true → living_now t ≡ true → link_at t.machine.links number ≡ Some link → link.is_living ≡ true → link.session ≡ Some session
+    → (session.incarnation ≡ t.machine.server.incarnation) × (session.session ≤ t.machine.server.sessions)
+session_made t number link session made now there lives is =
+    let same = living_is_now t now number link session there lives is in
+    let was : is_made t session ≡ true = passes (is_made t) t.machine.links number link session (both (list_all (is_made t) (sessions_of t)) (list_all (is_made t) t.outside) made).0 there is in
+    (same, made_at_most t session was same)
 
 -- NO TWO ARE ONE ----------------------------------------------------------------------------------
 

@@ -18,6 +18,8 @@ use Rattle.outage_schedule.specs.declared.item.Item.TheVariants as item
 use Rattle.outage_schedule.specs.declared.note.AskResult.{AskResult}
 use Rattle.outage_schedule.specs.declared.note.AskResult.TheVariants as told
 use Rattle.server_model.specs.Outcomes.{telling_of}
+use Rattle.server_model.specs.Sessions.{Life}
+use Rattle.server_model.specs.ToldRight.{life_after, life_behind}
 use Rattle.server_model.specs.Seen.{Connections, with_connection, without_connection}
 use Rattle.server_model.specs.ServiceCalls.{living_after, is_up_after}
 use Rattle.world_model.specs.Hold.{is_connect}
@@ -27,7 +29,7 @@ use Rattle.world_model.specs.Noting.{name_of, same_name}
 use Rattle.world_model.specs.ServiceDid.{item_telling}
 use Rattle.world_model.specs.Serving.{is_item_of, is_served_by, reply_of, is_commit, is_last, server_after}
 use Rattle.world_core.specs.Answering.{session_served, served_item}
-use Rattle.world_core.specs.InOrder.{Answers, Connects, Begins, Replies, Blocks, Tells, Ends, Closes, commits_in}
+use Rattle.world_core.proofs.InOrder.{Answers, Connects, Begins, Replies, Blocks, Tells, Ends, Closes, commits_in}
 
 -- THE ITEM ----------------------------------------------------------------------------------------
 
@@ -75,23 +77,24 @@ pub record ReadOff (session : SessionId) (number commits : ℕ) (frame : Up) (re
   pub commits_so : is_commit one ≡ commits_in reply
   pub living : (living : Connections) → living_after frame (telling_of reply) number session living ≡ (if is_last one then without_connection number living else with_connection number (Some session) living)
   pub is_up : is_up_after (telling_of reply) ≡ true
+  pub goes_on : (life : Life) → is_last one ≡ false → life_after frame (telling_of reply) life ≡ life_behind frame life
 
 outcome_reads : AreExact → (session : SessionId) (number commits : ℕ) (x : Ltxid) (result : AskResult) → ReadOff session number commits (up.Outcome x) (reply_of session 0 (item.Outcome x result)) (served_item (up.Outcome x) (reply_of session 0 (item.Outcome x result)))
-outcome_reads exact session number commits x (told.Committed completed) = record { is_item = (exact.identifiers x x).1 refl; replies = refl; tells = refl; commits_so = refl; living = λ living. refl; is_up = refl }
-outcome_reads exact session number commits x told.Uncommitted = record { is_item = (exact.identifiers x x).1 refl; replies = refl; tells = refl; commits_so = refl; living = λ living. refl; is_up = refl }
-outcome_reads exact session number commits x (told.ServerAhead next) = record { is_item = (exact.identifiers x x).1 refl; replies = refl; tells = refl; commits_so = refl; living = λ living. refl; is_up = refl }
-outcome_reads exact session number commits x (told.ClientAhead next) = record { is_item = (exact.identifiers x x).1 refl; replies = refl; tells = refl; commits_so = refl; living = λ living. refl; is_up = refl }
-outcome_reads exact session number commits x (told.Forgotten horizon) = record { is_item = (exact.identifiers x x).1 refl; replies = refl; tells = refl; commits_so = refl; living = λ living. refl; is_up = refl }
+outcome_reads exact session number commits x (told.Committed completed) = record { is_item = (exact.identifiers x x).1 refl; replies = refl; tells = refl; commits_so = refl; living = λ living. refl; is_up = refl; goes_on = λ life on. refl }
+outcome_reads exact session number commits x told.Uncommitted = record { is_item = (exact.identifiers x x).1 refl; replies = refl; tells = refl; commits_so = refl; living = λ living. refl; is_up = refl; goes_on = λ life on. refl }
+outcome_reads exact session number commits x (told.ServerAhead next) = record { is_item = (exact.identifiers x x).1 refl; replies = refl; tells = refl; commits_so = refl; living = λ living. refl; is_up = refl; goes_on = λ life on. refl }
+outcome_reads exact session number commits x (told.ClientAhead next) = record { is_item = (exact.identifiers x x).1 refl; replies = refl; tells = refl; commits_so = refl; living = λ living. refl; is_up = refl; goes_on = λ life on. refl }
+outcome_reads exact session number commits x (told.Forgotten horizon) = record { is_item = (exact.identifiers x x).1 refl; replies = refl; tells = refl; commits_so = refl; living = λ living. refl; is_up = refl; goes_on = λ life on. refl }
 
 pub reads : AreExact → (session : SessionId) (number commits : ℕ) (frame : Up) (reply : Option Down) → Answers session commits frame reply → ReadOff session number commits frame reply (served_item frame reply)
-reads exact session number commits _ _ Connects = record { is_item = refl; replies = ap (λ n. reply_of session n item.Connect) (no_more commits); tells = ap (λ n. telling_of (reply_of session n item.Connect)) (no_more commits); commits_so = refl; living = λ living. refl; is_up = refl }
-reads exact session number commits _ _ (Begins settings) = record { is_item = settings_same exact settings; replies = refl; tells = refl; commits_so = refl; living = λ living. refl; is_up = refl }
+reads exact session number commits _ _ Connects = record { is_item = refl; replies = ap (λ n. reply_of session n item.Connect) (no_more commits); tells = ap (λ n. telling_of (reply_of session n item.Connect)) (no_more commits); commits_so = refl; living = λ living. refl; is_up = refl; goes_on = λ life on. refl }
+reads exact session number commits _ _ (Begins settings) = record { is_item = settings_same exact settings; replies = refl; tells = refl; commits_so = refl; living = λ living. refl; is_up = refl; goes_on = λ life on. refl }
 reads exact session number commits _ _ (Replies replay kept call answers draws) =
-    record { is_item = both_true (same_bool replay replay) (same_call call call) (bools_same replay) ((exact.calls call call).1 refl); replies = refl; tells = refl; commits_so = refl; living = λ living. refl; is_up = refl }
-reads exact session number commits _ _ (Blocks replay kept call) = record { is_item = (exact.calls call call).1 refl; replies = refl; tells = refl; commits_so = refl; living = λ living. refl; is_up = refl }
+    record { is_item = both_true (same_bool replay replay) (same_call call call) (bools_same replay) ((exact.calls call call).1 refl); replies = refl; tells = refl; commits_so = refl; living = λ living. refl; is_up = refl; goes_on = λ life on. refl }
+reads exact session number commits _ _ (Blocks replay kept call) = record { is_item = (exact.calls call call).1 refl; replies = refl; tells = refl; commits_so = refl; living = λ living. refl; is_up = refl; goes_on = λ life on. absurd (let nothing : ⊥ = cc in nothing) }
 reads exact session number commits _ _ (Tells x result) = outcome_reads exact session number commits x result
-reads exact session number commits _ _ Ends = record { is_item = refl; replies = refl; tells = refl; commits_so = refl; living = λ living. refl; is_up = refl }
-reads exact session number commits _ _ Closes = record { is_item = refl; replies = refl; tells = refl; commits_so = refl; living = λ living. refl; is_up = refl }
+reads exact session number commits _ _ Ends = record { is_item = refl; replies = refl; tells = refl; commits_so = refl; living = λ living. refl; is_up = refl; goes_on = λ life on. refl }
+reads exact session number commits _ _ Closes = record { is_item = refl; replies = refl; tells = refl; commits_so = refl; living = λ living. refl; is_up = refl; goes_on = λ life on. refl }
 
 -- THE SESSION -------------------------------------------------------------------------------------
 

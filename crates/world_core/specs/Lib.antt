@@ -6,5 +6,4 @@ pub mod Forgetting
 pub mod Underway
 pub mod Making
 pub mod Answering
-pub mod InOrder
 pub mod Stopping

@@ -1,5 +1,5 @@
 -- An event of a run without its clients: machine and service go on together.
-use Rattle.std.specs.Prelude.{◌≡◌, ℕ, true, false, List, [], None}
+use Rattle.std.specs.Prelude.{◌≡◌, true, false, List, [], None}
 use Rattle.outage_schedule.specs.declared.event.Event.{Event}
 use Rattle.outage_schedule.specs.declared.note.Note.{Note}
 use Rattle.outage_schedule.specs.declared.item.Served.{Served}
@@ -10,7 +10,6 @@ use Rattle.world_model.specs.Invariant.{Orderly}
 use Rattle.world_model.specs.OneEvent.{OneEvent}
 use Rattle.world_core.specs.declared.traffic.Traffic.{Traffic}
 use Rattle.world_core.specs.Underway.{IsUnderway}
-use Rattle.world_core.specs.InOrder.{InOrder}
 
 -- It may be called, and no call of it is stopped. Where it is down it may be opened.
 pub record IsReady (state : ServiceState) : Type 0 where
@@ -38,15 +37,3 @@ Made seen t sees_later after event note items = (seen_later : Seen) × ((later :
 -- whatever was seen and wherever the machine stood, the event was made
 abbrev pub Makes : (Seen → Type 0) → Traffic → (Seen → Type 0) → Traffic → Event → Note → List Served → Type 0
 Makes sees before sees_later after event note items = (seen : Seen) (t : Traced) → IsAt sees before seen t → Made seen t sees_later after event note items
-
--- the same, where this held
-abbrev pub MakesWhere : (Seen → Traced → Type 0) → (Seen → Type 0) → Traffic → (Seen → Type 0) → Traffic → Event → Note → List Served → Type 0
-MakesWhere Holds sees before sees_later after event note items = (seen : Seen) (t : Traced) → IsAt sees before seen t → Holds seen t → Made seen t sees_later after event note items
-
--- a frame is answered in order
-abbrev pub MakesInOrder : (Seen → Type 0) → Traffic → (Seen → Type 0) → Traffic → ℕ → Event → Note → List Served → Type 0
-MakesInOrder sees before sees_later after number event note items = MakesWhere (λ seen t. InOrder seen t number) sees before sees_later after event note items
-
--- where the service and the traffic may stand, a frame is answered in order
-abbrev pub IsInOrder : (Seen → Type 0) → Traffic → ℕ → Type 0
-IsInOrder sees traffic number = (seen : Seen) × ((t : Traced) × (IsAt sees traffic seen t × InOrder seen t number))

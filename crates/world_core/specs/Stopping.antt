@@ -1,18 +1,19 @@
 -- Events under a stop, each with a crash behind it.
-use Rattle.std.specs.Prelude.{◌≡◌, ◌⊎◌, ◌||◌, ◌+◌, ◌≤◌, ℕ, true, false, List, [], ◌++◌, length, Option, Some}
-use Rattle.svc_values.specs.declared.frame.Down.{Down}
+use Rattle.std.specs.Prelude.{◌≡◌, ◌⊎◌, ◌||◌, ◌+◌, ◌<◌, ◌≤◌, ℕ, true, false, List, [], ◌++◌, Some}
+use Rattle.svc_values.specs.declared.entry.Ltxid.{Ltxid}
+use Rattle.svc_values.specs.declared.entry.SessionId.{SessionId}
+use Rattle.ltxid_book.specs.Journal.{is_blocked}
 use Rattle.outage_schedule.specs.declared.item.Served.{Served}
 use Rattle.server_model.specs.Laws.{stops_last}
 use Rattle.server_model.specs.Seen.{Store, Seen}
 use Rattle.server_model.specs.ServiceCalls.{with_stop, Gains, Opened, StoppedOpening}
-use Rattle.world_model.specs.Crashing.{is_alert, is_new_block, serves_last}
-use Rattle.world_model.specs.Machines.{Machine}
+use Rattle.world_model.specs.Crashing.{serves_last}
+use Rattle.world_model.specs.Machines.{Server, Machine}
 use Rattle.world_model.specs.ServiceDid.{front_served}
-use Rattle.world_model.specs.Serving.{Front, front_at}
+use Rattle.world_model.specs.Coupled.{life_by}
+use Rattle.world_model.specs.Serving.{front_at}
 use Rattle.world_model.specs.Traced.{Traced}
 use Rattle.world_core.specs.declared.traffic.Traffic.{Traffic}
-use Rattle.world_core.specs.Answering.{served_item}
-use Rattle.world_core.specs.InOrder.{ServedWith, AnswersInOrder}
 use Rattle.world_core.specs.Underway.{IsUnderway}
 use Rattle.world_core.specs.Making.{IsReady, IsAt}
 
@@ -24,19 +25,9 @@ BegunOpening old below after leaves new = Opened (with_stop old (Some after)) be
 abbrev pub IsSeen : (Seen → Type 0) → Type 0
 IsSeen sees = (seen : Seen) × (sees seen × IsReady seen.state)
 
--- A frame is served under a stop of so many device calls: it is answered in order, and a line that is answered is added to the store, as
--- is the block of an identifier that is told uncommitted and may not have been blocked before.
-pub record StopsInOrder (seen : Seen) (t : Traced) (number after : ℕ) (front : Front) : Type 0 where
-  pub answered : AnswersInOrder (with_stop seen (Some after)) t number front
-  pub added : (reply : Option Down) (new : Seen) (did : ServedWith (with_stop seen (Some after)) number t.machine.tick front.first.frame reply new)
-      → (is_alert (served_item front.first.frame reply) || is_new_block t.machine.server (served_item front.first.frame reply)) ≡ true → 1 ≤ length did.adds.gains.more_blocked + length did.adds.gains.more_alerts
-
-abbrev pub InOrderUnder : ℕ → ℕ → Seen → Traced → Type 0
-InOrderUnder number after seen t = (front : Front) → front_at t.machine.links number ≡ Some front → StopsInOrder seen t number after front
-
--- Where the service and the traffic may stand behind the start of the event, its frame is served so.
-abbrev pub IsLast : (Seen → Type 0) → Traffic → ℕ → ℕ → Type 0
-IsLast sees traffic number after = (seen : Seen) × ((t : Traced) × (IsAt sees traffic seen t × InOrderUnder number after seen t))
+-- the machine knows of each of these that are blocked: it was told uncommitted, or a stopped frame asked for it
+abbrev pub AreKnown : Server → List Ltxid → Type 0
+AreKnown server blocked = (x : Ltxid) → is_blocked blocked x ≡ true → (is_blocked server.blocked x || is_blocked server.doubtful x) ≡ true
 
 -- WHAT THE LAST FRAME LEAVES ----------------------------------------------------------------------
 
@@ -48,12 +39,15 @@ pub record ServedLast (seen : Seen) (t : Traced) (number after : ℕ) (items : L
   pub start : new.start ≡ seen.start
   pub history : new.history ≡ seen.history ++ front_served t.machine.tick (front_at t.machine.links number) items
   pub lasts : stops_last new.history ≡ true
+  -- no session of an incarnation to come is in it
+  pub later : (session : SessionId) → t.machine.server.incarnation < session.incarnation → life_by new.history session ≡ life_by seen.history session
   pub per_record : new.state.per_record ≡ seen.state.per_record
   pub ready : (new.state.is_spent ≡ false) × (new.state.is_quiet ≡ seen.state.is_quiet) × (new.state.is_opened ≡ seen.state.is_opened) × (new.state.calls ≤ seen.state.calls + 2)
   pub left : (store : Store) → leaves store → (new.state.is_up ≡ true → store ≡ new.state.store) → Gains (front_served t.machine.tick (front_at t.machine.links number) items) seen.state.store store
+  pub blocks : (store : Store) → leaves store → (new.state.is_up ≡ true → store ≡ new.state.store) → AreKnown m.server store.blocked
 
 -- wherever the machine stood before the event, the frame led it on
 abbrev pub LeadsLast : (Seen → Type 0) → Traffic → (Seen → Type 0) → (Store → Type 0) → Traffic → ℕ → ℕ → List Served → Type 0
 LeadsLast sees before sees_later leaves later number after items =
-    (seen : Seen) (t : Traced) → IsAt sees before seen t → InOrderUnder number after seen t
+    (seen : Seen) (t : Traced) → IsAt sees before seen t
     → (new : Seen) × ((m : Machine) × (sees_later new × (ServedLast seen t number after items leaves new m × IsUnderway later m)))

@@ -1,8 +1,8 @@
 //! Crashes.
 ghost use Rattle.std.specs.Prelude.{◌≡◌, ◌+◌, ◌<◌, ◌^◌, true, IfOk, option_to_list};
 ghost use Rattle.server_model.specs.ServiceCalls.{MayCrash};
-ghost use Rattle.world_core.specs.Making.{MakesWhere};
-ghost use Rattle.world_core.specs.Stopping.{InOrderUnder, IsLast, LeadsLast};
+ghost use Rattle.world_core.specs.Making.{Makes, IsSomewhere};
+ghost use Rattle.world_core.specs.Stopping.{LeadsLast};
 
 use crate::ground::Ground;
 use outage_schedule::{Event, Note, Served};
@@ -24,10 +24,10 @@ impl<S: Service + Drop> Ground<S> {
         pick: u8,
     ) -> Result<(Note, Option<Served>), NoMemory>
         requires events { self.old.traffic.event < 2 ^ 48 }
-        requires last { IsLast (S.sees self.old.service) self.old.traffic connection after }
+        requires there { IsSomewhere (S.sees self.old.service) self.old.traffic }
         requires few { (S.state self.old.service).calls + 2 < 2 ^ 48 }
         requires may { MayCrash (S.state self.old.service) pick }
-        ensures { IfOk result (λ made. MakesWhere (InOrderUnder connection after) (S.sees self.old.service) self.old.traffic (S.sees self.new.service) self.new.traffic (Event.Crash connection after pick) made.0 (option_to_list made.1)) }
+        ensures { IfOk result (λ made. Makes (S.sees self.old.service) self.old.traffic (S.sees self.new.service) self.new.traffic (Event.Crash connection after pick) made.0 (option_to_list made.1)) }
     {
         orderly_is_kept();
         if !self.service.is_up() {
@@ -57,7 +57,7 @@ impl<S: Service + Drop> Ground<S> {
         after: u64,
     ) -> Result<Option<Served>, NoMemory>
         requires events { self.old.traffic.event < 2 ^ 48 }
-        requires last { IsLast (S.sees self.old.service) self.old.traffic connection after }
+        requires there { IsSomewhere (S.sees self.old.service) self.old.traffic }
         requires few { (S.state self.old.service).calls + 2 < 2 ^ 48 }
         requires up { (S.state self.old.service).is_up ≡ true }
         ensures { IfOk result (λ served. LeadsLast (S.sees self.old.service) self.old.traffic (S.sees self.new.service) (S.leaves self.new.service) self.new.traffic connection after (option_to_list served)) }

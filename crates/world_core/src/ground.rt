@@ -2,7 +2,7 @@
 ghost use Rattle.std.specs.Prelude.{◌≡◌, ◌<◌, ◌^◌, false, true, [], IfOk, option_to_list};
 ghost use Rattle.server_model.specs.ServiceCalls.{MayForget};
 ghost use Rattle.world_core.specs.Underway.{AreClosable};
-ghost use Rattle.world_core.specs.Making.{Makes, MakesInOrder, IsInOrder, IsSomewhere};
+ghost use Rattle.world_core.specs.Making.{Makes, IsSomewhere};
 
 use crate::answering::frame_name;
 use crate::traffic::Traffic;
@@ -55,8 +55,8 @@ impl<S: Service + Drop> Ground<S> {
         requires events { self.old.traffic.event < 2 ^ 48 }
         requires live { (S.state self.old.service).is_spent ≡ false }
         requires few { (S.state self.old.service).calls < 2 ^ 48 }
-        requires in_order { IsInOrder (S.sees self.old.service) self.old.traffic connection }
-        ensures { IfOk result (λ made. MakesInOrder (S.sees self.old.service) self.old.traffic (S.sees self.new.service) self.new.traffic connection (Event.Serve connection) made.0 (option_to_list made.1)) }
+        requires there { IsSomewhere (S.sees self.old.service) self.old.traffic }
+        ensures { IfOk result (λ made. Makes (S.sees self.old.service) self.old.traffic (S.sees self.new.service) self.new.traffic (Event.Serve connection) made.0 (option_to_list made.1)) }
     {
         compares_exactly();
         orderly_is_kept();

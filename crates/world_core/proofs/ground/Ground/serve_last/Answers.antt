@@ -7,8 +7,8 @@ use Rattle.service_calls.specs.Kept.{Goes}
 use Rattle.world_model.specs.Serving.{front_at}
 use Rattle.world_core.specs.Underway.{FrontOf}
 use Rattle.world_core.proofs.Coupling.{begun}
-use Rattle.world_core.proofs.ServedFrames.{lives_there, frame_made, made_there}
-use Rattle.world_core.proofs.Lasting.{leads_none, leads_answered, leads_stopped, set_coupled, set_in_order}
+use Rattle.world_core.proofs.ServedFrames.{lives_there, frame_made}
+use Rattle.world_core.proofs.Lasting.{leads_none, leads_answered, leads_stopped, set_coupled}
 use Rattle.world_core.proofs.ground.Ground.serve_last.Goals as goal
 
 pub returns-in_default : goal.returns-in_default
@@ -19,29 +19,19 @@ returns-in_default g c = leads_none (g.S.Service.sees c.args.self.now.service) (
 
 pub serve-requires-clause-lives : goal.serve-requires-clause-lives
 serve-requires-clause-lives g c =
-    let seen = c.requires.last.0 in
-    let t = c.requires.last.1.0 in
+    let seen = c.requires.there.0 in
+    let t = c.requires.there.1.0 in
     let m = t.machine in
-    let is = c.requires.last.1.1.0 in
+    let is = c.requires.there.1.1 in
     let set = c.stop_after.ensures.stop seen is.seen_so in
     lives_there (g.S.Service.state c.stop_after.new.self) set.0 t c.args.connection c.in-Some.frame c.first_up.new.self (g.met.S.Service.honest c.stop_after.new.self set.0 set.1.0).state_is (set_coupled seen set.0 t c.args.after set.1.1 is.coupled)
     (subst (λ frame. FrontOf (begun m) c.args.connection (front_at m.links c.args.connection) frame c.first_up.new.self) c.in-Some.is (c.in_ok-first.ensures _ (c.begin.ensures.begun m is.underway)))
 
 pub serve-requires-clause-made : goal.serve-requires-clause-made
 serve-requires-clause-made g c =
-    let m = c.requires.last.1.0.machine in
-    let is = c.requires.last.1.1.0 in
+    let m = c.requires.there.1.0.machine in
+    let is = c.requires.there.1.1 in
     frame_made m c.args.connection c.in-Some.frame c.args.self.now.traffic c.first_up.new.self is.underway (subst (λ frame. FrontOf (begun m) c.args.connection (front_at m.links c.args.connection) frame c.first_up.new.self) c.in-Some.is (c.in_ok-first.ensures _ (c.begin.ensures.begun m is.underway)))
-
-pub answer-requires : goal.answer-requires
-answer-requires g c =
-    let seen = c.requires.last.0 in
-    let t = c.requires.last.1.0 in
-    let is = c.requires.last.1.1.0 in
-    let set = c.stop_after.ensures.stop seen is.seen_so in
-    made_there (g.S.Service.sees c.stop_after.new.self) (g.S.Service.sees c.serve.new.self) (g.S.Service.leaves c.serve.new.self) c.args.self.now.traffic c.first_up.new.self c.args.connection c.in-Some.frame c.in-Ok.reply set.0 t set.1.0 is.underway
-    (set_in_order seen set.0 t c.args.connection c.args.after set.1.1 c.requires.last.1.1.1) (λ seen sees. (g.met.S.Service.honest c.serve.new.self seen sees).history) c.in-Ok.ensures.served
-    (λ m is. subst (λ frame. FrontOf (begun m) c.args.connection (front_at m.links c.args.connection) frame c.first_up.new.self) c.in-Some.is (c.in_ok-first.ensures _ (c.begin.ensures.begun m is)))
 
 pub returns-in_ok-served-in-Ok : goal.returns-in_ok-served-in-Ok
 returns-in_ok-served-in-Ok g c = leads_answered (g.S.Service.sees c.args.self.now.service) (g.S.Service.sees c.stop_after.new.self) (g.S.Service.sees c.serve.new.self) (g.S.Service.leaves c.serve.new.self) c.args.self.now.traffic c.first_up.new.self c.answer.new.self c.args.connection c.args.after c.in-Some.frame c.in-Ok.reply c.in_ok-served-in-Ok.served c.compares_exactly.ensures.exact

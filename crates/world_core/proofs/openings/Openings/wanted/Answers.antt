@@ -1,4 +1,4 @@
-use Rattle.std.proofs.Common.{◌≡◌, ◌∙◌, sym, ap}
+use Rattle.std.proofs.Common.{◌∙◌, ap}
 use Rattle.world_core.specs.Forgetting.{Held}
 use Rattle.world_core.proofs.Forgetting.{wanted_is}
 use Rattle.world_core.proofs.openings.Openings.wanted.Goals as goal

@@ -1,5 +1,5 @@
 -- A frame that is served in order, as the plain server serves it.
-use Rattle.std.specs.Prelude.{◌≡◌, ◌+◌, ℕ, Bool, true, false, cond, List, Option, Some, None, IfSome}
+use Rattle.std.specs.Prelude.{◌+◌, ℕ, Bool, false, cond, List, Option, Some, None}
 use Rattle.svc_values.specs.declared.answer.Answer.{Answer}
 use Rattle.svc_values.specs.declared.call.Call.{Call}
 use Rattle.svc_values.specs.declared.draw.Draw.{Draw}
@@ -11,14 +11,12 @@ use Rattle.svc_values.specs.declared.frame.Up.TheVariants as up
 use Rattle.svc_values.specs.declared.frame.Down.{Down}
 use Rattle.svc_values.specs.declared.frame.Down.TheVariants as down
 use Rattle.svc_values.specs.Endings.{ends_committed}
-use Rattle.canon_bytes.specs.DownBytes.{IsMadeDown}
 use Rattle.outage_schedule.specs.declared.note.AskResult.{AskResult}
 use Rattle.server_model.specs.Outcomes.{telling_of}
 use Rattle.server_model.specs.Seen.{Store, Seen, IsHistory}
 use Rattle.server_model.specs.ServiceCalls.{ServedOne}
-use Rattle.world_model.specs.Serving.{Front, front_at, identifier, outcome_frame}
+use Rattle.world_model.specs.Serving.{Front, identifier, outcome_frame}
 use Rattle.world_model.specs.Traced.{Traced}
-use Rattle.world_model.specs.Coupled.{entries_in}
 
 -- What a session that has answered so many commits answers to a frame: an identifier that comes with it has the number of them
 -- behind the frame.
@@ -44,18 +42,7 @@ no_store store = ⊥
 abbrev pub ServedWith : Seen → ℕ → ℕ → Up → Option Down → Seen → Type 0
 ServedWith old number now frame reply new = ServedOne old number now frame (telling_of reply) no_store new
 
--- A frame was answered as the plain server answers one in order. Behind an answered commit the store has an entry of the session more
--- than it has answered commits before.
-pub record IsAnswered (session : SessionId) (commits : ℕ) (frame : Up) (reply : Option Down) (new : Seen) : Type 0 where
-  pub answers : Answers session commits frame reply
-  pub made : IfSome reply IsMadeDown
-  pub stored : commits_in reply ≡ true → entries_in new.state.store.entries session ≡ commits + 1
-
--- whatever the frame in front is answered, it is in order
+-- whatever the frame in front is answered, it is as the plain server answers one in order
 abbrev pub AnswersInOrder : Seen → Traced → ℕ → Front → Type 0
 AnswersInOrder seen t number front =
-    (reply : Option Down) (new : Seen) → IsHistory new → (served : ServedWith seen number t.machine.tick front.first.frame reply new) → IsAnswered served.session front.link.commits front.first.frame reply new
-
--- where a frame may be served on the connection of this number, it is answered so
-abbrev pub InOrder : Seen → Traced → ℕ → Type 0
-InOrder seen t number = (front : Front) → front_at t.machine.links number ≡ Some front → AnswersInOrder seen t number front
+    (reply : Option Down) (new : Seen) → IsHistory new → (served : ServedWith seen number t.machine.tick front.first.frame reply new) → Answers served.session front.link.commits front.first.frame reply
