@@ -58,7 +58,7 @@ found_passes test keep (entry ∷ entries) one is all =
     by false here is passes later = later is
 
 -- an entry is one of those of its session
-entry_counts : (entries : List Entry) (x : Ltxid) (completed : Bool) → option_map_or (same_bool completed) (completed_of entries x) false ≡ true → numbered_after [] entries ≡ true → x.number < entries_of entries (session_of x)
+pub entry_counts : (entries : List Entry) (x : Ltxid) (completed : Bool) → option_map_or (same_bool completed) (completed_of entries x) false ≡ true → numbered_after [] entries ≡ true → x.number < entries_of entries (session_of x)
 entry_counts entries x completed here numbered = by (find (λ entry. same_ltxid entry.ltxid x) entries) refl here
   where
     by : (found : Option Entry) → find (λ entry. same_ltxid entry.ltxid x) entries ≡ found → option_map_or (same_bool completed) (option_map (λ entry. entry.completed) found) false ≡ true → x.number < entries_of entries (session_of x)
@@ -110,22 +110,21 @@ lost_accounts t course here =
     by (Some link) one = settled_accounts t course link (and_parts (not link.is_open) (is_settled t course link) one).1
 
 module _ (t : Traced) (named : are_named t ≡ true) (numbers : Number t) where
-  -- a session whose identifier was committed is one ahead of what is held, and no further commit may be served
-  is_ahead_now : (number : ℕ) (link : Link) (x : Ltxid) → link_at t.machine.links number ≡ Some link → link.held ≡ Some x → x.number < entries_of t.entries (session_of x) → ((number_of t.entries link == held_number link + 1) && nothing_left link) ≡ true
-  is_ahead_now number link x there held below = and_from (number_of t.entries link == held_number link + 1) (nothing_left link) one left
-    where
-      one : (number_of t.entries link == held_number link + 1) ≡ true
-      one =
-          let named_one : is_named link ≡ true = at_link is_named t.machine.links number link named there in
-          let near : IsNear t x = held_near t link x x held ((same_ltxid_decides x x).1 refl) named_one (at_link (is_near t) t.machine.links number link numbers.near there) in
-          let count : number_of t.entries link ≡ entries_of t.entries (session_of x) = held_count t link x held named_one in
-          let number_is : held_number link ≡ x.number = ap (λ (o : Option Ltxid). option_map_or (λ y. y.number) o 0) held in
-          eq_to (number_of t.entries link) (held_number link + 1) (omega (arith, count, number_is, near.most, below))
+  -- a session whose identifier was committed is one ahead of what is held
+  pub one_ahead : (number : ℕ) (link : Link) (x : Ltxid) → link_at t.machine.links number ≡ Some link → link.held ≡ Some x → x.number < entries_of t.entries (session_of x) → is_ahead t link ≡ true
+  one_ahead number link x there held below =
+      let named_one : is_named link ≡ true = at_link is_named t.machine.links number link named there in
+      let near : IsNear t x = held_near t link x x held ((same_ltxid_decides x x).1 refl) named_one (at_link (is_near t) t.machine.links number link numbers.near there) in
+      let count : number_of t.entries link ≡ entries_of t.entries (session_of x) = held_count t link x held named_one in
+      let number_is : held_number link ≡ x.number = ap (λ (o : Option Ltxid). option_map_or (λ y. y.number) o 0) held in
+      eq_to (number_of t.entries link) (held_number link + 1) (omega (arith, count, number_is, near.most, below))
 
-      left : nothing_left link ≡ true
-      left =
-          let ahead = implied (is_ahead t link) (is_out link && (last_served_made link && not (list_any is_commit_call link.up))) one (at_link (ahead_rightly t) t.machine.links number link numbers.ahead there) in
-          (and_parts (last_served_made link) (not (list_any is_commit_call link.up)) (and_parts (is_out link) _ ahead).1).1
+  -- and no further commit may be served
+  is_ahead_now : (number : ℕ) (link : Link) (x : Ltxid) → link_at t.machine.links number ≡ Some link → link.held ≡ Some x → x.number < entries_of t.entries (session_of x) → ((number_of t.entries link == held_number link + 1) && nothing_left link) ≡ true
+  is_ahead_now number link x there held below =
+      let one : is_ahead t link ≡ true = one_ahead number link x there held below in
+      let ahead = implied (is_ahead t link) (is_out link && (last_served_made link && not (list_any is_commit_call link.up))) one (at_link (ahead_rightly t) t.machine.links number link numbers.ahead there) in
+      and_from (number_of t.entries link == held_number link + 1) (nothing_left link) one (and_parts (last_served_made link) (not (list_any is_commit_call link.up)) (and_parts (is_out link) _ ahead).1).1
 
   module _ (course : Course) (stand : list_all (outcome_stands t) course.report.outcomes ≡ true) (number : ℕ) (link : Link) (there : link_at t.machine.links number ≡ Some link) where
     -- one whose outcome was taken is blocked, or its entry is stored

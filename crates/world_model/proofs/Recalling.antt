@@ -35,7 +35,7 @@ get_further [] more index x is = absurd (let none : ⊥ = cc in none)
 get_further (y ∷ ys) more zero x is = is
 get_further (y ∷ ys) more (suc index) x is = get_further ys more index x is
 
-get_last : {A : Type 0} (xs : List A) (x : A) → slice_get (xs ++ x ∷ []) (length xs) ≡ Some x
+pub get_last : {A : Type 0} (xs : List A) (x : A) → slice_get (xs ++ x ∷ []) (length xs) ≡ Some x
 get_last [] x = refl
 get_last (y ∷ ys) x = get_last ys x
 

@@ -116,6 +116,15 @@ module _ (setting : Setting) (m : Machine) (talks : AllTalk setting.terms m.clie
       subst (λ (after : List Shown). ShownStep account_before.shown after one.done.act.shown) (sym heard_shown)
       (subst (λ (before : List Shown). ShownStep before heard.shown one.done.act.shown) (hears_same setting.terms account_before one.done.input one.done.now one.done.act.shown).shown (shown_by a one.done.act.shown))
 
+  -- one that is a call of the request is one more
+  pub shown_more : (shown : Shown) (call : Call) → one.done.act.shown ≡ Some shown → slice_get calls_are (length account_before.shown) ≡ Some call → account_first.shown ≡ account_before.shown ++ shown ∷ []
+  shown_more shown call is at =
+      let a : Account = hears setting.terms account_before one.done.input one.done.now one.done.act.shown in
+      let same : a.shown ≡ account_before.shown = (hears_same setting.terms account_before one.done.input one.done.now one.done.act.shown).shown in
+      heard_shown
+      ∙ (ap (λ (some : Option Shown). (shows setting.terms calls_are a some).shown) is
+      ∙ (ap (λ (found : Option Call). (shows_found setting.terms a shown found).shown) (ap (λ (all : List Shown). slice_get calls_are (length all)) same ∙ at) ∙ ap (λ (all : List Shown). all ++ shown ∷ []) same))
+
   -- the loss shows nothing
   pub shown_after : (account_now setting.terms step.after).shown ≡ account_first.shown
   shown_after = by step.goes_on

@@ -9,7 +9,7 @@ ghost use Rattle.world_model.specs.Script.{are_conversations, are_kept, all_sent
 ghost use Rattle.world_model.specs.Hold.{are_had, are_queued, are_held, are_idle, slots_held, are_opened, are_by_held};
 ghost use Rattle.world_model.specs.Number.{are_near, are_counted as are_numbered, are_told, are_served_near, are_ahead, blocks_next, entries_numbered, known_so_far, none_blocked};
 ghost use Rattle.world_model.specs.Shown.{are_given, in_rows, lose_own, answers_stand, outcomes_stand};
-ghost use Rattle.world_model.specs.Lost.{stay_gone, are_lost, are_pending, want_lost, want_next, outcomes_lost, go_unasked, ask_rightly, leave_none, fail_incomplete, have_events};
+ghost use Rattle.world_model.specs.Lost.{stay_gone, are_lost, are_pending, want_lost, want_next, outcomes_lost, go_unasked, ask_rightly, leave_none, fail_incomplete, are_told as tell_rightly, have_events};
 ghost use Rattle.world_model.specs.Once.{on_links};
 ghost use Rattle.world_model.specs.RunLaws.{RunsAreFollowed, RunsAreOrderly};
 ghost use Rattle.world_model.specs.Basic.{have_risen, kept_ticks, items_rise, items_differ, is_down, are_ended, sessions_differ, are_made, are_counted, are_named, living_now, commits_counted, lives};
@@ -301,6 +301,12 @@ pub fn ended_requests_leave_no_call()
 /// An outcome that a request took, and that says committed and not completed, is what it failed with, if the whole invariant held before.
 pub fn incomplete_outcomes_fail()
     ensures { IsKeptOfAll fail_incomplete }
+{}
+
+/// An outcome that a request took, and that says committed, was acted on, if the whole invariant held before. Where it says completed, the
+/// call that was sent under its identifier was shown as committed; where it does not, it is what the request failed with.
+pub fn committed_outcomes_are_told()
+    ensures { IsKeptOfAll tell_rightly }
 {}
 
 /// An error that tells of an event tells of that which ended the connection whose identifier was asked last, if the whole invariant held
