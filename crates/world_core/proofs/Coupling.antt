@@ -1,6 +1,6 @@
 -- What machine and service have in common, behind an event that the service has no part in.
-use Rattle.std.proofs.Common.{◌≡◌, ℕ, zero, suc, ◌+◌, Bool, true, false, List, [], ◌∷◌, Option, Some, None, map, refl, sym, ap, ◌∙◌, subst, eq-eqb}
-use Rattle.std.specs.Prelude.{slice_get, slice_set, option_map, option_and_then, All, if◌then◌else◌}
+use Rattle.std.proofs.Common.{◌≡◌, ◌≤◌, arith, ℕ, zero, suc, ◌+◌, Bool, true, false, List, [], ◌∷◌, Option, Some, None, map, refl, sym, ap, ◌∙◌, subst, eq-eqb}
+use Rattle.std.specs.Prelude.{◌*◌, slice_get, slice_set, option_map, option_and_then, All, if◌then◌else◌}
 use Rattle.std.proofs.lemmas.List.{append-nil}
 use Rattle.std.proofs.lemmas.List.Elements.{All-nil}
 use Rattle.svc_values.specs.declared.entry.SessionId.{SessionId}
@@ -26,6 +26,7 @@ use Rattle.world_model.specs.ServiceDid.{ServiceDid}
 use Rattle.world_model.specs.Coupled.{living_of, HasStored, life_of, HasLived, IsLater, SameServer, Coupled}
 use Rattle.world_model.specs.KeptLaws.{OrderlyIsKept}
 use Rattle.world_model.specs.OneEvent.{OneEvent, session_outside, drawn_outside}
+use Rattle.world_model.proofs.Offered.{opens_once, ticks_once}
 use Rattle.world_core.specs.declared.traffic.Traffic.{Traffic}
 use Rattle.world_core.specs.Underway.{IsUnderway, Leads}
 use Rattle.world_core.specs.Making.{IsReady, IsAt, Made, Makes}
@@ -148,16 +149,47 @@ one_alone seen t event note m coupled follows did none_outside none_drawn server
 abbrev pub begun : Machine → Machine
 begun m = record m { event = m.event + 1 }
 
+-- at most four calls more
+most_calls : (old new event next : ℕ) → old ≤ 4 * event + 4 → new ≤ old + 4 → next ≡ event + 1 → new ≤ 4 * next + 4
+most_calls old new event next most more is = omega (arith, most, more, is)
+
+most_ticks : (old new event next : ℕ) → old ≤ event → new ≤ old + 1 → next ≡ event + 1 → new ≤ next
+most_ticks old new event next most more is = omega (arith, most, more, is)
+
+same_calls : (n : ℕ) → n ≤ n + 4
+same_calls n = omega arith
+
+pub one_call : (old new : ℕ) → new ≡ old + 1 → new ≤ old + 4
+one_call old new is = omega (arith, is)
+
 -- the event was made, and what was orderly still is
 pub made : OrderlyIsKept → (sees sees_later : Seen → Type 0) (before after : Traffic) (event : Event) (note : Note) (items : List Served) (seen new : Seen) (t later : Traced) → IsAt sees before seen t
-    → OneEvent seen t event note items [] new later → sees_later new → IsReady new.state → IsUnderway after later.machine → Made seen t sees_later after event note items
-made kept sees sees_later before after event note items seen new t later is one seen_so ready underway =
-    (new, (later, (one, record { seen_so = seen_so; ready = ready; coupled = one.coupled_after; underway = underway; orderly = kept.at_event seen new t later event note items [] one is.orderly })))
+    → OneEvent seen t event note items [] new later → sees_later new → IsReady new.state → new.state.calls ≤ seen.state.calls + 4 → IsUnderway after later.machine → Made seen t sees_later after event note items
+made kept sees sees_later before after event note items seen new t later is one seen_so ready few underway =
+    let next = (opens_once t.setting t.machine later.machine event note items [] one.follows).0 in
+    let clock = ticks_once t.setting t.machine later.machine event note items [] one.follows in (
+      new,
+      (
+        later,
+        (
+          one,
+          record {
+            seen_so = seen_so;
+            ready = ready;
+            coupled = one.coupled_after;
+            underway = underway;
+            orderly = kept.at_event seen new t later event note items [] one is.orderly;
+            calls = most_calls seen.state.calls new.state.calls t.machine.event later.machine.event is.calls few next;
+            ticks = most_ticks t.machine.tick later.machine.tick t.machine.event later.machine.event is.ticks clock next;
+          },
+        ),
+      ),
+    )
 
 -- the same, where the service had no part in it
 pub made_alone : OrderlyIsKept → (sees : Seen → Type 0) (before after : Traffic) (event : Event) (note : Note) (seen : Seen) (t : Traced) (m : Machine) → IsAt sees before seen t
     → OneEvent seen t event note [] [] seen (moved t m) → IsUnderway after m → Made seen t sees after event note []
-made_alone kept sees before after event note seen t m is one underway = made kept sees sees before after event note [] seen seen t (moved t m) is one is.seen_so is.ready underway
+made_alone kept sees before after event note seen t m is one underway = made kept sees sees before after event note [] seen seen t (moved t m) is one is.seen_so is.ready (same_calls seen.state.calls) underway
 
 -- TICKS -------------------------------------------------------------------------------------------
 

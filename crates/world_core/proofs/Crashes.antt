@@ -1,6 +1,6 @@
 -- A crash, behind the frame that was served last.
 use Rattle.std.proofs.Common.{◌≡◌, ◌<◌, ◌≤◌, ℕ, zero, suc, ◌+◌, Bool, true, false, List, [], ◌∷◌, ◌++◌, Option, Some, None, map, refl, sym, ap, ◌∙◌, subst, arith, eq-eqb, inl, inr}
-use Rattle.std.specs.Prelude.{slice_get, fold, option_map, if◌then◌else◌}
+use Rattle.std.specs.Prelude.{◌^◌, slice_get, fold, option_map, if◌then◌else◌}
 use Rattle.std.proofs.lemmas.List.{append-nil}
 use Rattle.outage_schedule.specs.declared.event.Event.TheVariants as event
 use Rattle.outage_schedule.specs.declared.note.Note.TheVariants as note
@@ -31,6 +31,7 @@ use Rattle.world_core.specs.Stopping.{ServedLast, LeadsLast}
 use Rattle.world_core.proofs.Living.{none_lived}
 use Rattle.world_core.proofs.Coupling.{begun, one_alone, made, made_alone}
 use Rattle.world_core.proofs.Opening.{any_server}
+use Rattle.world_core.proofs.Readiness.{up_not_opened}
 
 -- the server is down
 pub crashes_none : OrderlyIsKept → (sees : Seen → Type 0) (before after : Traffic) (number calls pick : ℕ) → ((seen : Seen) → sees seen → seen.state.is_up ≡ false) → ((m : Machine) → IsUnderway before m → IsUnderway after (begun m))
@@ -152,6 +153,9 @@ module _ (seen between new : Seen) (t : Traced) (number calls pick : ℕ) (items
     outside_draws = sym (append-nil t.outside_draws);
   }
 
+more_calls : (old between new : ℕ) → between ≤ old + 2 → new ≡ between + 1 → new ≤ old + 4
+more_calls old between new most is = omega (arith, most, is)
+
 pub crashes_served : OrderlyIsKept → (sees sees_between sees_later : Seen → Type 0) (leaves : Store → Type 0) (before between after : Traffic) (number calls pick : ℕ) (items : List Served)
     → ((seen : Seen) → sees seen → seen.state.is_up ≡ true)
     → ((seen : Seen) → sees_later seen → IsHistory seen)
@@ -170,14 +174,25 @@ crashes_served kept sees sees_between sees_later leaves before between after num
     let fallen = falls (is_failover pick) m in
     made kept sees sees_later before after (event.Crash number calls pick) (note.Crash number false) items seen new t (traced_behind t fallen new) is
     (crash_event seen led.0 new t number calls pick items leaves m is.coupled (up seen is.seen_so) (honest new fell.1.0) last crashed (remains new fell.1.0)) fell.1.0
-    (record { live = crashed.is_spent; quiet = crashed.is_quiet ∙ last.ready.1 ∙ is.ready.quiet; unstopped = crashed.stop.0; settled = λ down. crashed.down.1 })
+    (record { live = crashed.is_spent; quiet = crashed.is_quiet ∙ last.ready.1 ∙ is.ready.quiet; unstopped = crashed.stop.0; opened = up_not_opened new.state crashed.down.0; settled = λ down. crashed.down.1 }) (more_calls seen.state.calls led.0.state.calls new.state.calls last.ready.3 crashed.calls)
     (any_server after (record m { links = map (fallen_link m.event) m.links; pool = fold after_gone m.pool (open_from 1 m.links) }) fallen.server (goes m led.1.1.1.1))
 
--- behind the frame that is served last the service may be crashed, as it might before
-pub may_fall : (sees sees_between : Seen → Type 0) (leaves : Store → Type 0) (before between : Traffic) (number calls : ℕ) (items : List Served) (old new : ServiceState) → IsSomewhere sees before
-    → LeadsLast sees before sees_between leaves between number calls items → ((seen : Seen) → sees seen → seen.state ≡ old) → ((seen : Seen) → sees_between seen → seen.state ≡ new) → (new.is_spent ≡ false) × (new.is_opened ≡ old.is_opened)
-may_fall sees sees_between leaves before between number calls items old new there leads old_is new_is =
-    let led = leads there.0 there.1.0 there.1.1 in
+-- what a service that is up is like behind the frame that is served last: it may be crashed, with any pick
+pub record MayFall (old new : ServiceState) : Type 0 where
+  pub live : new.is_spent ≡ false
+  pub few : new.calls ≤ old.calls + 2
+  pub opened : new.is_opened ≡ true
+
+pub few_between : (old new : ℕ) → new ≤ old + 2 → old + 2 < 2 ^ 48 → new < 2 ^ 48
+few_between old new most few = omega (arith, most, few)
+
+pub may_fall : (sees sees_between : Seen → Type 0) (leaves : Store → Type 0) (before between : Traffic) (number calls : ℕ) (items : List Served) (old new : ServiceState) → IsSomewhere sees before → old.is_up ≡ true
+    → LeadsLast sees before sees_between leaves between number calls items → ((seen : Seen) → sees seen → seen.state ≡ old) → ((seen : Seen) → sees_between seen → seen.state ≡ new) → MayFall old new
+may_fall sees sees_between leaves before between number calls items old new there up leads old_is new_is =
+    let seen = there.0 in
+    let is = there.1.1 in
+    let led = leads seen there.1.0 is in
     let ready = led.1.1.1.0.ready in
-    let is = sym (new_is led.0 led.1.1.0) in
-    (ap (λ (s : ServiceState). s.is_spent) is ∙ ready.0, ap (λ (s : ServiceState). s.is_opened) is ∙ ready.2 ∙ ap (λ (s : ServiceState). s.is_opened) (old_is there.0 there.1.1.seen_so))
+    let was = old_is seen is.seen_so in
+    let opened = is.ready.opened (ap (λ (s : ServiceState). s.is_up) was ∙ up) in
+    subst (λ (s : ServiceState). MayFall old s) (new_is led.0 led.1.1.0) (subst (λ (s : ServiceState). MayFall s led.0.state) was (record { live = ready.0; few = ready.3; opened = ready.2 ∙ opened }))

@@ -1,24 +1,26 @@
 -- A Close is sent on each of some connections, all of them open.
-use Rattle.std.proofs.Common.{◌≡◌, ℕ, ◌==◌, Bool, true, false, List, [], ◌∷◌, ◌++◌, ◌+◌, Option, Some, None, length, refl, sym, ap, ◌∙◌, subst, eq-eqb}
-use Rattle.std.specs.Prelude.{◌||◌, if◌then◌else◌}
+use Rattle.std.proofs.Common.{◌≡◌, ℕ, zero, suc, ◌==◌, Bool, true, false, List, [], ◌∷◌, ◌++◌, ◌+◌, Option, Some, None, length, refl, sym, ap, ◌∙◌, subst, eq-eqb, inr}
+use Rattle.std.specs.Prelude.{◌||◌, slice_get, is_none, if◌then◌else◌}
 use Rattle.std.specs.Option.{option_map_or}
 use Rattle.outage_schedule.specs.declared.event.Event.TheVariants as event
 use Rattle.outage_schedule.specs.declared.note.Note.TheVariants as note
 use Rattle.server_model.specs.Seen.{Seen}
 use Rattle.world_model.specs.Noting.{only_if}
 use Rattle.world_model.specs.Walking.{follow}
+use Rattle.svc_values.specs.declared.frame.Up.{Up}
 use Rattle.svc_values.specs.declared.frame.Up.TheVariants as up
 use Rattle.pool_core.specs.Slots.{Slots, is_among, after_drain}
 use Rattle.world_model.specs.Links.{Link, link_at, with_link, changed, sends}
 use Rattle.world_model.specs.KeptLaws.{OrderlyIsKept}
 use Rattle.world_model.specs.Machines.{Machine}
 use Rattle.world_model.specs.Outside.{closed_by_drain, drained, follow_drain}
+use Rattle.world_model.proofs.Offered.{AreOpenOnce, idle_open_once}
 use Rattle.world_core.specs.declared.connection.Connection.{Connection}
 use Rattle.world_core.specs.declared.connections.Connections.{Connections}
 use Rattle.world_core.specs.declared.traffic.Traffic.{Traffic}
-use Rattle.world_core.specs.Linked.{Stand, MaySend, connection_at}
+use Rattle.world_core.specs.Linked.{AreLinks, Stand, MaySend, connection_at}
 use Rattle.world_core.specs.Underway.{AreClosable, all_closed, IsUnderway, Leads}
-use Rattle.world_core.specs.Making.{Makes}
+use Rattle.world_core.specs.Making.{Makes, IsSomewhere}
 use Rattle.world_core.proofs.Underway.{changed_kept}
 use Rattle.world_core.proofs.Coupling.{views, view, view_with, begun, one_alone, made_alone}
 
@@ -56,6 +58,31 @@ drain_leads held after m pool idle closed is drains was count closes =
     let followed : follow_drain m closed ≡ Some (drained m) = rw (eq-eqb closed (length m.pool.idle) counted) refl in
     let begun : IsUnderway (record held { pool = pool }) (record m { pool = after_drain m.pool }) = record { event = is.event; tick = is.tick; links = is.links; pool = ap after_drain is.pool ∙ sym drains; opened = is.opened } in
     (drained m, (followed, subst (λ numbers. IsUnderway after (record m { links = all_closed m.event m.links numbers; pool = after_drain m.pool })) among (closes (record m { pool = after_drain m.pool }) begun)))
+
+-- what a drain asks for is given by what is orderly
+none_ended : (ended : Option ℕ) → is_none ended ≡ true → ended ≡ None
+none_ended None is = refl
+none_ended (Some event) is = absurd (let nothing : ⊥ = cc in nothing)
+
+open_from : (all : List Connection) (links : List Link) (index : ℕ) (frames : List Up) → AreLinks all links → ((link : Link) → slice_get links index ≡ Some link → link.is_open ≡ true) → MaySend (slice_get all index) frames
+open_from [] links index frames are opens = tt
+open_from (one ∷ all) [] index frames are opens = absurd are
+open_from (one ∷ all) (link ∷ links) zero frames are opens = inr (none_ended one.ended (sym are.0.is_open ∙ opens link refl))
+open_from (one ∷ all) (link ∷ links) (suc index) frames are opens = open_from all links index frames are.1 opens
+
+open_there : (all : List Connection) (links : List Link) (number : ℕ) (frames : List Up) → AreLinks all links → ((link : Link) → link_at links number ≡ Some link → link.is_open ≡ true) → MaySend (connection_at all number) frames
+open_there all links zero frames are opens = tt
+open_there all links (suc index) frames are opens = open_from all links index frames are opens
+
+all_closable : (all : List Connection) (links : List Link) (numbers : List ℕ) → AreLinks all links → AreOpenOnce links numbers → AreClosable all numbers
+all_closable all links [] are once = tt
+all_closable all links (number ∷ numbers) are once = (open_there all links number (up.Close ∷ []) are once.0, (once.1.0, all_closable all links numbers are once.1.1))
+
+pub closable_there : (sees : Seen → Type 0) (traffic : Traffic) → IsSomewhere sees traffic → AreClosable traffic.connections.all.items traffic.pool.idle
+closable_there sees traffic there =
+    let t = there.1.0 in
+    let is = there.1.1 in
+    subst (λ (pool : Slots). AreClosable traffic.connections.all.items pool.idle) is.underway.pool (all_closable traffic.connections.all.items t.machine.links t.machine.pool.idle is.underway.links (idle_open_once t is.orderly))
 
 -- AT THE SERVICE ----------------------------------------------------------------------------------
 

@@ -20,7 +20,7 @@ use Rattle.world_core.specs.Underway.{IsUnderway}
 use Rattle.world_core.specs.Making.{Makes}
 use Rattle.world_core.proofs.Readiness.{opened_ready}
 use Rattle.world_core.proofs.Living.{same_lived}
-use Rattle.world_core.proofs.Coupling.{moved, begun, one_alone, made, made_alone, none_came, none_asked}
+use Rattle.world_core.proofs.Coupling.{moved, begun, one_alone, one_call, made, made_alone, none_came, none_asked}
 
 -- what is underway knows nothing of the server
 pub any_server : (held : Traffic) (m : Machine) (server : Server) → IsUnderway held m → IsUnderway held (record m { server = server })
@@ -115,5 +115,5 @@ ups_some kept sees sees_later before after horizon incarnation down honest told 
       outside = sym (append-nil t.outside);
       outside_draws = sym (append-nil t.outside_draws);
     } in
-    made kept sees sees_later before after event.Up (note.Up (Some incarnation)) [] seen new t (moved t m) is one gone.1.0 (opened_ready seen new did.keeps is.ready did.is_up.0)
+    made kept sees sees_later before after event.Up (note.Up (Some incarnation)) [] seen new t (moved t m) is one gone.1.0 (opened_ready seen new did.keeps is.ready did.is_up) (one_call seen.state.calls new.state.calls did.keeps.calls)
     (any_server after (begun t.machine) (opened t.machine.server incarnation) (leads t.machine is.underway))

@@ -39,7 +39,7 @@ use Rattle.world_core.specs.Making.{Makes}
 use Rattle.world_core.proofs.Readiness.{stays_ready, up_not_down}
 use Rattle.world_core.proofs.Blocking.{AsksNone, none_blocked, known_blocks, known_same}
 use Rattle.world_core.proofs.Living.{all_apart, life_apart, still_lived}
-use Rattle.world_core.proofs.Coupling.{begun, one_alone, made, made_alone}
+use Rattle.world_core.proofs.Coupling.{begun, one_alone, one_call, made, made_alone}
 use Rattle.world_core.proofs.Opening.{any_server}
 use Rattle.world_core.proofs.Stops.{AreFrom, stops_behind}
 use Rattle.world_core.proofs.Storing.{others_counted, came_of, next_apart}
@@ -264,5 +264,6 @@ outsides_some kept sees sees_later before after calls ran exact up honest goes l
     let did : RanOutside seen calls t.machine.tick ran.ltxid (runs_of ran) new = subst (λ now. RanOutside seen calls now ran.ltxid (runs_of ran) new) (sym later.tick) gone.1.1 in
     let draws = drawn_outside (note.Outside (Some ran)) in
     made kept sees sees_later before after (event.Outside calls) (note.Outside (Some ran)) [] seen new t (traced_behind t new draws) is
-    (outside_event seen new t calls ran exact is.coupled is_up is.orderly.basic.made (honest new gone.1.0) did) gone.1.0 (stays_ready seen new did.keeps is.ready (up_not_down new.state did.others.1))
+    (outside_event seen new t calls ran exact is.coupled is_up is.orderly.basic.made (honest new gone.1.0) did) gone.1.0 (stays_ready seen new did.keeps is.ready (λ up. is_up) (up_not_down new.state did.others.1))
+    (one_call seen.state.calls new.state.calls did.keeps.calls)
     (any_server after (begun t.machine) (outside_server t.machine.server) later)

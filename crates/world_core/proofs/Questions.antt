@@ -32,7 +32,7 @@ use Rattle.world_core.proofs.Readiness.{stays_ready, up_not_down}
 use Rattle.world_core.proofs.Added.{same_frame}
 use Rattle.world_core.proofs.Blocking.{known_blocks, known_asked}
 use Rattle.world_core.proofs.Living.{life_asked, still_lived}
-use Rattle.world_core.proofs.Coupling.{begun, one_alone, made, made_alone, none_came, none_asked}
+use Rattle.world_core.proofs.Coupling.{begun, one_alone, one_call, made, made_alone, none_came, none_asked}
 use Rattle.world_core.proofs.Opening.{any_server}
 use Rattle.world_core.proofs.Stops.{stops_behind}
 
@@ -141,5 +141,6 @@ asks_some kept sees sees_later before after x told exact up honest goes leads se
       outside = sym (append-nil t.outside);
       outside_draws = sym (append-nil t.outside_draws);
     } in
-    made kept sees sees_later before after (event.Ask x) (note.Ask x (Some (result_of told))) [] seen new t (traced_behind t m new) is one gone.1.0 (stays_ready seen new did.keeps is.ready (up_not_down new.state did.others.1))
+    made kept sees sees_later before after (event.Ask x) (note.Ask x (Some (result_of told))) [] seen new t (traced_behind t m new) is one gone.1.0 (stays_ready seen new did.keeps is.ready (λ up. is_up) (up_not_down new.state did.others.1))
+    (one_call seen.state.calls new.state.calls did.keeps.calls)
     (any_server after (begun t.machine) (after_asked t.machine.server x (result_of told)) (leads t.machine is.underway))

@@ -26,7 +26,7 @@ use Rattle.world_core.specs.Stopping.{AreKnown}
 use Rattle.world_core.proofs.Places.{slice_same, slice_other}
 use Rattle.world_core.proofs.Readiness.{store_ready}
 use Rattle.world_core.proofs.Living.{same_lived}
-use Rattle.world_core.proofs.Coupling.{moved, begun, one_alone, made, made_alone, none_came, none_asked}
+use Rattle.world_core.proofs.Coupling.{moved, begun, one_alone, one_call, made, made_alone, none_came, none_asked}
 
 -- ONE OF MANY -------------------------------------------------------------------------------------
 
@@ -177,4 +177,4 @@ reaps_one kept sees sees_later before after number honest goes leads seen t is =
       outside = sym (append-nil t.outside);
       outside_draws = sym (append-nil t.outside_draws);
     } in
-    made kept sees sees_later before after (event.Reap number) (note.Reap number true) [] seen new t (moved t m) is event_made gone.1.0 (store_ready seen new reaped.keeps reaped.keeps_store is.ready) there.0
+    made kept sees sees_later before after (event.Reap number) (note.Reap number true) [] seen new t (moved t m) is event_made gone.1.0 (store_ready seen new reaped.keeps reaped.keeps_store is.ready) (one_call seen.state.calls new.state.calls reaped.keeps.calls) there.0

@@ -115,7 +115,7 @@ serves_some kept sees sees_later leaves before between after number frame reply 
         subst (λ f. ServedWith seen number t.machine.tick f reply new) same (subst (λ now. ServedWith seen number now frame reply new) (sym gives.1.tick) (served_with seen new number between.tick frame reply leaves gone.1.1)) in
         let written = writes (taken_off t.machine number front) front (link_same t.machine.links number front.link (record front.link { up = front.later }) at.0) gives.1 in
         let order = serves_in_order exact seen t number front is.orderly is.coupled there in
-        let ready = stays_ready seen new did.keeps is.ready (up_not_down new.state (did.is_up ∙ told_up reply)) in
+        let ready = stays_ready seen new did.keeps is.ready (λ up. sym is.coupled.server.is_up ∙ order.is_up) (up_not_down new.state (did.is_up ∙ told_up reply)) in
         let by_session = served_so exact seen new t number front reply is.coupled there order history did in
         let one = item_now t.machine front did.session reply in
         let is_one : served ≡ one = served_is served m.event did.session one.item written.event (written.session ∙ by_session.session_is) (written.item ∙ ap (λ f. served_item f reply) same) in

@@ -36,7 +36,7 @@ use Rattle.world_core.specs.Answering.{served_item}
 use Rattle.world_core.proofs.InOrder.{ServedWith, commits_in}
 use Rattle.world_core.specs.Underway.{IsUnderway, answered_link}
 use Rattle.world_core.specs.Making.{IsReady, IsAt, Made}
-use Rattle.world_core.proofs.Coupling.{View, view, living_in, living_view, begun, made}
+use Rattle.world_core.proofs.Coupling.{View, view, living_in, living_view, begun, one_call, made}
 use Rattle.world_core.proofs.Added.{entry_added}
 use Rattle.world_core.proofs.Blocking.{known_blocks, known_served}
 use Rattle.world_core.proofs.Living.{life_served, life_apart, life_more, still_lived}
@@ -328,6 +328,6 @@ serves_front kept sees sees_later seen new t number front reply before after exa
       outside = sym (append-nil t.outside);
       outside_draws = sym (append-nil t.outside_draws);
     } in
-    made kept sees sees_later before after (event.Serve number) (note.Serve number (Some (name_of frame))) (served ∷ []) seen new t later is one sees_new ready
+    made kept sees sees_later before after (event.Serve number) (note.Serve number (Some (name_of frame))) (served ∷ []) seen new t later is one sees_new ready (one_call seen.state.calls new.state.calls did.keeps.calls)
     (any_server after (record m { links = with_link t.machine.links number link; pool = pool_after t.machine.pool number served.item }) (server_after t.machine.server served.item)
     (subst (λ (l : Link). IsUnderway after (record m { links = with_link t.machine.links number l; pool = pool_after t.machine.pool number served.item })) same_handled underway))

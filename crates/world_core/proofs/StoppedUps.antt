@@ -24,6 +24,7 @@ use Rattle.world_core.proofs.Living.{same_lived}
 use Rattle.world_core.proofs.Blocking.{known_blocks, known_same}
 use Rattle.world_core.proofs.Coupling.{begun, one_alone, made, made_alone, none_came, none_asked}
 use Rattle.world_core.proofs.Opening.{any_server}
+use Rattle.world_core.proofs.Readiness.{up_not_opened}
 use Rattle.world_core.proofs.Storing.{both, all_at}
 
 -- the server is up
@@ -60,6 +61,7 @@ record Left (old new : Seen) : Type 0 where
   high : new.state.store.incarnation ≤ old.state.store.incarnation + 1
   quiet : new.state.is_quiet ≡ old.state.is_quiet
   per_record : new.state.per_record ≡ old.state.per_record
+  calls : new.state.calls ≡ old.state.calls + 1 + 1 + 1
 
 so_far_near : (old new : Store) (below : ℕ) → HasSoFar old below new → (old.incarnation ≤ new.incarnation) × (new.incarnation ≤ old.incarnation + 1)
 so_far_near old new below (Neither same horizon) = (omega (arith, same), omega (arith, same))
@@ -80,6 +82,7 @@ left_by old between new below after pick leaves one (inl opened) left fell =
       high = let is : new.state.store.incarnation ≡ old.state.store.incarnation + 1 = ap (λ (s : Store). s.incarnation) same ∙ opened.incarnation in omega (arith, is);
       quiet = fell.is_quiet ∙ opened.keeps.is_quiet;
       per_record = same_records old between new pick one opened.keeps.per_record fell;
+      calls = fell.calls ∙ ap (λ (n : ℕ). n + 1) opened.keeps.calls;
     }
 left_by old between new below after pick leaves one (inr stopped) left fell =
     let has = stopped.left new.state.store left in
@@ -92,7 +95,11 @@ left_by old between new below after pick leaves one (inr stopped) left fell =
       high = near.1;
       quiet = fell.is_quiet ∙ stopped.keeps.is_quiet;
       per_record = same_records old between new pick one stopped.keeps.per_record fell;
+      calls = fell.calls ∙ ap (λ (n : ℕ). n + 1) stopped.keeps.calls;
     }
+
+three_calls : (old new : ℕ) → new ≡ old + 1 + 1 + 1 → new ≤ old + 4
+three_calls old new is = omega (arith, is)
 
 -- COUPLED AGAIN -----------------------------------------------------------------------------------
 
@@ -177,5 +184,5 @@ crashes_opening kept sees sees_between sees_later leaves before after horizon ca
       outside_draws = sym (append-nil t.outside_draws);
     } in
     made kept sees sees_later before after (event.UpCrash calls pick) (note.UpCrash true) [] seen new t (traced_behind t new) is event_made fell.1.0
-    (record { live = crashed.is_spent; quiet = left.quiet ∙ is.ready.quiet; unstopped = crashed.stop.0; settled = λ falls. crashed.down.1 })
+    (record { live = crashed.is_spent; quiet = left.quiet ∙ is.ready.quiet; unstopped = crashed.stop.0; opened = up_not_opened new.state crashed.down.0; settled = λ falls. crashed.down.1 }) (three_calls seen.state.calls new.state.calls left.calls)
     (any_server after (begun t.machine) (stopped_server t.machine.server) (leads t.machine is.underway))

@@ -1,5 +1,5 @@
 -- An event of a run without its clients: machine and service go on together.
-use Rattle.std.specs.Prelude.{◌≡◌, true, false, List, [], None}
+use Rattle.std.specs.Prelude.{◌≡◌, ◌+◌, ◌*◌, ◌≤◌, true, false, List, [], None}
 use Rattle.outage_schedule.specs.declared.event.Event.{Event}
 use Rattle.outage_schedule.specs.declared.note.Note.{Note}
 use Rattle.outage_schedule.specs.declared.item.Served.{Served}
@@ -11,20 +11,25 @@ use Rattle.world_model.specs.OneEvent.{OneEvent}
 use Rattle.world_core.specs.declared.traffic.Traffic.{Traffic}
 use Rattle.world_core.specs.Underway.{IsUnderway}
 
--- It may be called, and no call of it is stopped. Where it is down it may be opened.
+-- It may be called, and no call of it is stopped. Where it is up it was opened since its last crash, and where it is down it may be
+-- opened.
 pub record IsReady (state : ServiceState) : Type 0 where
   pub live : state.is_spent ≡ false
   pub quiet : state.is_quiet ≡ true
   pub unstopped : state.stop ≡ None
+  pub opened : state.is_up ≡ true → state.is_opened ≡ true
   pub settled : state.is_up ≡ false → state.is_settled ≡ true
 
--- The service may be seen so, it is ready, this is underway as the machine is, and the machine stands orderly.
+-- The service may be seen so, it is ready, this is underway as the machine is, and the machine stands orderly. An event makes at most
+-- four calls on the service, and passes at most a tick.
 pub record IsAt (sees : Seen → Type 0) (traffic : Traffic) (seen : Seen) (t : Traced) : Type 0 where
   pub seen_so : sees seen
   pub ready : IsReady seen.state
   pub coupled : Coupled seen t
   pub underway : IsUnderway traffic t.machine
   pub orderly : Orderly t
+  pub calls : seen.state.calls ≤ 4 * t.machine.event + 4
+  pub ticks : t.machine.tick ≤ t.machine.event
 
 -- the service and the traffic stand somewhere
 abbrev pub IsSomewhere : (Seen → Type 0) → Traffic → Type 0

@@ -1,5 +1,5 @@
 //! Questions from outside.
-ghost use Rattle.std.specs.Prelude.{◌≡◌, ◌<◌, ◌^◌, false, [], IfOk};
+ghost use Rattle.std.specs.Prelude.{◌<◌, ◌^◌, [], IfOk};
 ghost use Rattle.svc_values.specs.Identifiers.{IsLtxid};
 ghost use Rattle.world_core.specs.Making.{Makes, IsSomewhere};
 
@@ -16,10 +16,8 @@ impl<S: Service + Drop> Ground<S> {
     /// Asks for the outcome of an identifier from outside, where the server is up. One that may still
     /// commit is blocked first.
     pub fn ask(&mut self, alloc: Global, ltxid: Ltxid) -> Result<Note, NoMemory>
-        requires events { self.old.traffic.event < 2 ^ 48 }
+        requires events { self.old.traffic.event < 2 ^ 45 }
         requires there { IsSomewhere (S.sees self.old.service) self.old.traffic }
-        requires live { (S.state self.old.service).is_spent ≡ false }
-        requires few { (S.state self.old.service).calls < 2 ^ 48 }
         requires identifier { IsLtxid ltxid }
         ensures { IfOk result (λ note. Makes (S.sees self.old.service) self.old.traffic (S.sees self.new.service) self.new.traffic (Event.Ask ltxid) note []) }
     {

@@ -1,6 +1,5 @@
 //! Crashes.
-ghost use Rattle.std.specs.Prelude.{◌≡◌, ◌+◌, ◌<◌, ◌^◌, true, IfOk, option_to_list};
-ghost use Rattle.server_model.specs.ServiceCalls.{MayCrash};
+ghost use Rattle.std.specs.Prelude.{◌≡◌, ◌<◌, ◌^◌, true, IfOk, option_to_list};
 ghost use Rattle.world_core.specs.Making.{Makes, IsSomewhere};
 ghost use Rattle.world_core.specs.Stopping.{LeadsLast};
 
@@ -23,10 +22,8 @@ impl<S: Service + Drop> Ground<S> {
         after: u64,
         pick: u8,
     ) -> Result<(Note, Option<Served>), NoMemory>
-        requires events { self.old.traffic.event < 2 ^ 48 }
+        requires events { self.old.traffic.event < 2 ^ 45 }
         requires there { IsSomewhere (S.sees self.old.service) self.old.traffic }
-        requires few { (S.state self.old.service).calls + 2 < 2 ^ 48 }
-        requires may { MayCrash (S.state self.old.service) pick }
         ensures { IfOk result (λ made. Makes (S.sees self.old.service) self.old.traffic (S.sees self.new.service) self.new.traffic (Event.Crash connection after pick) made.0 (option_to_list made.1)) }
     {
         orderly_is_kept();
@@ -56,9 +53,8 @@ impl<S: Service + Drop> Ground<S> {
         connection: u64,
         after: u64,
     ) -> Result<Option<Served>, NoMemory>
-        requires events { self.old.traffic.event < 2 ^ 48 }
+        requires events { self.old.traffic.event < 2 ^ 45 }
         requires there { IsSomewhere (S.sees self.old.service) self.old.traffic }
-        requires few { (S.state self.old.service).calls + 2 < 2 ^ 48 }
         requires up { (S.state self.old.service).is_up ≡ true }
         ensures { IfOk result (λ served. LeadsLast (S.sees self.old.service) self.old.traffic (S.sees self.new.service) (S.leaves self.new.service) self.new.traffic connection after (option_to_list served)) }
     {

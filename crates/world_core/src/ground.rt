@@ -1,7 +1,6 @@
 //! The service of a run, and the traffic to it.
-ghost use Rattle.std.specs.Prelude.{◌≡◌, ◌<◌, ◌^◌, false, true, [], IfOk, option_to_list};
+ghost use Rattle.std.specs.Prelude.{◌≡◌, ◌<◌, ◌^◌, [], IfOk, option_to_list};
 ghost use Rattle.server_model.specs.ServiceCalls.{MayForget};
-ghost use Rattle.world_core.specs.Underway.{AreClosable};
 ghost use Rattle.world_core.specs.Making.{Makes, IsSomewhere};
 
 use crate::answering::frame_name;
@@ -35,8 +34,8 @@ impl<S: Service + Drop> Ground<S> {
 
     /// One tick passes.
     pub fn tick(&mut self) -> Note
-        requires events { self.old.traffic.event < 2 ^ 48 }
-        requires ticks { self.old.traffic.tick < 2 ^ 48 }
+        requires events { self.old.traffic.event < 2 ^ 45 }
+        requires there { IsSomewhere (S.sees self.old.service) self.old.traffic }
         ensures { Makes (S.sees self.old.service) self.old.traffic (S.sees self.new.service) self.new.traffic Event.Tick result [] }
     {
         orderly_is_kept();
@@ -52,9 +51,7 @@ impl<S: Service + Drop> Ground<S> {
         alloc: Global,
         connection: u64,
     ) -> Result<(Note, Option<Served>), NoMemory>
-        requires events { self.old.traffic.event < 2 ^ 48 }
-        requires live { (S.state self.old.service).is_spent ≡ false }
-        requires few { (S.state self.old.service).calls < 2 ^ 48 }
+        requires events { self.old.traffic.event < 2 ^ 45 }
         requires there { IsSomewhere (S.sees self.old.service) self.old.traffic }
         ensures { IfOk result (λ made. Makes (S.sees self.old.service) self.old.traffic (S.sees self.new.service) self.new.traffic (Event.Serve connection) made.0 (option_to_list made.1)) }
     {
@@ -89,7 +86,7 @@ impl<S: Service + Drop> Ground<S> {
     /// Cuts a connection, if it is open: of the bytes on their way the first `up` still reach the
     /// server and the first `down` the client.
     pub fn cut(&mut self, connection: u64, up: u64, down: u64) -> Note
-        requires { self.old.traffic.event < 2 ^ 48 }
+        requires events { self.old.traffic.event < 2 ^ 45 }
         ensures { Makes (S.sees self.old.service) self.old.traffic (S.sees self.new.service) self.new.traffic (Event.Cut connection up down) result [] }
     {
         orderly_is_kept();
@@ -102,9 +99,8 @@ impl<S: Service + Drop> Ground<S> {
 
     /// Ends the session of an orphan, if the connection is one. It takes no memory.
     pub fn reap(&mut self, connection: u64) -> Note
-        requires events { self.old.traffic.event < 2 ^ 48 }
-        requires live { (S.state self.old.service).is_spent ≡ false }
-        requires few { (S.state self.old.service).calls < 2 ^ 48 }
+        requires events { self.old.traffic.event < 2 ^ 45 }
+        requires there { IsSomewhere (S.sees self.old.service) self.old.traffic }
         ensures { Makes (S.sees self.old.service) self.old.traffic (S.sees self.new.service) self.new.traffic (Event.Reap connection) result [] }
     {
         orderly_is_kept();
@@ -125,10 +121,7 @@ impl<S: Service + Drop> Ground<S> {
     /// Opens the store, where the server is down, and forgets the outcomes of all incarnations below
     /// the horizon. The cost is linear in the store.
     pub fn up(&mut self, alloc: Global, horizon: u64) -> Result<Note, NoMemory>
-        requires events { self.old.traffic.event < 2 ^ 48 }
-        requires live { (S.state self.old.service).is_spent ≡ false }
-        requires few { (S.state self.old.service).calls < 2 ^ 48 }
-        requires settled { (S.state self.old.service).is_up ≡ false → (S.state self.old.service).is_settled ≡ true }
+        requires events { self.old.traffic.event < 2 ^ 45 }
         requires there { IsSomewhere (S.sees self.old.service) self.old.traffic }
         requires may { MayForget (S.state self.old.service) horizon }
         ensures { IfOk result (λ note. Makes (S.sees self.old.service) self.old.traffic (S.sees self.new.service) self.new.traffic Event.Up note []) }
@@ -152,8 +145,8 @@ impl<S: Service + Drop> Ground<S> {
     /// Closes the idle connections, and lets the others go once they are given back. Linear in the
     /// idle connections.
     pub fn drain(&mut self) -> Result<Note, NoMemory>
-        requires events { self.old.traffic.event < 2 ^ 48 }
-        requires closable { AreClosable self.old.traffic.connections.all.items self.old.traffic.pool.idle }
+        requires events { self.old.traffic.event < 2 ^ 45 }
+        requires there { IsSomewhere (S.sees self.old.service) self.old.traffic }
         ensures { IfOk result (λ note. Makes (S.sees self.old.service) self.old.traffic (S.sees self.new.service) self.new.traffic Event.Drain note []) }
     {
         orderly_is_kept();

@@ -1,5 +1,5 @@
 //! Calls from outside.
-ghost use Rattle.std.specs.Prelude.{◌≡◌, ◌<◌, ◌^◌, false, [], IfOk};
+ghost use Rattle.std.specs.Prelude.{◌<◌, ◌^◌, [], IfOk};
 ghost use Rattle.std.specs.List.{AllByRecursion};
 ghost use Rattle.svc_values.specs.Calls.{IsMade};
 ghost use Rattle.world_core.specs.Making.{Makes, IsSomewhere};
@@ -16,10 +16,8 @@ impl<S: Service + Drop> Ground<S> {
     /// Runs calls in a session of their own, where the server is up, to the first that is answered
     /// Blocked.
     pub fn outside(&mut self, alloc: Global, calls: &[Call]) -> Result<Note, NoMemory>
-        requires events { self.old.traffic.event < 2 ^ 48 }
+        requires events { self.old.traffic.event < 2 ^ 45 }
         requires there { IsSomewhere (S.sees self.old.service) self.old.traffic }
-        requires live { (S.state self.old.service).is_spent ≡ false }
-        requires few { (S.state self.old.service).calls < 2 ^ 48 }
         requires calls { AllByRecursion IsMade calls.now }
         ensures { IfOk result (λ note. Makes (S.sees self.old.service) self.old.traffic (S.sees self.new.service) self.new.traffic (Event.Outside calls.now) note []) }
     {

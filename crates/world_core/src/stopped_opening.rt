@@ -23,9 +23,8 @@ impl<S: Service + Drop> Ground<S> {
         after: u64,
         pick: u8,
     ) -> Result<Note, NoMemory>
-        requires events { self.old.traffic.event < 2 ^ 48 }
+        requires events { self.old.traffic.event < 2 ^ 45 }
         requires there { IsSomewhere (S.sees self.old.service) self.old.traffic }
-        requires few { (S.state self.old.service).calls + 2 < 2 ^ 48 }
         requires may { MayForget (S.state self.old.service) horizon }
         requires one_store { is_failover pick ≡ false }
         ensures { IfOk result (λ note. Makes (S.sees self.old.service) self.old.traffic (S.sees self.new.service) self.new.traffic (Event.UpCrash after pick) note []) }

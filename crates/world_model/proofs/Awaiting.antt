@@ -191,6 +191,27 @@ open_lent pool number answer = by (has_to_wait pool number) answer
     by true answer = absurd (let none : ⊥ = cc in none)
     by false answer = omega arith
 
+-- IDLE CONNECTIONS --------------------------------------------------------------------------------
+
+-- each of these is open, and stands there once
+abbrev pub AreOpenOnce : List Link → List ℕ → Type 0
+AreOpenOnce links [] = Unit {0}
+AreOpenOnce links (number ∷ numbers) = ((link : Link) → link_at links number ≡ Some link → link.is_open ≡ true) × ((is_among number numbers ≡ false) × AreOpenOnce links numbers)
+
+idle_open : (found : Option Link) (link : Link) → option_map_or is_idle found false ≡ true → found ≡ Some link → link.is_open ≡ true
+idle_open None link idle is = absurd (let none : ⊥ = cc in none)
+idle_open (Some one) link idle is = let same : one ≡ link = cc in ap (λ (l : Link). l.is_open) (sym same) ∙ (and_parts one.is_open (is_some one.held && _) idle).0
+
+all_idle : (links : List Link) (numbers : List ℕ) → list_all (passes_at is_idle links) numbers ≡ true → each_pair differ numbers ≡ true → AreOpenOnce links numbers
+all_idle links [] idle apart = tt
+all_idle links (number ∷ numbers) idle apart =
+    let one = and_parts (passes_at is_idle links number) (list_all (passes_at is_idle links) numbers) idle in
+    let other = and_parts (all_with (differ number) numbers) (each_pair differ numbers) apart in
+    (λ link there. idle_open (link_at links number) link one.0 there, (none_among number numbers other.0, all_idle links numbers one.1 other.1))
+
+pub idle_open_once : (t : Traced) → Orderly t → AreOpenOnce t.machine.links t.machine.pool.idle
+idle_open_once t inv = let known : IsHeld t.setting (at_event t.machine) = held_now t inv in all_idle t.machine.links t.machine.pool.idle known.idle known.apart
+
 -- FRAMES ------------------------------------------------------------------------------------------
 
 -- Where a frame is taken from a connection that has ended nothing is sent, whatever the request does.

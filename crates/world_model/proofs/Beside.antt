@@ -133,3 +133,30 @@ opens_noted setting m n event.Up incarnation items left is =
     only_is (not m.server.is_up && may_open m.server incarnation) (record (at_event m) { server = opened m.server incarnation }) n (leaves (follow_up (at_event m) (Some incarnation)) n items left is) in
     (ap (λ (a : Machine). a.server.is_up) (sym same), ap (λ (a : Machine). a.server.incarnation) (sym same))
 opens_noted setting m n event incarnation items left is = absurd (let never : ⊥ = cc in never)
+
+-- THE CLOCK ---------------------------------------------------------------------------------------
+
+last_ticks : (m : Machine) (number after : ℕ) (items left : List Served) (a : Machine) → ServesLast m number after items left a → a.tick ≤ m.tick + 1
+last_ticks m number after items left _ (LastNone same) = omega arith
+last_ticks m number after items left _ (LastStopped front served at stopped same) = omega arith
+last_ticks m number after items left _ (LastServed front served at over same) = omega arith
+
+happens_ticks : (setting : Setting) (m : Machine) (items left : List Served) (kind : Noted) (n : Machine) → Happens setting m items left kind n → n.tick ≤ m.tick + 1
+happens_ticks setting m items left _ _ (Nothing kind none) = omega arith
+happens_ticks setting m items left _ _ (IsStep number did n goes) = let same : n.tick ≡ m.tick = (goes_same setting m number n goes).tick in omega arith
+happens_ticks setting m items left _ _ (Serves number frame front served at ordinary same) = omega arith
+happens_ticks setting m items left _ _ (Cuts number ups downs reached link opens) = omega arith
+happens_ticks setting m items left _ _ (Reaps number reaped orphan) = omega arith
+happens_ticks setting m items left _ _ (Crashes number after failover down a up last) = last_ticks m number after items left a last
+happens_ticks setting m items left _ _ (OpensUp incarnation down may) = omega arith
+happens_ticks setting m items left _ _ (StopsOpening made down) = omega arith
+happens_ticks setting m items left _ _ Ticks = omega arith
+happens_ticks setting m items left _ _ (RunsOutside ran up) = omega arith
+happens_ticks setting m items left _ _ (Asks x result up) = omega arith
+happens_ticks setting m items left _ _ (Drains closed) = omega arith
+
+-- an event is at most a tick
+pub ticks_once : (setting : Setting) (m n : Machine) (event : Event) (note : Note) (items left : List Served) → follow setting m event note items ≡ Some (n, left) → n.tick ≤ m.tick + 1
+ticks_once setting m n event note items left is =
+    let by : Followed setting m event note items left n = follow_happens setting m event note items left n is in
+    happens_ticks setting (at_event m) items left by.kind n by.happens

@@ -12,3 +12,7 @@ pub use Rattle.world_model.proofs.TalkRests.{awaits_after}
 -- no event but a step of a client changes a client, and none turns the clock back; each is one event more, with one opening at most, and a
 -- note of one tells the incarnation
 pub use Rattle.world_model.proofs.Beside.{Rest, others_rest, last_incarnation, opens_once, opens_noted}
+-- and each is at most a tick
+pub use Rattle.world_model.proofs.Beside.{ticks_once}
+-- each idle connection is open, and idle once
+pub use Rattle.world_model.proofs.Awaiting.{AreOpenOnce, idle_open_once}

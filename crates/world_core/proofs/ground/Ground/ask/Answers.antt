@@ -6,6 +6,7 @@ use Rattle.server_model.specs.declared.fault.ServeFault.{ServeFault}
 use Rattle.server_model.specs.ServiceCalls.{AskedOne, StoppedAsk}
 use Rattle.service_calls.specs.Answers.{Ends}
 use Rattle.service_calls.specs.Kept.{Goes}
+use Rattle.world_core.proofs.Readiness.{may_call, one_more}
 use Rattle.world_core.proofs.ground.Ground.ask.Goals as goal
 
 pub returns-then-not-is_up : goal.returns-then-not-is_up
@@ -25,3 +26,9 @@ pub unreachable-requires : goal.unreachable-requires
 unreachable-requires g c = ask_never_stops (g.S.Service.sees c.args.self.now.service) (g.S.Service.sees c.ask.new.self) (g.S.Service.leaves c.ask.new.self) c.args.self.now.traffic c.args.ltxid c.requires.there
     (subst (λ (e : ServeFault). Ends (Err e) (λ told. Goes (g.S.Service.sees c.args.self.now.service) (g.S.Service.sees c.ask.new.self) (λ old new. AskedOne old c.args.ltxid told new)) (Goes (g.S.Service.sees c.args.self.now.service) (g.S.Service.sees c.ask.new.self) (λ old new. StoppedAsk old c.args.ltxid (g.S.Service.leaves c.ask.new.self) new)))
     c.in-Err-Stopped.field-0-is c.in-Err-Stopped.ensures.asked)
+
+pub ask-requires-clause-live : goal.ask-requires-clause-live
+ask-requires-clause-live g c = (may_call (g.S.Service.sees c.args.self.now.service) (g.S.Service.state c.args.self.now.service) c.args.self.now.traffic c.requires.there c.requires.events (λ seen sees. (g.met.S.Service.honest c.args.self.now.service seen sees).state_is)).live
+
+pub ask-requires-clause-few : goal.ask-requires-clause-few
+ask-requires-clause-few g c = one_more (g.S.Service.state c.args.self.now.service) (may_call (g.S.Service.sees c.args.self.now.service) (g.S.Service.state c.args.self.now.service) c.args.self.now.traffic c.requires.there c.requires.events (λ seen sees. (g.met.S.Service.honest c.args.self.now.service seen sees).state_is))

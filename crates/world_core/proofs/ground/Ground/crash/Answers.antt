@@ -1,6 +1,7 @@
 use Rattle.std.proofs.Common.{sym, ap, ◌∙◌, subst}
 use Rattle.server_model.specs.Seen.{ServiceState}
-use Rattle.world_core.proofs.Crashes.{crashes_none, crashes_served, may_fall}
+use Rattle.world_core.proofs.Crashes.{crashes_none, crashes_served, few_between, may_fall}
+use Rattle.world_core.proofs.Readiness.{may_call}
 use Rattle.world_core.proofs.ground.Ground.crash.Goals as goal
 
 pub returns-then-not-is_up : goal.returns-then-not-is_up
@@ -18,9 +19,14 @@ returns g c = crashes_served c.orderly_is_kept.ensures (g.S.Service.sees c.args.
     c.fall.ensures
 
 pub crash-requires-clause-live : goal.crash-requires-clause-live
-crash-requires-clause-live g c = (may_fall (g.S.Service.sees c.args.self.now.service) (g.S.Service.sees c.serve_last.new.self.service) (g.S.Service.leaves c.serve_last.new.self.service) c.args.self.now.traffic c.serve_last.new.self.traffic c.args.connection c.args.after _ (g.S.Service.state c.args.self.now.service) (g.S.Service.state c.serve_last.new.self.service) c.requires.there c.in_ok-served.ensures
-    (λ seen sees. (g.met.S.Service.honest c.args.self.now.service seen sees).state_is) (λ seen sees. (g.met.S.Service.honest c.serve_last.new.self.service seen sees).state_is)).0
+crash-requires-clause-live g c = (may_fall (g.S.Service.sees c.args.self.now.service) (g.S.Service.sees c.serve_last.new.self.service) (g.S.Service.leaves c.serve_last.new.self.service) c.args.self.now.traffic c.serve_last.new.self.traffic c.args.connection c.args.after _ (g.S.Service.state c.args.self.now.service) (g.S.Service.state c.serve_last.new.self.service) c.requires.there (sym c.if-not-is_up.ensures) c.in_ok-served.ensures
+    (λ seen sees. (g.met.S.Service.honest c.args.self.now.service seen sees).state_is) (λ seen sees. (g.met.S.Service.honest c.serve_last.new.self.service seen sees).state_is)).live
+
+pub crash-requires-clause-few : goal.crash-requires-clause-few
+crash-requires-clause-few g c = few_between (g.S.Service.state c.args.self.now.service).calls (g.S.Service.state c.serve_last.new.self.service).calls (may_fall (g.S.Service.sees c.args.self.now.service) (g.S.Service.sees c.serve_last.new.self.service) (g.S.Service.leaves c.serve_last.new.self.service) c.args.self.now.traffic c.serve_last.new.self.traffic c.args.connection c.args.after _ (g.S.Service.state c.args.self.now.service) (g.S.Service.state c.serve_last.new.self.service) c.requires.there (sym c.if-not-is_up.ensures) c.in_ok-served.ensures
+    (λ seen sees. (g.met.S.Service.honest c.args.self.now.service seen sees).state_is) (λ seen sees. (g.met.S.Service.honest c.serve_last.new.self.service seen sees).state_is)).few
+    (may_call (g.S.Service.sees c.args.self.now.service) (g.S.Service.state c.args.self.now.service) c.args.self.now.traffic c.requires.there c.requires.events (λ seen sees. (g.met.S.Service.honest c.args.self.now.service seen sees).state_is)).few
 
 pub crash-requires-clause-may : goal.crash-requires-clause-may
-crash-requires-clause-may g c = λ failover. (may_fall (g.S.Service.sees c.args.self.now.service) (g.S.Service.sees c.serve_last.new.self.service) (g.S.Service.leaves c.serve_last.new.self.service) c.args.self.now.traffic c.serve_last.new.self.traffic c.args.connection c.args.after _ (g.S.Service.state c.args.self.now.service) (g.S.Service.state c.serve_last.new.self.service) c.requires.there c.in_ok-served.ensures
-    (λ seen sees. (g.met.S.Service.honest c.args.self.now.service seen sees).state_is) (λ seen sees. (g.met.S.Service.honest c.serve_last.new.self.service seen sees).state_is)).1 ∙ c.requires.may failover
+crash-requires-clause-may g c = λ failover. (may_fall (g.S.Service.sees c.args.self.now.service) (g.S.Service.sees c.serve_last.new.self.service) (g.S.Service.leaves c.serve_last.new.self.service) c.args.self.now.traffic c.serve_last.new.self.traffic c.args.connection c.args.after _ (g.S.Service.state c.args.self.now.service) (g.S.Service.state c.serve_last.new.self.service) c.requires.there (sym c.if-not-is_up.ensures) c.in_ok-served.ensures
+    (λ seen sees. (g.met.S.Service.honest c.args.self.now.service seen sees).state_is) (λ seen sees. (g.met.S.Service.honest c.serve_last.new.self.service seen sees).state_is)).opened

@@ -6,6 +6,7 @@ use Rattle.server_model.specs.declared.fault.ServeFault.{ServeFault}
 use Rattle.server_model.specs.ServiceCalls.{RanOutside, StoppedOutside}
 use Rattle.service_calls.specs.Answers.{Ends, runs_of}
 use Rattle.service_calls.specs.Kept.{Goes}
+use Rattle.world_core.proofs.Readiness.{may_call, one_more}
 use Rattle.world_core.proofs.ground.Ground.outside.Goals as goal
 
 pub returns-then-not-is_up : goal.returns-then-not-is_up
@@ -25,3 +26,9 @@ pub unreachable-requires : goal.unreachable-requires
 unreachable-requires g c = outside_never_stops (g.S.Service.sees c.args.self.now.service) (g.S.Service.sees c.outside.new.self) (g.S.Service.leaves c.outside.new.self) c.args.self.now.traffic c.requires.there
     (subst (λ (e : ServeFault). Ends (Err e) (λ ran. Goes (g.S.Service.sees c.args.self.now.service) (g.S.Service.sees c.outside.new.self) (λ old new. RanOutside old c.args.calls.now c.begin.new.self.tick ran.ltxid (runs_of ran) new)) (Goes (g.S.Service.sees c.args.self.now.service) (g.S.Service.sees c.outside.new.self) (λ old new. StoppedOutside old (g.S.Service.leaves c.outside.new.self) new)))
     c.in-Err-Stopped.field-0-is c.in-Err-Stopped.ensures.ran)
+
+pub outside-requires-clause-live : goal.outside-requires-clause-live
+outside-requires-clause-live g c = (may_call (g.S.Service.sees c.args.self.now.service) (g.S.Service.state c.args.self.now.service) c.args.self.now.traffic c.requires.there c.requires.events (λ seen sees. (g.met.S.Service.honest c.args.self.now.service seen sees).state_is)).live
+
+pub outside-requires-clause-few : goal.outside-requires-clause-few
+outside-requires-clause-few g c = one_more (g.S.Service.state c.args.self.now.service) (may_call (g.S.Service.sees c.args.self.now.service) (g.S.Service.state c.args.self.now.service) c.args.self.now.traffic c.requires.there c.requires.events (λ seen sees. (g.met.S.Service.honest c.args.self.now.service seen sees).state_is))

@@ -8,6 +8,7 @@ use Rattle.server_model.specs.declared.fault.ServeFault.{ServeFault}
 use Rattle.server_model.specs.ServiceCalls.{ServedOne}
 use Rattle.service_calls.specs.Answers.{IfTold}
 use Rattle.service_calls.specs.Kept.{Goes}
+use Rattle.world_core.proofs.Readiness.{may_call, one_more}
 use Rattle.world_core.proofs.ground.Ground.serve.Goals as goal
 
 pub returns-in_default : goal.returns-in_default
@@ -35,3 +36,9 @@ pub unreachable-requires : goal.unreachable-requires
 unreachable-requires g c = frame_never_stops (g.S.Service.sees c.args.self.now.service) (g.S.Service.sees c.serve.new.self) (g.S.Service.leaves c.serve.new.self) c.args.self.now.traffic c.args.connection c.first_up.new.self.tick c.in-Some.frame (c.requires.there.0, (c.requires.there.1.0, c.requires.there.1.1))
     (subst (λ (e : ServeFault). IfTold (Err e) (λ told. Goes (g.S.Service.sees c.args.self.now.service) (g.S.Service.sees c.serve.new.self) (λ old new. ServedOne old c.args.connection c.first_up.new.self.tick c.in-Some.frame told (g.S.Service.leaves c.serve.new.self) new)))
     c.in-Err-Stopped.field-0-is c.in-Err-Stopped.ensures.served)
+
+pub serve-requires-clause-live : goal.serve-requires-clause-live
+serve-requires-clause-live g c = (may_call (g.S.Service.sees c.args.self.now.service) (g.S.Service.state c.args.self.now.service) c.args.self.now.traffic c.requires.there c.requires.events (λ seen sees. (g.met.S.Service.honest c.args.self.now.service seen sees).state_is)).live
+
+pub serve-requires-clause-few : goal.serve-requires-clause-few
+serve-requires-clause-few g c = one_more (g.S.Service.state c.args.self.now.service) (may_call (g.S.Service.sees c.args.self.now.service) (g.S.Service.state c.args.self.now.service) c.args.self.now.traffic c.requires.there c.requires.events (λ seen sees. (g.met.S.Service.honest c.args.self.now.service seen sees).state_is))

@@ -1,8 +1,9 @@
 use Rattle.world_core.proofs.Coupling.{ticks}
+use Rattle.world_core.proofs.Readiness.{may_pass}
 use Rattle.world_core.proofs.ground.Ground.tick.Goals as goal
 
 pub pass-requires : goal.pass-requires
-pass-requires g c = rw c.begin.ensures.counted c.requires.ticks
+pass-requires g c = rw c.begin.ensures.counted (may_pass (g.S.Service.sees c.args.self.now.service) c.args.self.now.traffic c.requires.there c.requires.events)
 
 pub returns : goal.returns
 returns g c = ticks c.orderly_is_kept.ensures (g.S.Service.sees c.args.self.now.service) c.args.self.now.traffic c.pass.new.self (λ m is. c.pass.ensures _ (c.begin.ensures.begun m is))

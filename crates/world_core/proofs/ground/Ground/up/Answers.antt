@@ -6,6 +6,7 @@ use Rattle.server_model.specs.declared.fault.ServeFault.{ServeFault}
 use Rattle.server_model.specs.ServiceCalls.{Opened, StoppedOpening}
 use Rattle.service_calls.specs.Answers.{Ends}
 use Rattle.service_calls.specs.Kept.{Goes}
+use Rattle.world_core.proofs.Readiness.{may_call, one_more}
 use Rattle.world_core.proofs.ground.Ground.up.Goals as goal
 
 pub returns-then-is_up : goal.returns-then-is_up
@@ -28,3 +29,12 @@ pub unreachable-requires : goal.unreachable-requires
 unreachable-requires g c = opening_never_stops (g.S.Service.sees c.args.self.now.service) (g.S.Service.sees c.up.new.self) (g.S.Service.leaves c.up.new.self) c.args.self.now.traffic c.args.horizon c.requires.there
     (subst (λ (e : ServeFault). Ends (Err e) (λ done. Goes (g.S.Service.sees c.args.self.now.service) (g.S.Service.sees c.up.new.self) (λ old new. Opened old c.args.horizon new)) (Goes (g.S.Service.sees c.args.self.now.service) (g.S.Service.sees c.up.new.self) (λ old new. StoppedOpening old c.args.horizon (g.S.Service.leaves c.up.new.self) new)))
     c.in-Err-Stopped.field-0-is c.in-Err-Stopped.ensures.opened)
+
+pub up-requires-clause-live : goal.up-requires-clause-live
+up-requires-clause-live g c = (may_call (g.S.Service.sees c.args.self.now.service) (g.S.Service.state c.args.self.now.service) c.args.self.now.traffic c.requires.there c.requires.events (λ seen sees. (g.met.S.Service.honest c.args.self.now.service seen sees).state_is)).live
+
+pub up-requires-clause-few : goal.up-requires-clause-few
+up-requires-clause-few g c = one_more (g.S.Service.state c.args.self.now.service) (may_call (g.S.Service.sees c.args.self.now.service) (g.S.Service.state c.args.self.now.service) c.args.self.now.traffic c.requires.there c.requires.events (λ seen sees. (g.met.S.Service.honest c.args.self.now.service seen sees).state_is))
+
+pub up-requires-clause-down : goal.up-requires-clause-down
+up-requires-clause-down g c = (sym c.if-is_up.ensures, (may_call (g.S.Service.sees c.args.self.now.service) (g.S.Service.state c.args.self.now.service) c.args.self.now.traffic c.requires.there c.requires.events (λ seen sees. (g.met.S.Service.honest c.args.self.now.service seen sees).state_is)).settled (sym c.if-is_up.ensures))
