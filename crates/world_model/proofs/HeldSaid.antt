@@ -100,7 +100,7 @@ said_on owner before left alive hushed _ _ _ how (Marks opens may settings one s
 
 -- AN OPEN CONNECTION ------------------------------------------------------------------------------
 
-abbrev loud : Reply → Bool
+abbrev pub loud : Reply → Bool
 loud reply = not (is_hushed reply.frame)
 
 abbrev opt_loud : Option Down → Bool
@@ -171,14 +171,18 @@ front_loud (x ∷ xs) (y ∷ ys) is here =
     let two = and_parts (loud y) (list_all loud ys) here in
     and_from (loud x) (list_all loud xs) (same_loud x.frame y.frame (and_parts (same_sent x.to y.to) (same_down x.frame y.frame) one.0).1 two.0) (front_loud xs ys one.1 two.1)
 
--- where the session lives, what is taken next does not end the connection
-pub taken_loud : (link : Link) (reply : Reply) (left : List Reply) → is_orderly link ≡ true → link.is_living ≡ true → link.down ≡ reply ∷ left → is_hushed reply.frame ≡ false
-taken_loud link reply left orderly living down =
+-- where the session lives, no reply ends the connection, of those that were taken and that may be taken
+pub all_said_loud : (link : Link) → is_orderly link ≡ true → link.is_living ≡ true → list_all loud (link.taken ++ link.down) ≡ true
+all_said_loud link orderly living =
     let one = and_parts (is_sent_front link) (is_reply_front link && (handled_from 0 link.served && lives_rightly link)) orderly in
     let two = and_parts (is_reply_front link) (handled_from 0 link.served && lives_rightly link) one.1 in
     let three = and_parts (handled_from 0 link.served) (lives_rightly link) two.1 in
-    let all : list_all loud (link.taken ++ link.down) ≡ true =
-    front_loud (link.taken ++ link.down) (replies_of link) (and_parts (is_front same_reply (link.taken ++ link.down) (replies_of link)) _ two.0).0 (all_loud 0 link.served (served_none link living three.1) three.0) in
+    front_loud (link.taken ++ link.down) (replies_of link) (and_parts (is_front same_reply (link.taken ++ link.down) (replies_of link)) _ two.0).0 (all_loud 0 link.served (served_none link living three.1) three.0)
+
+-- nor does the one that is taken next
+pub taken_loud : (link : Link) (reply : Reply) (left : List Reply) → is_orderly link ≡ true → link.is_living ≡ true → link.down ≡ reply ∷ left → is_hushed reply.frame ≡ false
+taken_loud link reply left orderly living down =
+    let all : list_all loud (link.taken ++ link.down) ≡ true = all_said_loud link orderly living in
     let ahead : (list_all loud link.taken && list_all loud (reply ∷ left)) ≡ true =
     sym (list_all-append loud link.taken (reply ∷ left)) ∙ subst (λ (replies : List Reply). list_all loud (link.taken ++ replies) ≡ true) down all in
     not-true (is_hushed reply.frame) (and_parts (loud reply) (list_all loud left) (and_parts (list_all loud link.taken) (list_all loud (reply ∷ left)) ahead).1).0

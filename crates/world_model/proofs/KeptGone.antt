@@ -95,7 +95,7 @@ shut_idle t (suc index) link had there shut =
     shut_count link.is_open (holders_of (courses_of t) (suc index)) (idle_of t (suc index)) shut (numbered_at (is_had t (courses_of t)) 1 t.machine.links index (suc index) link same had there)
 
 -- a new connection is none of those that are there
-new_apart : (links : List Link) (number : ℕ) (link : Link) → link_at links number ≡ Some link → number ≢ length links + 1
+pub new_apart : (links : List Link) (number : ℕ) (link : Link) → link_at links number ≡ Some link → number ≢ length links + 1
 new_apart links zero link there same = let none : ⊥ = cc in none
 new_apart links (suc index) link there same = let within = slice_get_within links index link there in let never : ⊥ = omega arith in never
 

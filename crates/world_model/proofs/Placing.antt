@@ -60,7 +60,7 @@ closed_out event link = sends_alike (SameOut link) event (closed_by_drain ∷ []
 -- A STEP ------------------------------------------------------------------------------------------
 
 module _ (setting : Setting) (m : Machine) (who : ℕ) (n : Machine) (step : HasStepped setting m who n) where
-  abbrev said : List Sent
+  abbrev pub said : List Sent
   said = map (sent_by (owner_at m who) (call_in (heard setting.terms m.event m.tick (record step.before { connection = step.connection }) step.input).talk.phase))
       (frames_of step.pool (unwrap_or step.connection 0) (step_at setting.terms m.event m.tick (record step.before { connection = step.connection }) step.input).done.act)
 
@@ -78,8 +78,7 @@ module _ (setting : Setting) (m : Machine) (who : ℕ) (n : Machine) (step : Has
     pub link : Link
     pub there : link_at m.links number ≡ Some link
     pub held : link.held ≡ Some ltxid
-    pub frames : List Sent
-    pub next : link_at n.links number ≡ Some (sends m.event frames link)
+    pub next : link_at n.links number ≡ Some (sends m.event said link)
 
   pub lent_at : (number : ℕ) (ltxid : Ltxid) → step.input ≡ Lent number ltxid → IsLent number ltxid
   lent_at number ltxid heard_so =
@@ -89,7 +88,6 @@ module _ (setting : Setting) (m : Machine) (who : ℕ) (n : Machine) (step : Has
         link = is.0;
         there = is.1.0;
         held = is.1.1.1;
-        frames = said;
         next = ap (λ (all : List Link). link_at all number) step.links_are
             ∙ (ap (λ (had : Option ℕ). link_at (changed (sends m.event said) step.links (unwrap_or had 0)) number) on ∙ changed_own (sends m.event said) step.links number is.0 is.1.1.0);
       }

@@ -152,7 +152,7 @@ module _ (setting : Setting) (m : Machine) (talks : AllTalk setting.terms m.clie
   fits_place up.End fits = refl
   fits_place up.Close fits = refl
 
-  places : list_all (sends_at heard_scan (call_in phase)) one.done.act.send ≡ true
+  pub places : list_all (sends_at heard_scan (call_in phase)) one.done.act.send ≡ true
   places = weaker_all (frame_fits phase) (sends_at heard_scan (call_in phase)) one.done.act.send fits_place (send_fits setting.terms step.before.talk step.input m.tick)
 
   -- the scan is on the connection on which it speaks

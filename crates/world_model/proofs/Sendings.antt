@@ -41,7 +41,7 @@ agrees owner number sents sendings = pointwise is_sending_of (calls_of owner sen
 
 -- LISTS -------------------------------------------------------------------------------------------
 
-onto_append : (xs done : List Sending) → reverse_onto xs done ≡ reverse_onto xs [] ++ done
+pub onto_append : (xs done : List Sending) → reverse_onto xs done ≡ reverse_onto xs [] ++ done
 onto_append [] done = refl
 onto_append (x ∷ xs) done =
     onto_append xs (x ∷ done) ∙ (sym (append_assoc (reverse_onto xs []) (x ∷ []) done) ∙ ap (λ (first : List Sending). first ++ done) (sym (onto_append xs (x ∷ []))))

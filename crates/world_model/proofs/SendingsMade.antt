@@ -34,7 +34,7 @@ use Rattle.world_model.proofs.ClientSteps.{HasStepped, HeardOn, OfNone, OfIdle, 
 use Rattle.world_model.proofs.Ends.{sends_alike}
 use Rattle.world_model.proofs.Happened.{at_event}
 use Rattle.world_model.proofs.LostSteps.{before_so}
-use Rattle.world_model.proofs.Placing.{IsLent, lent_at}
+use Rattle.world_model.proofs.Placing.{IsLent, lent_at, said}
 use Rattle.world_model.proofs.SendingSteps.{scan_by}
 use Rattle.world_model.proofs.StepFacts.{first_step, first_doing, before_talks}
 use Rattle.world_model.proofs.TalkAsked.{asks_so, scan_asks, call_told, waited_none, tried_none}
@@ -186,9 +186,9 @@ module _ (t : Traced) (inv : Orderly t) (who : ℕ) (n : Machine) (step : HasSte
           record {
             connection = connection;
             has = sym step.connects ∙ ap (connected step.before.connection) heard;
-            next = sends m.event lent.frames lent.link;
+            next = sends m.event (said t.setting m who n step) lent.link;
             there = lent.next;
-            held = sent_held m.event lent.frames lent.link ∙ (lent.held ∙ sym (ap (λ (input : Input). option_or (told_by input) scan_before.held) heard));
+            held = sent_held m.event (said t.setting m who n step) lent.link ∙ (lent.held ∙ sym (ap (λ (input : Input). option_or (told_by input) scan_before.held) heard));
           }
       by _ _ after was heard (OfNew had same) = absurd (let never : false ≡ true = calls_at _ heard in let none : ⊥ = cc in none)
       by {said = said} _ _ after was heard (OfReply had connection link reply left some there down next back) =
