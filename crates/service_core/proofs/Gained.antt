@@ -204,10 +204,10 @@ stands_beside core image journal reads is =
 
 -- what is told is stored, and no more is blocked, between two images that plain servers stand beside
 module _ (core after : Plain) (old image : List ℕ) (journal later : Journal) (reads : journal_of old ≡ Ok journal) (reads_later : journal_of image ≡ Ok later) (was : IsStored core journal) (is : IsStored after later) where
-  n : ℕ
+  abbrev n : ℕ
   n = record_count (records_of old)
 
-  m : ℕ
+  abbrev m : ℕ
   m = record_count (records_of image)
 
   between : (Holds : Store → Store → Type 0) → Holds (store_beside core n) (store_beside after m) → Holds (store_of old) (store_of image)

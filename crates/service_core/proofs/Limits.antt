@@ -1,5 +1,5 @@
 -- What is told of a frame keeps within the limits of frames, as its session's next identifier does.
-use Rattle.std.proofs.Common.{◌≡◌, ◌+◌, ◌≤◌, ℕ, refl, List, [], arith}
+use Rattle.std.proofs.Common.{◌+◌, ◌≤◌, ℕ, refl, List, arith}
 use Rattle.std.specs.Prelude.{Bool, Option, Some, None, IfSome}
 use Rattle.disk_model.specs.Disk.{DiskState}
 use Rattle.svc_values.specs.declared.answer.Answer.{Answer}
