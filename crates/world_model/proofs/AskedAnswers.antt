@@ -35,7 +35,7 @@ use Rattle.world_model.proofs.AllLists.{filter_all}
 use Rattle.world_model.proofs.ClientSteps.{HasStepped}
 use Rattle.world_model.proofs.Happened.{at_event}
 use Rattle.world_model.proofs.KeptRows.{before_on}
-use Rattle.world_model.proofs.KeptShown.{known_of}
+use Rattle.world_model.proofs.KnownLinks.{known_of}
 use Rattle.world_model.proofs.LinkCounts.{Known, IsLast}
 use Rattle.world_model.proofs.OutcomesTold.{fits_input, input_fits}
 use Rattle.world_model.proofs.ReplyFits.{is_expected}

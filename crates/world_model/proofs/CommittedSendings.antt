@@ -168,13 +168,17 @@ pair_sends count sent sending pair here =
     by (up.Call false kept call) is commit = subst (λ (one : Call). has_commit one ≡ true) (sym ((same_call_decides sending.call call).0 is)) commit
     by frame is commit = absurd (let none : ⊥ = cc in none)
 
+-- it is one with a commit, under this identifier and of the call at this place, and no reply to it was taken
+abbrev pub is_unanswered : Ltxid → ℕ → Sending → Bool
+is_unanswered x count sending = same_ltxid sending.ltxid x && ((sending.at == count) && (has_commit sending.call && is_none sending.taken))
+
 -- what became of one with a commit, on the connection of its number
 abbrev pub fated : List Link → Sending → Bool
 fated links sending = implies (has_commit sending.call) (option_map_or (has_fate sending) (link_at links sending.connection) false)
 
 module _ (links : List Link) (count number : ℕ) (link : Link) (x : Ltxid) (there : link_at links number ≡ Some link) (held : link.held ≡ Some x) where
   -- one that was not answered is under what is held
-  under_held : (sending : Sending) → (sends_at count sending && (sending.connection == number)) ≡ true → (taken_among count sending && fated links sending) ≡ true → (same_ltxid sending.ltxid x && (sending.at == count)) ≡ true
+  under_held : (sending : Sending) → (sends_at count sending && (sending.connection == number)) ≡ true → (taken_among count sending && fated links sending) ≡ true → is_unanswered x count sending ≡ true
   under_held sending here known =
       let one = and_parts (sends_at count sending) (sending.connection == number) here in
       let at = and_parts (sending.at == count) (has_commit sending.call) one.0 in
@@ -184,8 +188,9 @@ module _ (links : List Link) (count number : ℕ) (link : Link) (x : Ltxid) (the
       let its : has_fate sending link ≡ true = sym (ap (λ (l : Option Link). option_map_or (has_fate sending) l false) found) ∙ fate in
       let three = and_parts (nat_le sending.ltxid.number (held_number link)) _ its in
       let four = and_parts (option_map_or (λ answers. implies (ends_committed answers) (nat_lt sending.ltxid.number (held_number link))) sending.taken true) _ three.1 in
-      and_from (same_ltxid sending.ltxid x) (sending.at == count)
-      (same_held (implied (is_none sending.taken) _ (untaken (and_parts (nat_le sending.at count) (implies (is_some sending.taken) (nat_lt sending.at count)) two.0).1 (eq_from sending.at count at.0)) four.1)) at.0
+      let none : is_none sending.taken ≡ true = untaken (and_parts (nat_le sending.at count) (implies (is_some sending.taken) (nat_lt sending.at count)) two.0).1 (eq_from sending.at count at.0) in
+      and_from (same_ltxid sending.ltxid x) ((sending.at == count) && (has_commit sending.call && is_none sending.taken)) (same_held (implied (is_none sending.taken) _ none four.1))
+      (and_from (sending.at == count) (has_commit sending.call && is_none sending.taken) at.0 (and_from (has_commit sending.call) (is_none sending.taken) at.1 none))
     where
       untaken : implies (is_some sending.taken) (nat_lt sending.at count) ≡ true → sending.at ≡ count → is_none sending.taken ≡ true
       untaken late same = by sending.taken late
@@ -201,9 +206,9 @@ module _ (links : List Link) (count number : ℕ) (link : Link) (x : Ltxid) (the
 
   pub committed_sending : (t : Traced) (course : Course) (sendings : List Sending) → is_ahead t link ≡ true → ahead_rightly t link ≡ true → is_next count link ≡ true → ends_own course link ≡ true
       → pointwise is_sending_of (calls_of course.owner link.sent) (on_of number sendings) ≡ true → list_all (λ (s : Sending). taken_among count s && fated links s) sendings ≡ true
-      → list_any (λ (s : Sending). same_ltxid s.ltxid x && (s.at == count)) sendings ≡ true
+      → list_any (is_unanswered x count) sendings ≡ true
   committed_sending t course sendings ahead rightly next own agrees known =
-      any_with (λ (s : Sending). sends_at count s && (s.connection == number)) (λ (s : Sending). taken_among count s && fated links s) (λ (s : Sending). same_ltxid s.ltxid x && (s.at == count)) sendings under_held
+      any_with (λ (s : Sending). sends_at count s && (s.connection == number)) (λ (s : Sending). taken_among count s && fated links s) (is_unanswered x count) sendings under_held
       (any_filtered (sends_at count) (λ (s : Sending). s.connection == number) sendings
       (either_false (list_any (sends_at count) (filter (λ (s : Sending). s.connection == number) sendings)) (any_reversed (sends_at count) (filter (λ (s : Sending). s.connection == number) sendings) []
       (any_pair (calls_at count) (sends_at count) (calls_of course.owner link.sent) (on_of number sendings) (pair_sends count) agrees among)))) known

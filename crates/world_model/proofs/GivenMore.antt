@@ -6,13 +6,14 @@ use Rattle.std.specs.Option.{option_map_or}
 use Rattle.std.proofs.lemmas.Bool.{and_parts, and_from, or_right, or_cases}
 use Rattle.std.proofs.lemmas.List.Folds.{list_any-append}
 use Rattle.svc_values.specs.declared.call.Call.{Call}
+use Rattle.svc_values.specs.Calls.{is_lone_commit}
 use Rattle.svc_values.specs.Endings.{ends_committed}
 use Rattle.outage_schedule.specs.declared.request.Outcome.{Outcome}
 use Rattle.outage_schedule.specs.declared.request.ShownCall.{ShownCall}
 use Rattle.world_model.specs.Frames.{Owner, Handled}
 use Rattle.world_model.specs.Links.{Link, link_at}
 use Rattle.world_model.specs.Sames.{owned_by}
-use Rattle.world_model.specs.Shown.{is_shown_item, link_shows, has_completed, is_given, all_given}
+use Rattle.world_model.specs.Shown.{is_shown_item, link_shows, has_completed, lone_completed, is_given, all_given}
 use Rattle.world_model.specs.Traced.{Traced, Course}
 use Rattle.world_model.specs.Words.{held_in}
 use Rattle.world_model.proofs.CoursesGrow.{or_left}
@@ -48,19 +49,21 @@ module _ (old new : Traced) (longer : (number : ℕ) (link : Link) → link_at o
     one_more index None shown is = is
     one_more index (Some call) shown is =
         ⊎_elim
-        (λ item. or_left (list_any (link_shows new d index call shown) (held_in d.steps)) (ends_committed shown.answers && has_completed d)
+        (λ item. or_left (list_any (link_shows new d index call shown) (held_in d.steps)) (lone_completed d call shown)
         (subst (λ (numbers : List ℕ). list_any (link_shows new d index call shown) numbers ≡ true) (sym held_are)
         (list_any-append (link_shows new d index call shown) (held_in c.steps) held
         ∙ or_left (list_any (link_shows new d index call shown) (held_in c.steps)) (list_any (link_shows new d index call shown) held)
         (any_more (link_shows old c index call shown) (link_shows new d index call shown) (held_in c.steps)
         (λ number here. subst (λ (o : Owner). shows_by o new.machine.links index call shown number ≡ true) (sym owner) (still_shows c.owner index call shown number here)) item))))
         (λ told.
-        let parts = and_parts (ends_committed shown.answers) (has_completed c) told in
-        or_right (list_any (link_shows new d index call shown) (held_in d.steps)) (ends_committed shown.answers && has_completed d)
+        let lone = and_parts (is_lone_commit call) (ends_committed shown.answers && has_completed c) told in
+        let parts = and_parts (ends_committed shown.answers) (has_completed c) lone.1 in
+        or_right (list_any (link_shows new d index call shown) (held_in d.steps)) (lone_completed d call shown)
+        (and_from (is_lone_commit call) (ends_committed shown.answers && has_completed d) lone.0
         (and_from (ends_committed shown.answers) (has_completed d) parts.0
         (subst (λ (all : List Outcome). list_any (λ outcome. outcome.committed && outcome.completed) all ≡ true) (sym outcomes_are)
-        (list_any-append (λ outcome. outcome.committed && outcome.completed) c.report.outcomes outcomes ∙ or_left (has_completed c) (list_any (λ outcome. outcome.committed && outcome.completed) outcomes) parts.1))))
-        (or_cases (list_any (link_shows old c index call shown) (held_in c.steps)) (ends_committed shown.answers && has_completed c) is)
+        (list_any-append (λ outcome. outcome.committed && outcome.completed) c.report.outcomes outcomes ∙ or_left (has_completed c) (list_any (λ outcome. outcome.committed && outcome.completed) outcomes) parts.1)))))
+        (or_cases (list_any (link_shows old c index call shown) (held_in c.steps)) (lone_completed c call shown) is)
 
     pub all_more : (index : ℕ) (shown : List ShownCall) → all_given old c index shown ≡ true → all_given new d index shown ≡ true
     all_more index [] all = refl

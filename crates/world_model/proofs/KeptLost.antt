@@ -48,7 +48,7 @@ use Rattle.world_model.proofs.WholeOrderly.{orderly_is_kept}
 -- AN ENTRY THAT IS THERE --------------------------------------------------------------------------
 
 -- one that is found passes what all do
-found_passes : (test keep : Entry → Bool) (entries : List Entry) (one : Entry) → find keep entries ≡ Some one → list_all test entries ≡ true → (test one ≡ true) × (keep one ≡ true)
+pub found_passes : (test keep : Entry → Bool) (entries : List Entry) (one : Entry) → find keep entries ≡ Some one → list_all test entries ≡ true → (test one ≡ true) × (keep one ≡ true)
 found_passes test keep [] one is all = absurd (let none : ⊥ = cc in none)
 found_passes test keep (entry ∷ entries) one is all =
     let parts = and_parts (test entry) (list_all test entries) all in by (keep entry) refl is parts.0 (λ later. found_passes test keep entries one later parts.1)

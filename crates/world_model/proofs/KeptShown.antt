@@ -7,6 +7,7 @@ use Rattle.std.proofs.lemmas.Bool.{and_parts, and_from, or_right, or_cases}
 use Rattle.std.proofs.lemmas.List.{append-nil, map-append, length-map}
 use Rattle.std.proofs.lemmas.List.Folds.{list_any-append}
 use Rattle.svc_values.specs.declared.call.Call.{Call}
+use Rattle.svc_values.specs.declared.draw.Draw.{Draw}
 use Rattle.svc_values.specs.Calls.{is_lone_commit}
 use Rattle.svc_values.specs.Endings.{ends_committed}
 use Rattle.outage_schedule.specs.declared.document.Request.{Request}
@@ -18,19 +19,16 @@ use Rattle.run_clauses.specs.Reports.{shown_call, told_outcome}
 use Rattle.run_clauses.specs.Tried.{holds}
 use Rattle.world_model.specs.Clients.{Doing, Client, begun, past_of}
 use Rattle.world_model.specs.Frames.{Owner, Handled}
-use Rattle.world_model.specs.Invariant.{Orderly}
+use Rattle.world_model.specs.Invariant.{Invariant, Orderly}
 use Rattle.world_model.specs.KeptLaws.{IsKeptOfAll}
 use Rattle.world_model.specs.Links.{Link, link_at}
 use Rattle.world_model.specs.Machines.{Machine}
-use Rattle.world_model.specs.Number.{is_told, served_near}
 use Rattle.world_model.specs.Reached.{traced_start}
 use Rattle.world_model.specs.Sames.{owned_by}
 use Rattle.world_model.specs.Settings.{Setting, setting_of}
-use Rattle.world_model.specs.Shown.{calls_on, is_current, is_row, in_row, first_of, is_scripts, is_shown_item, link_shows, outcome_shows, is_from, all_from, has_completed, is_given, all_given, are_given}
+use Rattle.world_model.specs.Shown.{calls_on, is_current, is_row, in_row, first_of, is_scripts, is_shown_item, link_shows, outcome_shows, is_from, all_from, has_completed, lone_completed, is_given, all_given, are_given}
 use Rattle.world_model.specs.Traced.{Traced, Course, course_now, course_over, courses_of_clients, courses_of}
-use Rattle.world_model.specs.Wire.{is_sent_front, is_reply_front, handled_from, one_is_out}
 use Rattle.world_model.specs.Words.{brought, held_in}
-use Rattle.world_model.proofs.AllLinks.{at_link}
 use Rattle.world_model.proofs.AllLists.{weaker_all}
 use Rattle.world_model.proofs.ClientSteps.{HasStepped, MayStep, Still, Closed, Stepped, happens_step}
 use Rattle.world_model.proofs.CoursesGrow.{or_left}
@@ -40,8 +38,9 @@ use Rattle.world_model.proofs.Happened.{Followed, follow_happens, at_event}
 use Rattle.world_model.proofs.Held.{doing_course}
 use Rattle.world_model.proofs.KeptRows.{course_rows, before_rows, before_on}
 use Rattle.world_model.proofs.KeptSendings.{any_of_all, resting_none}
+use Rattle.world_model.proofs.KnownLinks.{known_of}
 use Rattle.world_model.proofs.LinkCounts.{Known}
-use Rattle.world_model.proofs.LinkLives.{counts_commits}
+use Rattle.world_model.proofs.LoneCalls.{lone_now}
 use Rattle.world_model.proofs.OutcomesTold.{told_more, outcomes_are}
 use Rattle.world_model.proofs.OwnedKept.{left_held}
 use Rattle.world_model.proofs.RowLast.{row_of}
@@ -65,23 +64,14 @@ any_at test (first ∷ numbers) number is here = by (first == number) refl is (�
 
 -- THE STEP ----------------------------------------------------------------------------------------
 
--- what is known of a connection
-pub known_of : (t : Traced) → Orderly t → (number : ℕ) (link : Link) → link_at t.machine.links number ≡ Some link → Known link
-known_of t inv number link there = record {
-  sent = at_link is_sent_front t.machine.links number link inv.wire.sent there;
-  replies = at_link is_reply_front t.machine.links number link inv.wire.replies there;
-  handled = at_link (λ l. handled_from 0 l.served) t.machine.links number link inv.wire.handled there;
-  out = at_link one_is_out t.machine.links number link inv.wire.out there;
-  near = at_link served_near t.machine.links number link inv.number.served there;
-  counts = at_link counts_commits t.machine.links number link inv.basic.commits there;
-  held = at_link is_told t.machine.links number link inv.number.told there;
-}
-
 abbrev given_test : Traced → Course → Bool
 given_test t course = all_given t course 0 course.report.calls
 
-module _ (old new : Traced) (inv : Orderly old) (rows : list_all (course_rows old.machine.links) (courses_of old) ≡ true) (given : list_all (given_test old) (courses_of old) ≡ true)
+module _ (granted : Draw → Bool) (old new : Traced) (whole : Invariant granted old) (rows : list_all (course_rows old.machine.links) (courses_of old) ≡ true) (given : list_all (given_test old) (courses_of old) ≡ true)
     (longer : (number : ℕ) (link : Link) → link_at old.machine.links number ≡ Some link → IsLonger new.machine.links number link) where
+  abbrev inv : Orderly old
+  inv = whole.orderly
+
   abbrev m : Machine
   m = at_event old.machine
 
@@ -148,7 +138,7 @@ module _ (old new : Traced) (inv : Orderly old) (rows : list_all (course_rows ol
           ∙ (list_any-append (λ other. other == at) (held_in step.before.steps) (cons_option (brought step.input) [])
           ∙ or_left (list_any (λ other. other == at) (held_in step.before.steps)) (list_any (λ other. other == at) (cons_option (brought step.input) [])) (was_held at has)) in
           subst (λ (c : Option Call). is_given new d (length shown_before) c (shown_call shown) ≡ true) (sym (ap (λ (all : List Call). slice_get all (length shown_before)) request_same ∙ found.script))
-          (or_left (list_any (link_shows new d (length shown_before) found.call (shown_call shown)) (held_in d.steps)) (ends_committed shown.answers && has_completed d)
+          (or_left (list_any (link_shows new d (length shown_before) found.call (shown_call shown)) (held_in d.steps)) (lone_completed d found.call (shown_call shown))
           (any_at (link_shows new d (length shown_before) found.call (shown_call shown)) (held_in d.steps) at held
           (subst (λ (o : Owner). shows_by o new.machine.links (length shown_before) found.call (shown_call shown) at ≡ true) (sym owner) here)))
 
@@ -165,8 +155,11 @@ module _ (old new : Traced) (inv : Orderly old) (rows : list_all (course_rows ol
       is_now shown is (FromItem at has found) = from_item shown at has found
       is_now shown is (FromOutcome asking phase completed) =
           subst (λ (c : Option Call). is_given new d (length shown_before) c (shown_call shown) ≡ true) (sym (ap (λ (all : List Call). slice_get all (length shown_before)) request_same ∙ completed.script))
-          (or_right (list_any (link_shows new d (length shown_before) completed.call (shown_call shown)) (held_in d.steps)) (ends_committed shown.answers && has_completed d)
-          (and_from (ends_committed shown.answers) (has_completed d) (ap ends_committed completed.commits) (completed_now shown asking completed)))
+          (or_right (list_any (link_shows new d (length shown_before) completed.call (shown_call shown)) (held_in d.steps)) (lone_completed d completed.call (shown_call shown))
+          (and_from (is_lone_commit completed.call) (ends_committed shown.answers && has_completed d)
+          (lone_now granted old whole number n step asking completed.alive completed.input phase completed.call
+          (ap (slice_get step.before.request.calls) (length-map shown_before shown_call) ∙ completed.script))
+          (and_from (ends_committed shown.answers) (has_completed d) (ap ends_committed completed.commits) (completed_now shown asking completed))))
 
       steps_given : given_test new d ≡ true
       steps_given = by (shown_step old.setting m inv.script.talks number n step)
@@ -212,12 +205,13 @@ outcome_given course ltxid_shown is = any_weaker course.report.outcomes is
 from_given : (t : Traced) (course : Course) (index : ℕ) (call : Option Call) (shown : ShownCall) → is_from t course index call shown ≡ true → is_given t course index call shown ≡ true
 from_given t course index None shown is = is
 from_given t course index (Some call) shown is =
-    ⊎_elim (λ item. or_left (list_any (link_shows t course index call shown) (held_in course.steps)) (ends_committed shown.answers && has_completed course) item)
+    ⊎_elim (λ item. or_left (list_any (link_shows t course index call shown) (held_in course.steps)) (lone_completed course call shown) item)
     (λ told.
     let one = and_parts (is_lone_commit call) _ told in
     let two = and_parts (ends_committed shown.answers) _ one.1 in
-    or_right (list_any (link_shows t course index call shown) (held_in course.steps)) (ends_committed shown.answers && has_completed course)
-    (and_from (ends_committed shown.answers) (has_completed course) two.0 (outcome_given course (λ outcome. list_any (λ ids. holds ids outcome.ltxid) course.report.tried) two.1)))
+    or_right (list_any (link_shows t course index call shown) (held_in course.steps)) (lone_completed course call shown)
+    (and_from (is_lone_commit call) (ends_committed shown.answers && has_completed course) one.0
+    (and_from (ends_committed shown.answers) (has_completed course) two.0 (outcome_given course (λ outcome. list_any (λ ids. holds ids outcome.ltxid) course.report.tried) two.1))))
     (or_cases (list_any (link_shows t course index call shown) (held_in course.steps)) (outcome_shows course call shown) is)
 
 all_from_given : (t : Traced) (course : Course) (index : ℕ) (shown : List ShownCall) → all_from t course index shown ≡ true → all_given t course index shown ≡ true
@@ -232,6 +226,6 @@ given_law = record {
   at_event = λ granted before after old new event note items left one inv.
       let by : Followed old.setting old.machine event note items left new.machine = follow_happens old.setting old.machine event note items left new.machine one.follows in
       subst (λ (setting : Setting). list_all (given_test new) (courses_of_clients setting 1 new.machine.clients) ≡ true) (sym one.setting)
-      (may_give old new inv.orderly inv.shown.rows (weaker_all (λ course. all_from old course 0 course.report.calls) (given_test old) (courses_of old) (λ course. all_from_given old course 0 course.report.calls) inv.shown.shown)
+      (may_give granted old new inv inv.shown.rows (weaker_all (λ course. all_from old course 0 course.report.calls) (given_test old) (courses_of old) (λ course. all_from_given old course 0 course.report.calls) inv.shown.shown)
       (happens_longer old.setting (at_event old.machine) items left by.kind new.machine by.happens) (happens_step old.setting (at_event old.machine) items left by.kind new.machine by.happens));
 }

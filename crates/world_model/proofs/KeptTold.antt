@@ -1,13 +1,11 @@
 -- Of Lost: where an outcome was taken that says committed and completed, the call that was sent under its identifier was shown as committed. At the
 -- start and behind each event.
-use Rattle.std.proofs.Common.{◌≡◌, refl, sym, ap, subst, ◌∙◌, Bool, true, false, ℕ, ◌&&◌, length, List, [], ◌∷◌, ◌++◌, filter, map, Option, Some, None, if◌then◌else◌}
-use Rattle.std.specs.Prelude.{◌==◌, slice_get, is_some, flat_map}
-use Rattle.std.specs.Cmp.Lexicographic.{pointwise}
+use Rattle.std.proofs.Common.{◌≡◌, refl, sym, ap, subst, ◌∙◌, Bool, true, false, ℕ, ◌&&◌, length, List, [], ◌∷◌, ◌++◌, map, Option, Some, None}
+use Rattle.std.specs.Prelude.{◌==◌, slice_get, is_none}
 use Rattle.std.specs.List.{list_all, list_any}
 use Rattle.std.specs.Option.{option_map_or}
 use Rattle.std.proofs.lemmas.Bool.{and_parts, and_from}
-use Rattle.std.proofs.lemmas.List.{append-nil, map-append, length-map}
-use Rattle.std.proofs.lemmas.List.Folds.{list_all-append}
+use Rattle.std.proofs.lemmas.List.{append-nil, map-append}
 use Rattle.svc_values.specs.declared.answer.Answer.{Answer}
 use Rattle.svc_values.specs.declared.draw.Draw.{Draw}
 use Rattle.svc_values.specs.declared.entry.Ltxid.{Ltxid}
@@ -15,7 +13,6 @@ use Rattle.svc_values.specs.declared.frame.Down.TheVariants as down
 use Rattle.svc_values.specs.Calls.{has_commit}
 use Rattle.svc_values.specs.Endings.{ends_committed}
 use Rattle.svc_values.specs.Identifiers.{same_ltxid}
-use Rattle.svc_values.specs.SameLaws.{same_ltxid_decides}
 use Rattle.outage_schedule.specs.declared.item.Served.{Served}
 use Rattle.outage_schedule.specs.declared.request.Outcome.{Outcome}
 use Rattle.outage_schedule.specs.declared.request.ShownCall.{ShownCall}
@@ -33,71 +30,31 @@ use Rattle.world_model.specs.Clients.{Doing}
 use Rattle.world_model.specs.Conversing.{Talks, inputs_of, first_talk}
 use Rattle.world_model.specs.Invariant.{Invariant, Orderly}
 use Rattle.world_model.specs.KeptLaws.{IsKeptOfAll}
-use Rattle.world_model.specs.Links.{Link, link_at}
-use Rattle.world_model.specs.Lost.{lost_links, is_wanted, same_event, is_next, is_asked_next, wants_next, is_failed_by, is_told, are_told}
+use Rattle.world_model.specs.Links.{Link}
+use Rattle.world_model.specs.Lost.{is_failed_by, is_told, are_told}
 use Rattle.world_model.specs.Machines.{Machine}
 use Rattle.world_model.specs.Matching.{Noted}
-use Rattle.world_model.specs.Number.{ahead_rightly}
-use Rattle.world_model.specs.Once.{has_fate}
-use Rattle.world_model.specs.Parts.{Sending, answered, implies, sendings_of, commit_sendings}
-use Rattle.world_model.specs.Script.{is_sending_of}
+use Rattle.world_model.specs.Parts.{Sending, answered, implies, sendings_of}
 use Rattle.world_model.specs.Settings.{setting_of}
-use Rattle.world_model.specs.Shown.{ends_own}
 use Rattle.world_model.specs.Traced.{Traced, Course, courses_of}
-use Rattle.world_model.specs.Wanted.{Wanted, wanted_in}
-use Rattle.world_model.specs.Words.{dones_of, held_in}
-use Rattle.world_model.proofs.AllLinks.{at_link}
+use Rattle.world_model.specs.Words.{dones_of}
 use Rattle.world_model.proofs.AllLists.{append_all, weaker_all}
-use Rattle.world_model.proofs.AskedAnswers.{told_now}
-use Rattle.world_model.proofs.AskedNear.{any_all}
 use Rattle.world_model.proofs.ClientSteps.{HasStepped, happens_step}
-use Rattle.world_model.proofs.CommittedSendings.{any_with, fated, committed_sending}
+use Rattle.world_model.proofs.CommittedSendings.{any_with, is_unanswered}
 use Rattle.world_model.proofs.Happened.{Followed, follow_happens, at_event}
 use Rattle.world_model.proofs.KeptFailed.{failed_law}
-use Rattle.world_model.proofs.KeptLost.{entry_counts, one_ahead}
 use Rattle.world_model.proofs.KeptSendings.{resting_none}
 use Rattle.world_model.proofs.LostKept.{both_all, course_before, KeepsLost, lost_kept}
-use Rattle.world_model.proofs.LostLists.{lost_of}
-use Rattle.world_model.proofs.LostSteps.{before_so}
 use Rattle.world_model.proofs.Moves.{Happens}
 use Rattle.world_model.proofs.OutcomesTold.{told_more, outcomes_are}
 use Rattle.world_model.proofs.Recalling.{get_further, get_last}
-use Rattle.world_model.proofs.RowKept.{at_before}
 use Rattle.world_model.proofs.RowSteps.{ShownStep, NoneMore, OneMore, shown_step, shown_after, shown_more, before_fits}
 use Rattle.world_model.proofs.SendingSteps.{scan_by, heard_scan, after_sendings}
-use Rattle.world_model.proofs.Sendings.{calls_of, on_of}
-use Rattle.world_model.proofs.SendingsTaken.{taken_among, scan_among, answered_any, frames_any}
+use Rattle.world_model.proofs.SendingsTaken.{answered_any, frames_any}
 use Rattle.world_model.proofs.StepFacts.{account_now, first_step, first_doing, before_talks}
 use Rattle.world_model.proofs.TalkCompletes.{completed_as, completed_shows}
-use Rattle.world_model.proofs.TalkCounts.{counts_so}
 use Rattle.world_model.proofs.Tests.{eq_from}
-
--- LISTS -------------------------------------------------------------------------------------------
-
--- what holds of all of the lists holds of all of each
-each_flat : {A B : Type 0} (test : B → Bool) (parts : A → List B) (xs : List A) → list_all test (flat_map parts xs) ≡ true → list_all (λ x. list_all test (parts x)) xs ≡ true
-each_flat test parts [] all = refl
-each_flat test parts (x ∷ xs) all =
-    let both = and_parts (list_all test (parts x)) (list_all test (flat_map parts xs)) (sym (list_all-append test (parts x) (flat_map parts xs)) ∙ all) in
-    and_from (list_all test (parts x)) (list_all (λ y. list_all test (parts y)) xs) both.0 (each_flat test parts xs both.1)
-
--- what holds of those that a filter leaves in
-unfiltered : (test keep : Sending → Bool) (xs : List Sending) → list_all test (filter keep xs) ≡ true → list_all (λ x. implies (keep x) (test x)) xs ≡ true
-unfiltered test keep [] all = refl
-unfiltered test keep (x ∷ xs) all = by (keep x) all (λ later. unfiltered test keep xs later)
-  where
-    by : (kept : Bool) → list_all test (if kept then x ∷ filter keep xs else filter keep xs) ≡ true → (list_all test (filter keep xs) ≡ true → list_all (λ y. implies (keep y) (test y)) xs ≡ true)
-        → (implies kept (test x) && list_all (λ y. implies (keep y) (test y)) xs) ≡ true
-    by true all later = let parts = and_parts (test x) (list_all test (filter keep xs)) all in and_from (test x) (list_all (λ y. implies (keep y) (test y)) xs) parts.0 (later parts.1)
-    by false all later = later all
-
--- of the connections that a request lost, what holds of all that it held
-lost_all : (test : ℕ → Bool) (has : Bool) (numbers : List ℕ) → list_all test numbers ≡ true → list_all test (lost_of has numbers) ≡ true
-lost_all test false numbers all = all
-lost_all test true [] all = refl
-lost_all test true (number ∷ []) all = refl
-lost_all test true (number ∷ next ∷ others) all =
-    let parts = and_parts (test number) (list_all test (next ∷ others)) all in and_from (test number) (list_all test (lost_of true (next ∷ others))) parts.0 (lost_all test true (next ∷ others) parts.1)
+use Rattle.world_model.proofs.AskedSendings.{sent_one}
 
 -- CALLS -------------------------------------------------------------------------------------------
 
@@ -219,9 +176,6 @@ module _ (granted : Draw → Bool) (t : Traced) (whole : Invariant granted t) (n
       abbrev x : Ltxid
       x = asking.ltxid
 
-      abbrev wanted : Wanted
-      wanted = record { ltxid = asking.ltxid; event = asking.event }
-
       fits_at : (p : Phase) → step.before.talk.phase ≡ p → Fits t.setting.terms step.before.request.calls account_before (before_fits t.setting now whole.orderly.script.talks who new.machine step).gone p
       fits_at p is =
           subst (λ (q : Phase). Fits t.setting.terms step.before.request.calls account_before (before_fits t.setting now whole.orderly.script.talks who new.machine step).gone q) is
@@ -244,82 +198,19 @@ module _ (granted : Draw → Bool) (t : Traced) (whole : Invariant granted t) (n
           ap (map shown_call) (shown_after t.setting now whole.orderly.script.talks who new.machine step ∙ shown_more t.setting now whole.orderly.script.talks who new.machine step (completed_as asking) fits.0.left.one shown_is at)
           ∙ map-append shown_call account_before.shown (completed_as asking ∷ [])
 
-      -- ITS SENDING ---------------------------------------------------------------------------------
-
-      -- none of those sendings was answered that are of the next call
-      all_taken : list_all (taken_among count) (sendings_of before) ≡ true
-      all_taken = subst (λ (n : ℕ). list_all (taken_among n) (sendings_of before) ≡ true) same (scan_among (scan_by before.owner []) step.before.steps refl)
-        where
-          same : (scan_by before.owner step.before.steps).shown ≡ count
-          same =
-              let at = at_before t.setting now whole.orderly.script.talks who new.machine step in
-              let counts : asking.track.call ≡ (scan_by before.owner step.before.steps).shown =
-              eq_from asking.track.call (scan_by before.owner step.before.steps).shown (subst (λ (p : Phase). counts_so (scan_by before.owner step.before.steps).shown p ≡ true) phase at.shown) in
-              let call : asking.track.call ≡ length account_before.shown = (fits_at (Asked asking) phase).0.tracked.call in
-              sym counts ∙ (call ∙ sym (length-map account_before.shown shown_call))
-
-      all_fated : list_all (fated t.machine.links) (sendings_of before) ≡ true
-      all_fated =
-          unfiltered (λ (s : Sending). option_map_or (has_fate s) (link_at t.machine.links s.connection) false) (λ (s : Sending). has_commit s.call) (sendings_of before)
-          (before_so t whole.orderly who new.machine step (λ course. list_all (λ (s : Sending). option_map_or (has_fate s) (link_at t.machine.links s.connection) false) (commit_sendings course))
-          (each_flat (λ (s : Sending). option_map_or (has_fate s) (link_at t.machine.links s.connection) false) commit_sendings (courses_of t) whole.once.fates) (λ request. refl))
-
-      abbrev asked_test : ℕ → Bool
-      asked_test number = option_map_or (λ link. is_wanted link wanted && is_next count link) (link_at t.machine.links number) false
-
-      abbrev own_test : ℕ → Bool
-      own_test number = option_map_or (ends_own before) (link_at t.machine.links number) false
-
-      abbrev sent_test : ℕ → Bool
-      sent_test number = option_map_or (λ link. pointwise is_sending_of (calls_of before.owner link.sent) (on_of number (sendings_of before))) (link_at t.machine.links number) false
-
-      sent_one : list_any (λ (s : Sending). same_ltxid s.ltxid x && (s.at == count)) (sendings_of before) ≡ true
-      sent_one = at found.0 (link_at t.machine.links found.0) refl found.1 (and_parts (own_test found.0) (sent_test found.0) found.2)
-        where
-          asked : list_any asked_test (lost_links before) ≡ true
-          asked =
-              sym (ap (λ (one : Option Wanted). option_map_or (is_asked_next t before) one true) (ap wanted_in phase))
-              ∙ before_so t whole.orderly who new.machine step (wants_next t) whole.lost.next (λ request. refl)
-
-          own : list_all own_test (lost_links before) ≡ true
-          own = before_so t whole.orderly who new.machine step (λ course. list_all (λ number. option_map_or (ends_own course) (link_at t.machine.links number) false) (lost_links course)) whole.shown.own (λ request. refl)
-
-          sent : list_all sent_test (lost_links before) ≡ true
-          sent =
-              lost_all sent_test (is_some step.before.connection) (held_in step.before.steps)
-              (before_so t whole.orderly who new.machine step (λ course. list_all (λ number. option_map_or (λ link. pointwise is_sending_of (calls_of course.owner link.sent) (on_of number (sendings_of course))) (link_at t.machine.links number) false) (held_in course.steps))
-              whole.orderly.script.sent (λ request. refl))
-
-          found : (number : ℕ) × (asked_test number ≡ true) × ((own_test number && sent_test number) ≡ true)
-          found = let one = any_all asked_test (λ number. own_test number && sent_test number) (lost_links before) asked (both_all own_test sent_test (lost_links before) own sent) in (one.0, one.1.0, one.1.1)
-
-          on : (number : ℕ) (link : Link) (held : Option Ltxid) → link_at t.machine.links number ≡ Some link → link.held ≡ held → option_map_or (same_ltxid x) held false ≡ true → is_next count link ≡ true → ends_own before link ≡ true
-              → pointwise is_sending_of (calls_of before.owner link.sent) (on_of number (sendings_of before)) ≡ true → list_any (λ (s : Sending). same_ltxid s.ltxid x && (s.at == count)) (sendings_of before) ≡ true
-          on number link None there held same next owns agrees = absurd (let none : ⊥ = cc in none)
-          on number link (Some y) there held same next owns agrees =
-              let equal : x ≡ y = (same_ltxid_decides x y).0 same in
-              let holds : link.held ≡ Some x = held ∙ ap Some (sym equal) in
-              let less = entry_counts t.entries x true (told_now t whole.orderly whole.shown.answers who new.machine step asking true true alive input phase) whole.orderly.number.entries in
-              committed_sending t.machine.links count number link x there holds t before (sendings_of before) (one_ahead t whole.orderly.basic.named whole.orderly.number number link x there holds less)
-              (at_link (ahead_rightly t) t.machine.links number link whole.orderly.number.ahead there) next owns agrees
-              (both_all (taken_among count) (fated t.machine.links) (sendings_of before) all_taken all_fated)
-
-          at : (number : ℕ) (one : Option Link) → link_at t.machine.links number ≡ one → asked_test number ≡ true → (own_test number ≡ true) × (sent_test number ≡ true) → list_any (λ (s : Sending). same_ltxid s.ltxid x && (s.at == count)) (sendings_of before) ≡ true
-          at number None there here both = absurd (let never : false ≡ true = sym (ap (λ (l : Option Link). option_map_or (λ link. is_wanted link wanted && is_next count link) l false) there) ∙ here in let none : ⊥ = cc in none)
-          at number (Some link) there here both =
-              let so : (is_wanted link wanted && is_next count link) ≡ true = sym (ap (λ (l : Option Link). option_map_or (λ one. is_wanted one wanted && is_next count one) l false) there) ∙ here in
-              let parts = and_parts (is_wanted link wanted) (is_next count link) so in
-              on number link link.held there refl (and_parts (option_map_or (same_ltxid x) link.held false) (same_event link.ended asking.event) parts.0).0 parts.1
-              (sym (ap (λ (l : Option Link). option_map_or (ends_own before) l false) there) ∙ both.0)
-              (sym (ap (λ (l : Option Link). option_map_or (λ one. pointwise is_sending_of (calls_of before.owner one.sent) (on_of number (sendings_of before))) l false) there) ∙ both.1)
-
       -- it is shown then
       shows_now : list_any (shows_so calls_after x) sendings_after ≡ true
       shows_now =
           ap (λ (calls : List ShownCall). list_any (shows_so calls x) sendings_after) calls_are
           ∙ any_weaker (λ (s : Sending). same_ltxid s.ltxid x && (s.at == count)) (shows_so (before.report.calls ++ shown_call (completed_as asking) ∷ []) x) sendings_after shows
-          (sendings_more (λ (s : Sending). same_ltxid s.ltxid x && (s.at == count)) (λ sending answers here. here) sent_one)
+          (sendings_more (λ (s : Sending). same_ltxid s.ltxid x && (s.at == count)) (λ sending answers here. here)
+          (any_weaker (is_unanswered x count) (λ (s : Sending). same_ltxid s.ltxid x && (s.at == count)) (sendings_of before) sent (sent_one granted t whole who new.machine step asking alive input phase)))
         where
+          sent : (s : Sending) → is_unanswered x count s ≡ true → (same_ltxid s.ltxid x && (s.at == count)) ≡ true
+          sent s here =
+              let one = and_parts (same_ltxid s.ltxid x) _ here in
+              and_from (same_ltxid s.ltxid x) (s.at == count) one.0 (and_parts (s.at == count) (has_commit s.call && is_none s.taken) one.1).0
+
           shows : (s : Sending) → (same_ltxid s.ltxid x && (s.at == count)) ≡ true → shows_so (before.report.calls ++ shown_call (completed_as asking) ∷ []) x s ≡ true
           shows s here =
               let parts = and_parts (same_ltxid s.ltxid x) (s.at == count) here in

@@ -121,6 +121,8 @@ module _ (setting : Setting) (m : Machine) (talks : AllTalk setting.terms m.clie
     pub script : slice_get step.before.request.calls (length (account_now setting.terms step.before).shown) ≡ Some call
     pub commits : shown.answers ≡ answer.Committed ∷ []
     pub told : told_more step.input step.before.talk.phase ≡ record { ltxid = asking.ltxid; committed = true; completed = true } ∷ []
+    pub alive : Bool
+    pub input : step.input ≡ Took (down.OutcomeIs true true) alive
 
   -- one of these two
   pub data ShownNow (shown : Shown) : Type 0 where
@@ -209,6 +211,8 @@ module _ (setting : Setting) (m : Machine) (talks : AllTalk setting.terms m.clie
         script = ap (slice_get step.before.request.calls) (sym index) ∙ fits.0.left.is;
         commits = commits;
         told = ap (λ (i : Input). told_more i step.before.talk.phase) (input ∙ ap (λ (f : Down). Took f alive) said) ∙ ap (λ (p : Phase). told_more (Took (down.OutcomeIs true true) alive) p) phase;
+        alive = alive;
+        input = input ∙ ap (λ (f : Down). Took f alive) said;
       }
 
   pub shown_now : (shown : Shown) → (first_step setting m talks number n step).done.act.shown ≡ Some shown → ShownNow setting m talks number n step shown

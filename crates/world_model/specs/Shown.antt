@@ -55,13 +55,16 @@ all_from t course index (shown ∷ others) = is_from t course index (slice_get c
 abbrev pub are_from : Traced → Bool
 are_from t = list_all (λ course. all_from t course 0 course.report.calls) (courses_of t)
 
--- as far as the client can tell: from an item, or it ends with Committed, and an outcome was taken that said committed and completed
+-- as far as its identifier is left out: from an item, or a lone commit, and an outcome was taken that said committed and completed
 abbrev pub has_completed : Course → Bool
 has_completed course = list_any (λ outcome. outcome.committed && outcome.completed) course.report.outcomes
 
+abbrev pub lone_completed : Course → Call → ShownCall → Bool
+lone_completed course call shown = is_lone_commit call && (ends_committed shown.answers && has_completed course)
+
 abbrev pub is_given : Traced → Course → ℕ → Option Call → ShownCall → Bool
 is_given t course index None shown = false
-is_given t course index (Some call) shown = list_any (link_shows t course index call shown) (held_in course.steps) || (ends_committed shown.answers && has_completed course)
+is_given t course index (Some call) shown = list_any (link_shows t course index call shown) (held_in course.steps) || lone_completed course call shown
 
 abbrev pub all_given : Traced → Course → ℕ → List ShownCall → Bool
 all_given t course index [] = true

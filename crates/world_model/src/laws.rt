@@ -228,7 +228,8 @@ pub fn calls_go_in_rows()
 {}
 
 /// If the whole invariant held before: each call that was shown is that of an item, which a connection that the request held has for this
-/// call, with these answers and draws; or it ends with Committed, and an outcome was taken that said committed and completed.
+/// call, with these answers and draws; or it is a commit without a statement that ends with Committed, and an outcome was taken that said
+/// committed and completed.
 pub fn shown_calls_were_answered()
     ensures { IsKeptOfAll are_given }
 {}

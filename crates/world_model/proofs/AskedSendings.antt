@@ -1,0 +1,173 @@
+-- Where a request takes an outcome that says committed and completed: it sent the call under the identifier that it asked for, and no reply to it was
+-- taken.
+use Rattle.std.proofs.Common.{◌≡◌, refl, sym, ap, subst, ◌∙◌, Bool, true, false, ℕ, ◌&&◌, length, List, [], ◌∷◌, filter, Option, Some, None, if◌then◌else◌}
+use Rattle.std.specs.Prelude.{is_some, flat_map}
+use Rattle.std.specs.Cmp.Lexicographic.{pointwise}
+use Rattle.std.specs.List.{list_all, list_any}
+use Rattle.std.specs.Option.{option_map_or}
+use Rattle.std.proofs.lemmas.Bool.{and_parts, and_from}
+use Rattle.std.proofs.lemmas.List.{length-map}
+use Rattle.std.proofs.lemmas.List.Folds.{list_all-append}
+use Rattle.svc_values.specs.declared.draw.Draw.{Draw}
+use Rattle.svc_values.specs.declared.entry.Ltxid.{Ltxid}
+use Rattle.svc_values.specs.declared.frame.Down.TheVariants as down
+use Rattle.svc_values.specs.Calls.{has_commit}
+use Rattle.svc_values.specs.Identifiers.{same_ltxid}
+use Rattle.svc_values.specs.SameLaws.{same_ltxid_decides}
+use Rattle.run_clauses.specs.Reports.{shown_call}
+use Rattle.client_model.specs.declared.input.Input.TheVariants.{Took}
+use Rattle.client_model.specs.Account.{Account}
+use Rattle.client_model.specs.States.{Asking}
+use Rattle.client_model.specs.Terms.{Phase, Asked}
+use Rattle.client_model.proofs.Offered.{Fits}
+use Rattle.world_model.specs.Invariant.{Invariant}
+use Rattle.world_model.specs.Links.{Link, link_at}
+use Rattle.world_model.specs.Lost.{lost_links, is_wanted, same_event, is_next, is_asked_next, wants_next}
+use Rattle.world_model.specs.Machines.{Machine}
+use Rattle.world_model.specs.Number.{ahead_rightly}
+use Rattle.world_model.specs.Once.{has_fate}
+use Rattle.world_model.specs.Parts.{Sending, implies, sendings_of, commit_sendings}
+use Rattle.world_model.specs.Script.{is_sending_of}
+use Rattle.world_model.specs.Shown.{ends_own}
+use Rattle.world_model.specs.Traced.{Traced, Course, course_now, courses_of}
+use Rattle.world_model.specs.Wanted.{Wanted, wanted_in}
+use Rattle.world_model.specs.Words.{held_in}
+use Rattle.world_model.proofs.AllLinks.{at_link}
+use Rattle.world_model.proofs.AskedAnswers.{told_now}
+use Rattle.world_model.proofs.AskedNear.{any_all}
+use Rattle.world_model.proofs.ClientSteps.{HasStepped}
+use Rattle.world_model.proofs.CommittedSendings.{is_unanswered, fated, committed_sending}
+use Rattle.world_model.proofs.Happened.{at_event}
+use Rattle.world_model.proofs.KeptLost.{entry_counts, one_ahead}
+use Rattle.world_model.proofs.LostKept.{both_all}
+use Rattle.world_model.proofs.LostLists.{lost_of}
+use Rattle.world_model.proofs.LostSteps.{before_so}
+use Rattle.world_model.proofs.RowKept.{at_before}
+use Rattle.world_model.proofs.RowSteps.{before_fits}
+use Rattle.world_model.proofs.SendingSteps.{scan_by}
+use Rattle.world_model.proofs.Sendings.{calls_of, on_of}
+use Rattle.world_model.proofs.SendingsTaken.{taken_among, scan_among}
+use Rattle.world_model.proofs.StepFacts.{account_now}
+use Rattle.world_model.proofs.TalkCounts.{counts_so}
+use Rattle.world_model.proofs.Tests.{eq_from}
+
+-- LISTS -------------------------------------------------------------------------------------------
+
+-- what holds of all of the lists holds of all of each
+each_flat : {A B : Type 0} (test : B → Bool) (parts : A → List B) (xs : List A) → list_all test (flat_map parts xs) ≡ true → list_all (λ x. list_all test (parts x)) xs ≡ true
+each_flat test parts [] all = refl
+each_flat test parts (x ∷ xs) all =
+    let both = and_parts (list_all test (parts x)) (list_all test (flat_map parts xs)) (sym (list_all-append test (parts x) (flat_map parts xs)) ∙ all) in
+    and_from (list_all test (parts x)) (list_all (λ y. list_all test (parts y)) xs) both.0 (each_flat test parts xs both.1)
+
+-- what holds of those that a filter leaves in
+pub unfiltered : (test keep : Sending → Bool) (xs : List Sending) → list_all test (filter keep xs) ≡ true → list_all (λ x. implies (keep x) (test x)) xs ≡ true
+unfiltered test keep [] all = refl
+unfiltered test keep (x ∷ xs) all = by (keep x) all (λ later. unfiltered test keep xs later)
+  where
+    by : (kept : Bool) → list_all test (if kept then x ∷ filter keep xs else filter keep xs) ≡ true → (list_all test (filter keep xs) ≡ true → list_all (λ y. implies (keep y) (test y)) xs ≡ true)
+        → (implies kept (test x) && list_all (λ y. implies (keep y) (test y)) xs) ≡ true
+    by true all later = let parts = and_parts (test x) (list_all test (filter keep xs)) all in and_from (test x) (list_all (λ y. implies (keep y) (test y)) xs) parts.0 (later parts.1)
+    by false all later = later all
+
+-- of the connections that a request lost, what holds of all that it held
+lost_all : (test : ℕ → Bool) (has : Bool) (numbers : List ℕ) → list_all test numbers ≡ true → list_all test (lost_of has numbers) ≡ true
+lost_all test false numbers all = all
+lost_all test true [] all = refl
+lost_all test true (number ∷ []) all = refl
+lost_all test true (number ∷ next ∷ others) all =
+    let parts = and_parts (test number) (list_all test (next ∷ others)) all in and_from (test number) (list_all test (lost_of true (next ∷ others))) parts.0 (lost_all test true (next ∷ others) parts.1)
+
+-- A STEP ------------------------------------------------------------------------------------------
+
+module _ (granted : Draw → Bool) (t : Traced) (whole : Invariant granted t) (who : ℕ) (n : Machine) (step : HasStepped t.setting (at_event t.machine) who n) (asking : Asking) (alive : Bool)
+    (input : step.input ≡ Took (down.OutcomeIs true true) alive) (phase : step.before.talk.phase ≡ Asked asking) where
+  abbrev now : Machine
+  now = at_event t.machine
+
+  abbrev before : Course
+  before = course_now t.setting who (length step.client.past) step.before
+
+  abbrev count : ℕ
+  count = length before.report.calls
+
+  abbrev account_before : Account
+  account_before = account_now t.setting.terms step.before
+
+  abbrev x : Ltxid
+  x = asking.ltxid
+
+  abbrev wanted : Wanted
+  wanted = record { ltxid = asking.ltxid; event = asking.event }
+
+  fits_at : (p : Phase) → step.before.talk.phase ≡ p → Fits t.setting.terms step.before.request.calls account_before (before_fits t.setting now whole.orderly.script.talks who n step).gone p
+  fits_at p is =
+      subst (λ (q : Phase). Fits t.setting.terms step.before.request.calls account_before (before_fits t.setting now whole.orderly.script.talks who n step).gone q) is
+      (before_fits t.setting now whole.orderly.script.talks who n step).fits
+
+  -- none of those sendings was answered that are of the next call
+  all_taken : list_all (taken_among count) (sendings_of before) ≡ true
+  all_taken = subst (λ (n : ℕ). list_all (taken_among n) (sendings_of before) ≡ true) same (scan_among (scan_by before.owner []) step.before.steps refl)
+    where
+      same : (scan_by before.owner step.before.steps).shown ≡ count
+      same =
+          let at = at_before t.setting now whole.orderly.script.talks who n step in
+          let counts : asking.track.call ≡ (scan_by before.owner step.before.steps).shown =
+          eq_from asking.track.call (scan_by before.owner step.before.steps).shown (subst (λ (p : Phase). counts_so (scan_by before.owner step.before.steps).shown p ≡ true) phase at.shown) in
+          let call : asking.track.call ≡ length account_before.shown = (fits_at (Asked asking) phase).0.tracked.call in
+          sym counts ∙ (call ∙ sym (length-map account_before.shown shown_call))
+
+  all_fated : list_all (fated t.machine.links) (sendings_of before) ≡ true
+  all_fated =
+      unfiltered (λ (s : Sending). option_map_or (has_fate s) (link_at t.machine.links s.connection) false) (λ (s : Sending). has_commit s.call) (sendings_of before)
+      (before_so t whole.orderly who n step (λ course. list_all (λ (s : Sending). option_map_or (has_fate s) (link_at t.machine.links s.connection) false) (commit_sendings course))
+      (each_flat (λ (s : Sending). option_map_or (has_fate s) (link_at t.machine.links s.connection) false) commit_sendings (courses_of t) whole.once.fates) (λ request. refl))
+
+  abbrev asked_test : ℕ → Bool
+  asked_test number = option_map_or (λ link. is_wanted link wanted && is_next count link) (link_at t.machine.links number) false
+
+  abbrev own_test : ℕ → Bool
+  own_test number = option_map_or (ends_own before) (link_at t.machine.links number) false
+
+  abbrev sent_test : ℕ → Bool
+  sent_test number = option_map_or (λ link. pointwise is_sending_of (calls_of before.owner link.sent) (on_of number (sendings_of before))) (link_at t.machine.links number) false
+
+  pub sent_one : list_any (is_unanswered x count) (sendings_of before) ≡ true
+  sent_one = at found.0 (link_at t.machine.links found.0) refl found.1 (and_parts (own_test found.0) (sent_test found.0) found.2)
+    where
+      asked : list_any asked_test (lost_links before) ≡ true
+      asked =
+          sym (ap (λ (one : Option Wanted). option_map_or (is_asked_next t before) one true) (ap wanted_in phase))
+          ∙ before_so t whole.orderly who n step (wants_next t) whole.lost.next (λ request. refl)
+
+      own : list_all own_test (lost_links before) ≡ true
+      own = before_so t whole.orderly who n step (λ course. list_all (λ number. option_map_or (ends_own course) (link_at t.machine.links number) false) (lost_links course)) whole.shown.own (λ request. refl)
+
+      sent : list_all sent_test (lost_links before) ≡ true
+      sent =
+          lost_all sent_test (is_some step.before.connection) (held_in step.before.steps)
+          (before_so t whole.orderly who n step (λ course. list_all (λ number. option_map_or (λ link. pointwise is_sending_of (calls_of course.owner link.sent) (on_of number (sendings_of course))) (link_at t.machine.links number) false) (held_in course.steps))
+          whole.orderly.script.sent (λ request. refl))
+
+      found : (number : ℕ) × (asked_test number ≡ true) × ((own_test number && sent_test number) ≡ true)
+      found = let one = any_all asked_test (λ number. own_test number && sent_test number) (lost_links before) asked (both_all own_test sent_test (lost_links before) own sent) in (one.0, one.1.0, one.1.1)
+
+      on : (number : ℕ) (link : Link) (held : Option Ltxid) → link_at t.machine.links number ≡ Some link → link.held ≡ held → option_map_or (same_ltxid x) held false ≡ true → is_next count link ≡ true → ends_own before link ≡ true
+          → pointwise is_sending_of (calls_of before.owner link.sent) (on_of number (sendings_of before)) ≡ true → list_any (is_unanswered x count) (sendings_of before) ≡ true
+      on number link None there held same next owns agrees = absurd (let none : ⊥ = cc in none)
+      on number link (Some y) there held same next owns agrees =
+          let equal : x ≡ y = (same_ltxid_decides x y).0 same in
+          let holds : link.held ≡ Some x = held ∙ ap Some (sym equal) in
+          let less = entry_counts t.entries x true (told_now t whole.orderly whole.shown.answers who n step asking true true alive input phase) whole.orderly.number.entries in
+          committed_sending t.machine.links count number link x there holds t before (sendings_of before) (one_ahead t whole.orderly.basic.named whole.orderly.number number link x there holds less)
+          (at_link (ahead_rightly t) t.machine.links number link whole.orderly.number.ahead there) next owns agrees
+          (both_all (taken_among count) (fated t.machine.links) (sendings_of before) all_taken all_fated)
+
+      at : (number : ℕ) (one : Option Link) → link_at t.machine.links number ≡ one → asked_test number ≡ true → (own_test number ≡ true) × (sent_test number ≡ true) → list_any (is_unanswered x count) (sendings_of before) ≡ true
+      at number None there here both = absurd (let never : false ≡ true = sym (ap (λ (l : Option Link). option_map_or (λ link. is_wanted link wanted && is_next count link) l false) there) ∙ here in let none : ⊥ = cc in none)
+      at number (Some link) there here both =
+          let so : (is_wanted link wanted && is_next count link) ≡ true = sym (ap (λ (l : Option Link). option_map_or (λ one. is_wanted one wanted && is_next count one) l false) there) ∙ here in
+          let parts = and_parts (is_wanted link wanted) (is_next count link) so in
+          on number link link.held there refl (and_parts (option_map_or (same_ltxid x) link.held false) (same_event link.ended asking.event) parts.0).0 parts.1
+          (sym (ap (λ (l : Option Link). option_map_or (ends_own before) l false) there) ∙ both.0)
+          (sym (ap (λ (l : Option Link). option_map_or (λ one. pointwise is_sending_of (calls_of before.owner one.sent) (on_of number (sendings_of before))) l false) there) ∙ both.1)
