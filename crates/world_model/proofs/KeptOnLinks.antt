@@ -98,14 +98,14 @@ module _ (t : Traced) (inv : Orderly t) where
 -- SENDINGS ----------------------------------------------------------------------------------------
 
 -- where its connection is, and which session it has
-record IsOnLink (links : List Link) (sending : Sending) : Type 0 where
-  link : Link
-  there : link_at links sending.connection ≡ Some link
-  session : SessionId
-  has : link.session ≡ Some session
-  of : is_of_session session sending.ltxid ≡ true
+pub record IsOnLink (links : List Link) (sending : Sending) : Type 0 where
+  pub link : Link
+  pub there : link_at links sending.connection ≡ Some link
+  pub session : SessionId
+  pub has : link.session ≡ Some session
+  pub of : is_of_session session sending.ltxid ≡ true
 
-on_from : (t : Traced) (sending : Sending) → is_on_link t sending ≡ true → IsOnLink t.machine.links sending
+pub on_from : (t : Traced) (sending : Sending) → is_on_link t sending ≡ true → IsOnLink t.machine.links sending
 on_from t sending here = by (link_at t.machine.links sending.connection) refl here
   where
     named : (link : Link) → link_at t.machine.links sending.connection ≡ Some link → (session : Option SessionId) → link.session ≡ session → option_map_or (λ session. is_of_session session sending.ltxid) session false ≡ true → IsOnLink t.machine.links sending
