@@ -132,6 +132,7 @@ one_alone seen t event note m coupled follows did none_outside none_drawn server
   did = did;
   history = sym (append-nil seen.history);
   start = refl;
+  rises = omega arith;
   coupled_before = coupled;
   coupled_after = stays_coupled seen t m coupled server same;
   more_entries = [];

@@ -139,6 +139,7 @@ module _ (seen between new : Seen) (t : Traced) (number calls pick : ℕ) (items
     did = rw (coupled.server.is_up ∙ up) refl;
     history = crashed.history ∙ last.history;
     start = crashed.start ∙ last.start;
+    rises = let same = (last.left new.state.store remains (λ up. crashed.store (inl up))).incarnation in omega (arith, same);
     coupled_before = coupled;
     coupled_after = crash_coupled;
     more_entries = gains.more_entries;

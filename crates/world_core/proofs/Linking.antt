@@ -1,6 +1,6 @@
 -- What a connection stands for behind each of its changes.
 use Rattle.std.proofs.Common.{◌≡◌, ℕ, Bool, true, false, List, [], ◌∷◌, ◌++◌, Option, Some, None, Ok, length, map, min, refl, sym, ap, ◌∙◌, subst, inl, inr}
-use Rattle.std.specs.Prelude.{◌⊎◌, IfSome, nat_le, ◌-◌, sum_by, is_none, option_and_then, if◌then◌else◌}
+use Rattle.std.specs.Prelude.{◌⊎◌, IfSome, nat_le, ◌-◌, sum_by, ◌&&◌, is_none, is_some, option_and_then, if◌then◌else◌}
 use Rattle.std.specs.Option.{option_or}
 use Rattle.std.specs.List.{list_any, AllByRecursion}
 use Rattle.std.proofs.lemmas.List.{append-nil, map-append}
@@ -12,7 +12,7 @@ use Rattle.svc_values.specs.declared.frame.Down.{Down}
 use Rattle.svc_values.specs.declared.frame.Down.TheVariants as down
 use Rattle.canon_bytes.specs.UpBytes.{spell_up, FitsUp, IsMadeUp}
 use Rattle.canon_bytes.specs.DownBytes.{spell_down, FitsDown, IsMadeDown}
-use Rattle.frame_wire.specs.Stream.{Pending, nothing_pending, with_bytes, with_first, whole_front as front_in, IsNext}
+use Rattle.frame_wire.specs.Stream.{Pending, nothing_pending, with_bytes, with_first, whole_front as front_in, first_payload, IsNext}
 use Rattle.frame_wire.specs.Steps.{stream, AreFrames, frame_size, IsWholeFront}
 use Rattle.client_model.specs.declared.input.Input.TheVariants.{Took}
 use Rattle.outage_schedule.specs.declared.note.Reached.{Reached}
@@ -23,7 +23,7 @@ use Rattle.world_model.specs.Cutting.{reached_of, cut_link}
 use Rattle.world_model.specs.Crashing.{fallen_link}
 use Rattle.world_core.specs.declared.connection.Connection.{Connection}
 use Rattle.world_core.specs.Carrying.{Carries}
-use Rattle.world_core.specs.Linked.{up_frames, down_frames, told_by_frame, IsLink, GivesFront, GivesReply}
+use Rattle.world_core.specs.Linked.{up_frames, down_frames, told_by_frame, may_be_served, IsLink, GivesFront, GivesReply}
 use Rattle.world_core.proofs.Carrying.{carries_none, carries_on, carries_more, carries_empty, front_is_next, none_is_next, carries_front, carried_size, OneAnswer}
 
 abbrev Ups : Bool → List Up → Pending → Type 0
@@ -182,6 +182,29 @@ pub gives_living_front : (c : Connection) (after : Pending) (frame : Option Up) 
     → (link : Link) → IsLink c link → GivesFront link (front_of link) frame (record c { up = after })
 gives_living_front c after frame one next living link is =
     subst (λ (front : Option Front). GivesFront link front frame (record c { up = after })) (living_front link.is_living link (is.living ∙ living)) (gives_front c after frame one next link link.up refl is)
+
+no_front : (link : Link) (up : List Sent) (after : Connection) → GivesFront link (first_of link up) None after → is_some (first_of link up) ≡ false
+no_front link [] after gives = refl
+no_front link (first ∷ later) after gives = absurd (let clash : ◌≡◌ {A = Option Up} None (Some first.frame) = gives.0 in let none : ⊥ = cc in none)
+
+some_front : (c : Connection) (link : Link) (up : List Sent) (payload : List ℕ) → link.up ≡ up → IsLink c link → first_payload c.up.bytes ≡ Some payload → is_some (first_of link up) ≡ true
+some_front c link [] payload same is some =
+    let before : Ups link.is_open [] c.up = subst (λ (s : List Sent). Ups link.is_open (up_frames s) c.up) same is.up in
+    let clash : ◌≡◌ {A = Option (List ℕ)} None (Some payload) = sym before.rest ∙ ap first_payload (sym before.bytes) ∙ some in
+    absurd (let none : ⊥ = cc in none)
+some_front c link (first ∷ later) payload same is some = refl
+
+front_found : (c : Connection) → OneAnswer spell_up FitsUp → (link : Link) → IsLink c link → (found : Option (List ℕ)) → first_payload c.up.bytes ≡ found → is_some found ≡ is_some (first_of link link.up)
+front_found c one link is None none = sym (no_front link link.up (record c { up = c.up }) (gives_front c c.up None one (is.up.good, none, refl) link link.up refl is))
+front_found c one link is (Some payload) some = sym (some_front c link link.up payload refl is some)
+
+-- whether a frame may be served is told by whether a whole one stands there
+pub front_stands : (c : Connection) → OneAnswer spell_up FitsUp → (link : Link) → IsLink c link → may_be_served c ≡ is_some (front_of link)
+front_stands c one link is = by c.is_living is.living
+  where
+    by : (living : Bool) → link.is_living ≡ living → (living && is_some (first_payload c.up.bytes)) ≡ is_some (front_of link)
+    by true lives = front_found c one link is (first_payload c.up.bytes) refl ∙ ap (λ (front : Option Front). is_some front) (living_front link.is_living link lives)
+    by false dead = ap (λ (front : Option Front). is_some front) (sym (ap (λ (b : Bool). if b then first_of link link.up else None) dead))
 
 told_same : (frame : Down) (alive : Bool) → told_by_frame frame ≡ told_by (Took frame alive)
 told_same (down.Hello ltxid) alive = refl

@@ -102,6 +102,7 @@ ups_some kept sees sees_later before after horizon incarnation down honest told 
       did = refl;
       history = did.keeps.history ∙ sym (append-nil seen.history);
       start = did.keeps.start;
+      rises = let one_more = did.incarnation in omega (arith, one_more);
       coupled_before = is.coupled;
       coupled_after = coupled;
       more_entries = [];

@@ -236,6 +236,7 @@ module _ (old new : Seen) (t : Traced) (calls : List Call) (ran : OutsideNote) (
     did = (did.more, (ap (λ s. begins_outside s t.machine.tick ++ did.more) same, subst (λ s. RunsAre s t.machine.tick calls (runs_of ran) did.more) same did.ran));
     history = added;
     start = did.keeps.start;
+    rises = let same = did.gains.incarnation in omega (arith, same);
     coupled_before = coupled;
     coupled_after = outside_coupled (drawn_outside (note.Outside (Some ran)));
     more_entries = did.gains.more_entries;

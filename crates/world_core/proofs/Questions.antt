@@ -1,5 +1,5 @@
 -- An outcome is asked for from outside.
-use Rattle.std.proofs.Common.{◌≡◌, true, false, List, [], ◌∷◌, ◌++◌, Some, None, refl, sym, ap, ◌∙◌, inl, inr}
+use Rattle.std.proofs.Common.{◌≡◌, true, false, List, [], ◌∷◌, ◌++◌, Some, None, refl, sym, ap, ◌∙◌, inl, inr, arith}
 use Rattle.std.specs.Prelude.{◌⊎◌, All}
 use Rattle.std.proofs.lemmas.List.{append-nil}
 use Rattle.std.proofs.lemmas.List.Elements.{All-cons, Contains-push}
@@ -128,6 +128,7 @@ asks_some kept sees sees_later before after x told exact up honest goes leads se
       did = ap (λ frame. Asked x (Says frame) ∷ []) (sym (same_frame told));
       history = did.history;
       start = did.keeps.start;
+      rises = let same_opening = did.adds.opening.0 in omega (arith, same_opening);
       coupled_before = is.coupled;
       coupled_after = coupled;
       more_entries = [];

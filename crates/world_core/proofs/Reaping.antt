@@ -1,5 +1,5 @@
 -- The session of an orphan ends, at the machine and at the service.
-use Rattle.std.proofs.Common.{◌≡◌, ◌≤◌, ℕ, zero, suc, ◌+◌, ◌==◌, Bool, true, false, List, [], Option, Some, None, refl, sym, ap, ◌∙◌, subst, eq-eqb, inl, inr}
+use Rattle.std.proofs.Common.{◌≡◌, ◌≤◌, ℕ, zero, suc, ◌+◌, ◌==◌, Bool, true, false, List, [], Option, Some, None, refl, sym, ap, ◌∙◌, subst, eq-eqb, inl, inr, arith}
 use Rattle.std.proofs.lemmas.Bool.Decides.{eqb_tells}
 use Rattle.std.specs.Prelude.{◌⊎◌, if◌then◌else◌}
 use Rattle.std.specs.Option.{option_map_or}
@@ -7,7 +7,7 @@ use Rattle.std.proofs.lemmas.List.{append-nil}
 use Rattle.svc_values.specs.Same.{same_bool}
 use Rattle.outage_schedule.specs.declared.event.Event.TheVariants as event
 use Rattle.outage_schedule.specs.declared.note.Note.TheVariants as note
-use Rattle.server_model.specs.Seen.{Seen, IsHistory, Keeps, KeepsStore}
+use Rattle.server_model.specs.Seen.{Store, Seen, IsHistory, Keeps, KeepsStore}
 use Rattle.server_model.specs.ServiceCalls.{Reaped}
 use Rattle.service_calls.specs.Kept.{Goes}
 use Rattle.world_model.specs.Links.{Link, link_at, with_link, changed, is_orphan}
@@ -164,6 +164,7 @@ reaps_one kept sees sees_later before after number honest goes leads seen t is =
       did = refl;
       history = reaped.keeps_store.history ∙ sym (append-nil seen.history);
       start = reaped.keeps.start;
+      rises = let same = ap (λ (store : Store). store.incarnation) reaped.keeps_store.store in omega (arith, same);
       coupled_before = is.coupled;
       coupled_after = coupled;
       more_entries = [];

@@ -315,6 +315,7 @@ serves_front kept sees sees_later seen new t number front reply before after exa
       did = ap (λ (told : Telling). ServedFrame session t.machine.tick frame told ∷ []) (sym read.tells) ∙ ap (λ found. front_served t.machine.tick found (served ∷ [])) (sym there);
       history = did.history;
       start = did.keeps.start;
+      rises = let same_opening = did.adds.gains.incarnation in omega (arith, same_opening);
       coupled_before = coupled;
       coupled_after = coupled_later;
       more_entries = did.adds.gains.more_entries;

@@ -1,6 +1,6 @@
 -- Connections that stand for those of the machine, one by one.
-use Rattle.std.proofs.Common.{◌≡◌, ℕ, zero, suc, ◌<◌, ◌≤◌, Bool, true, false, List, [], ◌∷◌, ◌++◌, Option, Some, None, Result, Ok, Err, OnOk, IfOk, length, get_or, map, refl, sym, ap, ◌∙◌, subst, arith}
-use Rattle.std.specs.Prelude.{◌⊎◌, slice_get, slice_set, is_some, is_none, option_and_then}
+use Rattle.std.proofs.Common.{◌≡◌, ℕ, zero, suc, ◌<◌, ◌≤◌, Bool, true, false, List, [], ◌∷◌, ◌++◌, Option, Some, None, Result, Ok, Err, OnOk, IfOk, length, get_or, map, ◌+◌, ◌&&◌, refl, sym, ap, ap₂, ◌∙◌, subst, arith, cond}
+use Rattle.std.specs.Prelude.{◌⊎◌, slice_get, slice_set, is_some, is_none, option_and_then, option_map, position}
 use Rattle.std.specs.Option.{option_map_or}
 use Rattle.svc_values.specs.declared.frame.Up.{Up}
 use Rattle.svc_values.specs.declared.frame.Down.{Down}
@@ -11,9 +11,11 @@ use Rattle.world_model.specs.Links.{Link, link_at, with_link, changed, takes, is
 use Rattle.world_model.specs.Noting.{only_if}
 use Rattle.world_model.specs.Serving.{Front, front_of, front_at}
 use Rattle.world_model.specs.Cutting.{reached_of, cut_link, open_at, has_orphan}
+use Rattle.world_model.proofs.Offered.{counted, position_cons}
 use Rattle.world_core.specs.declared.connection.Connection.{Connection}
 use Rattle.world_core.specs.declared.connections.Connections.{Connections}
-use Rattle.world_core.specs.Linked.{IsLink, AreLinks, Stand, connection_at, MaySend, GivesFront, GivesFrontAt, GivesReply, GivesReplyAt, CutsAt}
+use Rattle.world_model.specs.Finishing.{first_behind}
+use Rattle.world_core.specs.Linked.{lives_on, IsLink, AreLinks, Stand, connection_at, MaySend, GivesFront, GivesFrontAt, GivesReply, GivesReplyAt, CutsAt}
 
 -- one more
 pub links_more : (all : List Connection) (links : List Link) (one : Connection) (link : Link) → AreLinks all links → IsLink one link → AreLinks (all ++ one ∷ []) (links ++ link ∷ [])
@@ -242,3 +244,24 @@ orphan_at all number at one b place is_one is links are =
 -- there is none
 pub none_there : {A : Type 0} (links : List Link) (number : ℕ) (link : Link) → link_at links number ≡ None → link_at links number ≡ Some link → A
 none_there links number link none there = absurd (let nothing : ⊥ = cc in nothing)
+
+-- THE FIRST ONE OF A KIND -------------------------------------------------------------------------
+
+-- where a test of connections agrees with one of those of the machine, they find the same one
+position_same : (test : Connection → Bool) (other : Link → Bool) → ((one : Connection) (link : Link) → IsLink one link → test one ≡ other link) → (all : List Connection) (links : List Link) → AreLinks all links → position test all ≡ position other links
+position_same test other agree [] [] are = refl
+position_same test other agree [] (l ∷ links) are = absurd are
+position_same test other agree (c ∷ all) [] are = absurd are
+position_same test other agree (c ∷ all) (l ∷ links) are =
+    position_cons test c all (other l) (agree c l are.0) ∙ ap (λ (later : Option ℕ). cond (other l) (Some 0) (counted later)) (position_same test other agree all links are.1) ∙ sym (position_cons other l links (other l) refl)
+
+numbers_same : (found : Option ℕ) → option_map (λ index. index + 1) found ≡ option_map (λ index. 0 + index + 1) found
+numbers_same None = refl
+numbers_same (Some index) = ap Some (let same : index + 1 ≡ 0 + index + 1 = omega arith in same)
+
+pub finds_first : (test : Connection → Bool) (other : Link → Bool) → ((one : Connection) (link : Link) → IsLink one link → test one ≡ other link) → (all : List Connection) (links : List Link) → AreLinks all links
+    → option_map (λ index. index + 1) (position test all) ≡ first_behind other 0 links
+finds_first test other agree all links are = ap (option_map (λ index. index + 1)) (position_same test other agree all links are) ∙ numbers_same (position other links)
+
+pub orphans_agree : (one : Connection) (link : Link) → IsLink one link → lives_on one ≡ is_orphan link
+orphans_agree one link is = ap₂ (λ (living cut : Bool). living && cut) (sym is.living) (sym is.cut)

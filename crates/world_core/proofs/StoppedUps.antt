@@ -170,6 +170,7 @@ crashes_opening kept sees sees_between sees_later leaves before after horizon ca
       did = refl;
       history = left.history ∙ sym (append-nil seen.history);
       start = left.start;
+      rises = left.low;
       coupled_before = is.coupled;
       coupled_after = coupled;
       more_entries = [];

@@ -7,3 +7,4 @@ pub mod Underway
 pub mod Making
 pub mod Answering
 pub mod Stopping
+pub mod Allowing

@@ -1,5 +1,5 @@
 -- How a connection stands for one of the machine. What the machine remembers beside, as all that was ever sent, no connection holds.
-use Rattle.std.specs.Prelude.{◌≡◌, ◌⊎◌, ℕ, zero, suc, true, List, [], ◌∷◌, map, slice_get, Option, Some, None, IfSome, is_none}
+use Rattle.std.specs.Prelude.{◌≡◌, ◌⊎◌, ◌&&◌, ℕ, zero, suc, Bool, true, List, [], ◌∷◌, map, slice_get, Option, Some, None, IfSome, is_none, is_some}
 use Rattle.std.specs.List.{AllByRecursion}
 use Rattle.svc_values.specs.declared.entry.Ltxid.{Ltxid}
 use Rattle.svc_values.specs.Identifiers.{IsLtxid}
@@ -8,6 +8,7 @@ use Rattle.svc_values.specs.declared.frame.Down.{Down}
 use Rattle.canon_bytes.specs.UpBytes.{spell_up, FitsUp, IsMadeUp}
 use Rattle.canon_bytes.specs.DownBytes.{spell_down, FitsDown, IsMadeDown}
 use Rattle.client_model.specs.declared.input.Input.TheVariants.{Took}
+use Rattle.frame_wire.specs.Stream.{first_payload}
 use Rattle.world_model.specs.Frames.{Sent, Reply}
 use Rattle.outage_schedule.specs.declared.note.Reached.{Reached}
 use Rattle.world_model.specs.Links.{Link, with_link, told_by, takes}
@@ -41,6 +42,14 @@ pub record IsLink (held : Connection) (link : Link) : Type 0 where
   pub down : Carries spell_down FitsDown link.is_open (down_frames link.down) held.down
   pub told : AllByRecursion IsMadeDown (down_frames link.down)
   pub known : IfSome held.held IsLtxid
+
+-- its session lives on behind a cut
+abbrev pub lives_on : Connection → Bool
+lives_on held = held.is_living && held.is_cut
+
+-- a whole frame stands there, and its session lives
+abbrev pub may_be_served : Connection → Bool
+may_be_served held = held.is_living && is_some (first_payload held.up.bytes)
 
 -- the frame that is served next was taken off, where one may be served
 abbrev pub GivesFront : Link → Option Front → Option Up → Connection → Type 0

@@ -7,7 +7,7 @@ ghost use Rattle.client_model.specs.Talk.{wants_of, talk_step};
 ghost use Rattle.client_model.specs.Terms.{Terms, Idle, requested};
 ghost use Rattle.driver_core.specs.Driving.{terms_of, ArePast, HasLtxids};
 ghost use Rattle.transcript_core.specs.Drafts.{IsDraft};
-ghost use Rattle.world_model.specs.Clients.{Doing, Client as Standing, doing_of, resting, past_of, script_at, after_hold};
+ghost use Rattle.world_model.specs.Clients.{Doing, Client as Standing, is_unfinished as is_unfinished_def, doing_of, resting, past_of, script_at, after_hold};
 ghost use Rattle.world_model.specs.Settings.{Setting};
 ghost use Rattle.world_core.specs.Stepping.{connection_in};
 ghost use Rattle.world_core.specs.Coursing.{terms_in, step_of, IsFit, done_of, Begins, with_connection, IsCourse, IsBeside, IsClient, IsSettled, Closes, Hears};
@@ -159,6 +159,20 @@ impl<R: BoundRule + Copy> Client<R> {
         ensures { result ≡ is_some self.now.course }
     {
         self.course.is_some()
+    }
+
+    /// Whether a request is in course, or one is left.
+    pub fn is_unfinished(&self, script: &[Request]) -> bool
+        ensures { (setting : Setting) (number tick : ℕ) (is_lost : Bool) (client : Standing) → script.now ≡ script_at setting number → IsClient R (λ rule. R.rules rule) setting number tick is_lost self.now client → result ≡ is_unfinished_def client }
+    {
+        self.course.is_some() || self.next.request(script).is_some()
+    }
+
+    /// The reports of its requests, in order.
+    pub fn into_reports(self) -> Vec<RequestReport>
+        ensures { result.items ≡ self.past }
+    {
+        self.past
     }
 
     /// What the request in course wants at this tick.

@@ -1,5 +1,5 @@
 //! A connection, with its session.
-ghost use Rattle.std.specs.Prelude.{◌≡◌, ◌⊎◌, List, [], OnOk, IfOk, IfSome, option_and_then, if◌then◌else◌};
+ghost use Rattle.std.specs.Prelude.{◌≡◌, ◌⊎◌, List, [], OnOk, IfOk, IfSome, is_some, option_and_then, if◌then◌else◌};
 ghost use Rattle.std.specs.Option.{option_or};
 ghost use Rattle.outage_schedule.specs.declared.item.Served.{Served};
 ghost use Rattle.std.specs.List.{list_any, AllByRecursion};
@@ -13,7 +13,7 @@ ghost use Rattle.world_model.specs.Links.{Link, new_link, ends, is_close as is_c
 ghost use Rattle.world_model.specs.Serving.{Front, is_last as is_last_def, front_of, after_front};
 ghost use Rattle.world_model.specs.Cutting.{reached_of, cut_link, reaped_link};
 ghost use Rattle.world_model.specs.Crashing.{fallen_link};
-ghost use Rattle.world_core.specs.Linked.{up_frames, told_by_frame, IsLink, GivesFront, GivesReply};
+ghost use Rattle.world_core.specs.Linked.{up_frames, told_by_frame, lives_on, may_be_served, IsLink, GivesFront, GivesReply};
 
 use frame_wire::{DownFeed, UpFeed, any_cut, cut_leaves_whole_frames, encode_down, encode_up};
 use outage_schedule::Reached;
@@ -126,6 +126,15 @@ impl Connection {
         }
     }
 
+    /// Whether a frame may be served: a whole one stands there, and the session lives. Constant.
+    pub(crate) fn has_front(&self) -> bool
+        ensures exact { result ≡ may_be_served self.now }
+        ensures link { (link : Link) → IsLink self.now link → result ≡ is_some (front_of link) }
+    {
+        any_cut::<Up>();
+        self.is_living && self.up.has_frame()
+    }
+
     /// Notes that the frame that was taken off was served by this session, which may end with it, and
     /// sends the reply, which goes nowhere once the connection has ended. Linear in the reply.
     pub(crate) fn serve(
@@ -184,7 +193,8 @@ impl Connection {
 
     /// Whether the connection was cut and its session lives on.
     pub(crate) fn is_orphan(&self) -> bool
-        ensures { (link : Link) → IsLink self.now link → result ≡ is_orphan_def link }
+        ensures exact { result ≡ lives_on self.now }
+        ensures link { (link : Link) → IsLink self.now link → result ≡ is_orphan_def link }
     {
         self.is_living && self.is_cut
     }

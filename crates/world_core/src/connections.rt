@@ -1,5 +1,5 @@
 //! The connections of a run.
-ghost use Rattle.std.specs.Prelude.{◌≡◌, ◌+◌, ◌<◌, ◌⊎◌, ℕ, suc, List, [], ◌∷◌, ◌++◌, length, map, fold, Some, OnOk, IfOk, IfSome, MatchOption, is_none, if◌then◌else◌};
+ghost use Rattle.std.specs.Prelude.{◌≡◌, ◌+◌, ◌<◌, ◌⊎◌, ℕ, suc, List, [], ◌∷◌, ◌++◌, length, map, fold, Some, OnOk, IfOk, IfSome, MatchOption, is_none, is_some, option_map, position, if◌then◌else◌};
 ghost use Rattle.std.specs.Option.{option_copied};
 ghost use Rattle.std.specs.List.{AllByRecursion};
 ghost use Rattle.svc_values.specs.Identifiers.{IsLtxid};
@@ -8,13 +8,15 @@ ghost use Rattle.canon_bytes.specs.DownBytes.{IsMadeDown};
 ghost use Rattle.outage_schedule.specs.declared.item.Served.{Served};
 ghost use Rattle.pool_core.specs.Slots.{after_gone};
 ghost use Rattle.world_model.specs.Frames.{Sent};
-ghost use Rattle.world_model.specs.Links.{Link, new_link, link_at, with_link, changed, ends, sends, open_from};
-ghost use Rattle.world_model.specs.Serving.{Front, is_last as is_last_def, front_at, after_front};
+ghost use Rattle.world_model.specs.Links.{Link, new_link, link_at, with_link, changed, ends, is_orphan as is_orphan_def, sends, open_from};
+ghost use Rattle.world_model.specs.Serving.{Front, is_last as is_last_def, front_of, front_at, after_front};
+ghost use Rattle.world_model.specs.Finishing.{first_behind};
 ghost use Rattle.world_model.specs.Cutting.{open_at, has_orphan, reaped_link};
 ghost use Rattle.world_model.specs.Crashing.{fallen_link};
-ghost use Rattle.world_core.specs.Linked.{up_frames, Stand, connection_at, MaySend, IsOpenAt, IsFound, GivesFrontAt, GivesReplyAt, CutsAt};
+ghost use Rattle.world_core.specs.Linked.{up_frames, lives_on, may_be_served, Stand, connection_at, MaySend, IsOpenAt, IsFound, GivesFrontAt, GivesReplyAt, CutsAt};
 
 use crate::connection::Connection;
+use frame_wire::any_cut;
 use outage_schedule::Reached;
 use pool_core::Pool;
 use std::alloc::Global;
@@ -26,6 +28,22 @@ use svc_values::{Down, Ltxid, NoMemory, SessionId, Up};
 pub struct Connections {
     alloc: Global,
     all: Vec<Connection>,
+}
+
+/// Where the first orphan stands.
+fn first_orphan_in(all: &[Connection]) -> Option<usize>
+    ensures place { result ≡ position lives_on all.now }
+    ensures within { IfSome result (λ at. at < length all.now) }
+{
+    all.iter().position(|connection| connection.is_orphan())
+}
+
+/// Where the first one stands on which a frame may be served.
+fn first_front_in(all: &[Connection]) -> Option<usize>
+    ensures place { result ≡ position may_be_served all.now }
+    ensures within { IfSome result (λ at. at < length all.now) }
+{
+    all.iter().position(|connection| connection.has_front())
 }
 
 impl Connections {
@@ -201,5 +219,22 @@ impl Connections {
         for (before, connection) in self.all.iter().enumerate() {
             connection.leave(before as u64 + 1, pool);
         }
+    }
+
+    /// The first one that was cut and whose session lives on. Linear in the connections.
+    pub fn first_orphan(&self) -> Option<u64>
+        ensures { (links : List Link) → Stand self.now links → result ≡ first_behind is_orphan_def 0 links }
+    {
+        let before = first_orphan_in(&self.all)?;
+        Some(before as u64 + 1)
+    }
+
+    /// The first one on which a frame may be served. Linear in the connections.
+    pub fn first_front(&self) -> Option<u64>
+        ensures { (links : List Link) → Stand self.now links → result ≡ first_behind (λ link. is_some (front_of link)) 0 links }
+    {
+        any_cut::<Up>();
+        let before = first_front_in(&self.all)?;
+        Some(before as u64 + 1)
     }
 }

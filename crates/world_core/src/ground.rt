@@ -1,7 +1,14 @@
 //! The service of a run, and the traffic to it.
-ghost use Rattle.std.specs.Prelude.{◌≡◌, ◌<◌, ◌^◌, [], IfOk, option_to_list};
+ghost use Rattle.std.specs.Prelude.{◌≡◌, ◌<◌, ◌^◌, [], IfOk, is_some, option_to_list};
+ghost use Rattle.server_model.specs.Seen.{Seen};
 ghost use Rattle.server_model.specs.ServiceCalls.{MayForget};
-ghost use Rattle.world_core.specs.Making.{Makes, IsSomewhere};
+ghost use Rattle.world_model.specs.Finishing.{first_behind};
+ghost use Rattle.world_model.specs.Links.{is_orphan};
+ghost use Rattle.world_model.specs.Machines.{Machine};
+ghost use Rattle.world_model.specs.Serving.{front_of};
+ghost use Rattle.world_model.specs.Traced.{Traced};
+ghost use Rattle.world_core.specs.Underway.{IsUnderway};
+ghost use Rattle.world_core.specs.Making.{IsAt, Makes, IsSomewhere};
 
 use crate::answering::frame_name;
 use crate::traffic::Traffic;
@@ -19,8 +26,8 @@ use world_model::laws::orderly_is_kept;
 /// behind it. A service that is ready stays so, and is stopped in none of these.
 #[derive(Drop)]
 pub struct Ground<S: Service + Drop> {
-    pub(crate) service: S,
-    pub(crate) traffic: Traffic,
+    pub service: S,
+    pub traffic: Traffic,
 }
 
 impl<S: Service + Drop> Ground<S> {
@@ -30,6 +37,34 @@ impl<S: Service + Drop> Ground<S> {
         ensures traffic { result.traffic ≡ traffic }
     {
         Ground { service, traffic }
+    }
+
+    /// Whether the server is up.
+    pub fn is_up(&self) -> bool
+        ensures { (seen : Seen) (t : Traced) → IsAt (S.sees self.now.service) self.now.traffic seen t → result ≡ t.machine.server.is_up }
+    {
+        self.service.is_up()
+    }
+
+    /// The first connection that was cut and whose session lives on. Linear in the connections.
+    pub fn first_orphan(&self) -> Option<u64>
+        ensures { (m : Machine) → IsUnderway self.now.traffic m → result ≡ first_behind is_orphan 0 m.links }
+    {
+        self.traffic.connections.first_orphan()
+    }
+
+    /// The first connection on which a frame may be served. Linear in the connections.
+    pub fn first_front(&self) -> Option<u64>
+        ensures { (m : Machine) → IsUnderway self.now.traffic m → result ≡ first_behind (λ link. is_some (front_of link)) 0 m.links }
+    {
+        self.traffic.connections.first_front()
+    }
+
+    /// The service.
+    pub fn into_service(self) -> S
+        ensures { result ≡ self.service }
+    {
+        self.service
     }
 
     /// One tick passes.

@@ -26,10 +26,10 @@ data Found {A : Type 0} (test : A → Bool) (xs : List A) : Option ℕ → Type 
   FoundNone : ((other : ℕ) (one : A) → slice_get xs other ≡ Some one → test one ≡ false) → Found test xs None
 
 -- one more before it
-abbrev counted : Option ℕ → Option ℕ
+abbrev pub counted : Option ℕ → Option ℕ
 counted found = option_map (λ index. index + 1) found
 
-position_cons : {A : Type 0} (test : A → Bool) (x : A) (xs : List A) (here : Bool) → test x ≡ here → position test (x ∷ xs) ≡ (cond here (Some 0) (counted (position test xs)))
+pub position_cons : {A : Type 0} (test : A → Bool) (x : A) (xs : List A) (here : Bool) → test x ≡ here → position test (x ∷ xs) ≡ (cond here (Some 0) (counted (position test xs)))
 position_cons test x xs here is = by here is
   where
     rest : ℕ
@@ -108,6 +108,41 @@ none_is {A} test passed all e = by (position test (drop passed all)) (found_in t
     by _ (FoundNone none) e = λ other one least at.
         let split : other ≡ passed + (other - passed) = omega arith in
         none (other - passed) one (get_behind passed all (other - passed) ∙ (ap (slice_get all) (sym split) ∙ at))
+
+-- one that is the first is found
+pub first_there : {A : Type 0} (test : A → Bool) (passed : ℕ) (all : List A) (number : ℕ) → IsFirst test passed all number → first_behind test passed all ≡ Some number
+first_there {A} test passed all number first = by (first_behind test passed all) refl
+  where
+    by : (found : Option ℕ) → first_behind test passed all ≡ found → found ≡ Some number
+    by None is =
+        let clash : true ≡ false = sym first.meets ∙ none_is test passed all is first.index first.item first.behind first.there in
+        absurd (let never : ⊥ = cc in never)
+    by (Some other) is = ap Some (same_first other (first_is test passed all other is))
+      where
+        same_first : (other : ℕ) → IsFirst test passed all other → other ≡ number
+        same_first other one = at (nat_lt one.index first.index) (nat_lt first.index one.index) refl refl
+          where
+            at : (less more : Bool) → nat_lt one.index first.index ≡ less → nat_lt first.index one.index ≡ more → other ≡ number
+            at true more is_less is_more =
+                let below : one.index < first.index = grind (arith, nat_tests) in
+                let clash : true ≡ false = sym one.meets ∙ first.before one.index one.item one.behind below one.there in
+                absurd (let never : ⊥ = cc in never)
+            at false true is_less is_more =
+                let below : first.index < one.index = grind (arith, nat_tests) in
+                let clash : true ≡ false = sym first.meets ∙ one.before first.index first.item first.behind below first.there in
+                absurd (let never : ⊥ = cc in never)
+            at false false is_less is_more = grind (arith, nat_tests, one.is_number, first.is_number)
+
+-- and where there is none, none is
+pub none_there : {A : Type 0} (test : A → Bool) (passed : ℕ) (all : List A) → NoneBehind test passed all → first_behind test passed all ≡ None
+none_there {A} test passed all none = by (first_behind test passed all) refl
+  where
+    by : (found : Option ℕ) → first_behind test passed all ≡ found → found ≡ None
+    by None is = refl
+    by (Some other) is =
+        let one = first_is test passed all other is in
+        let clash : true ≡ false = sym one.meets ∙ none one.index one.item one.behind one.there in
+        absurd (let never : ⊥ = cc in never)
 
 none_or : (here rest : Bool) → here ≡ false → rest ≡ false → (here || rest) ≡ false
 none_or true rest is none = absurd (let never : ⊥ = cc in never)

@@ -16,3 +16,5 @@ pub use Rattle.world_model.proofs.Beside.{Rest, others_rest, last_incarnation, o
 pub use Rattle.world_model.proofs.Beside.{ticks_once}
 -- each idle connection is open, and idle once
 pub use Rattle.world_model.proofs.Awaiting.{AreOpenOnce, idle_open_once}
+-- which of some is the first that meets a test
+pub use Rattle.world_model.proofs.FirstBehind.{IsFirst, NoneBehind, counted, position_cons, first_there, none_there}

@@ -1,5 +1,5 @@
 -- One event of a run: the machine follows it, and the service does what its items and its note say.
-use Rattle.std.specs.Prelude.{◌≡◌, List, [], ◌∷◌, ◌++◌, flat_map, Some, All}
+use Rattle.std.specs.Prelude.{◌≡◌, ◌≤◌, List, [], ◌∷◌, ◌++◌, flat_map, Some, All}
 use Rattle.svc_values.specs.declared.draw.Draw.{Draw}
 use Rattle.svc_values.specs.declared.entry.Entry.{Entry}
 use Rattle.svc_values.specs.declared.entry.Ltxid.{Ltxid}
@@ -27,13 +27,14 @@ abbrev pub drawn_outside : Note → List Draw
 drawn_outside (note.Outside (Some ran)) = flat_map (λ run. run.draws) ran.runs
 drawn_outside _ = []
 
--- What the journal gained in the event stands behind what it held: entries come from what happened, and blocks were asked for in it.
+-- The incarnation of the store never falls. What the journal gained in the event stands behind what it held: entries come from what happened, and blocks were asked for in it.
 pub record OneEvent (before : Seen) (old : Traced) (event : Event) (note : Note) (items left : List Served) (after : Seen) (new : Traced) : Type 0 where
   pub follows : follow old.setting old.machine event note items ≡ Some (new.machine, left)
   pub happened : List Happened
   pub did : ServiceDid old.machine event note items happened
   pub history : after.history ≡ before.history ++ happened
   pub start : after.start ≡ before.start
+  pub rises : before.state.store.incarnation ≤ after.state.store.incarnation
   pub coupled_before : Coupled before old
   pub coupled_after : Coupled after new
   pub more_entries : List Entry

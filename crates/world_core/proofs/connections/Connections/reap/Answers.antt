@@ -7,10 +7,10 @@ pub returns-in_default : goal.returns-in_default
 returns-in_default c = λ links are. (rw (no_link c.args.self.now.all.items links c.args.number c.in_default.ensures are) refl, are)
 
 pub returns-then-not-is_orphan : goal.returns-then-not-is_orphan
-returns-then-not-is_orphan c = λ links are. (sym c.if-not-is_orphan.true ∙ orphan_at c.args.self.now.all.items c.args.number c.in-Some.at c.index.result.now c.is_orphan.result c.in-Some.ensures c.index.ensures c.is_orphan.ensures links are, are)
+returns-then-not-is_orphan c = λ links are. (sym c.if-not-is_orphan.true ∙ orphan_at c.args.self.now.all.items c.args.number c.in-Some.at c.index.result.now c.is_orphan.result c.in-Some.ensures c.index.ensures c.is_orphan.ensures.link links are, are)
 
 pub returns : goal.returns
 returns c = λ links are. (
-  sym c.if-not-is_orphan.false ∙ orphan_at c.args.self.now.all.items c.args.number c.in-Some.at c.index.result.now c.is_orphan.result c.in-Some.ensures c.index.ensures c.is_orphan.ensures links are,
+  sym c.if-not-is_orphan.false ∙ orphan_at c.args.self.now.all.items c.args.number c.in-Some.at c.index.result.now c.is_orphan.result c.in-Some.ensures c.index.ensures c.is_orphan.ensures.link links are,
   stands_changed c.args.self.now.all.items c.args.number c.in-Some.at c.index_mut.result.now c.reap.new.self reaped_link c.in-Some.ensures c.index_mut.ensures.value c.reap.ensures links are,
 )
