@@ -9,6 +9,7 @@ mod connections;
 mod crashing;
 mod going;
 mod ground;
+mod making;
 mod openings;
 mod outside;
 mod stopped_opening;
