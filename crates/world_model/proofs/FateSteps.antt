@@ -40,7 +40,6 @@ use Rattle.world_model.proofs.Held.{held_now}
 use Rattle.world_model.proofs.LinkCounts.{Known}
 use Rattle.world_model.proofs.LinkSettled.{known_at}
 use Rattle.world_model.proofs.LinkLives.{implied}
-use Rattle.world_model.proofs.LinksStay.{same_link}
 use Rattle.world_model.proofs.HeldKept.{same_none, slot_holds_none}
 use Rattle.world_model.proofs.Saying.{Spoken, Quiet, Fails, Ends, Asks, Calls, Marks, begun_in, opening, has_next, is_hushed, said, said_lent}
 use Rattle.world_model.proofs.Sendings.{sends_at}
@@ -50,7 +49,7 @@ use Rattle.world_model.proofs.Placing.{others_at, said as spoken_frames}
 use Rattle.world_model.proofs.SendingSteps.{scan_by, heard_scan}
 use Rattle.world_model.proofs.SendingsMade.{made}
 use Rattle.world_model.proofs.StepFacts.{first_step, first_doing}
-use Rattle.world_model.proofs.Turning.{either}
+use Rattle.world_model.proofs.Turning.{some_same, either}
 
 -- WHERE IT IS -------------------------------------------------------------------------------------
 
@@ -206,7 +205,7 @@ module _ (t : Traced) (inv : Orderly t) (apart : are_apart t ≡ true) (new : Tr
 
       by : (sending.connection ≡ connection) ⊎ (sending.connection ≢ connection) → new_fated sending ≡ true
       by (inl same) =
-          let found : at.link ≡ link = same_link (link_at m.links connection) at.link link (subst (λ (k : ℕ). link_at m.links k ≡ Some at.link) same at.there) there in
+          let found : at.link ≡ link = some_same (link_at m.links connection) at.link link (subst (λ (k : ℕ). link_at m.links k ≡ Some at.link) same at.there) there in
           fated_to new.machine.links sending next (ap (link_at new.machine.links) same ∙ after) (keeps (subst (Fate sending) found at.fate))
       by (inr other) = elsewhere sending (λ on. other (let both : Some sending.connection ≡ Some connection = sym on ∙ has in let same : sending.connection ≡ connection = cc in same)) here
 

@@ -10,7 +10,6 @@ use Rattle.svc_values.specs.declared.draw.Draw.{Draw}
 use Rattle.svc_values.specs.declared.entry.Ltxid.{Ltxid}
 use Rattle.svc_values.specs.declared.frame.Down.{Down}
 use Rattle.svc_values.specs.declared.frame.Down.TheVariants as down
-use Rattle.svc_values.specs.declared.frame.Up.{Up}
 use Rattle.svc_values.specs.Calls.{has_commit}
 use Rattle.client_model.specs.declared.act.Shown.{Shown}
 use Rattle.client_model.specs.declared.input.Input.{Input}
@@ -37,7 +36,7 @@ use Rattle.world_model.proofs.FateLinks.{OutOf, runs_where, unmarked_call, block
 use Rattle.world_model.proofs.FateTops.{all_with_is, pairs_each, call_left, last_open, scan_on, last_call}
 use Rattle.world_model.proofs.Happened.{at_event}
 use Rattle.world_model.proofs.Held.{held_now}
-use Rattle.world_model.proofs.LinksStay.{same_link}
+use Rattle.world_model.proofs.Turning.{some_same}
 use Rattle.world_model.proofs.LostSteps.{before_so, in_course}
 use Rattle.world_model.proofs.Placing.{said as spoken_frames}
 use Rattle.world_model.proofs.SendingSteps.{scan_by, heard_scan}
@@ -46,7 +45,7 @@ use Rattle.world_model.proofs.StepFacts.{first_step}
 use Rattle.world_model.proofs.Tests.{eq_from, eq_to}
 use Rattle.svc_values.specs.Endings.{ends_committed}
 use Rattle.svc_values.specs.Identifiers.{same_ltxid}
-use Rattle.client_model.specs.Talk.{sends_or_ends, on_reply, talk_shown}
+use Rattle.client_model.specs.Talk.{on_reply, talk_shown}
 use Rattle.world_model.specs.Acting.{frames_of, owner_at}
 use Rattle.world_model.specs.Clients.{heard, step_at}
 use Rattle.world_model.specs.Parts.{scanned, with_taken}
@@ -59,7 +58,7 @@ use Rattle.world_model.proofs.KeptUnasked.{each_among}
 use Rattle.world_model.proofs.ReplyFits.{is_expected, reply_fits}
 use Rattle.world_model.proofs.SameSelf.{ltxid_self, owner_self}
 use Rattle.world_model.proofs.SendingsMade.{answered_all, frames_all}
-use Rattle.world_model.proofs.TalkShows.{ShowsBy, ByReply, ByOutcome, taken_shows}
+use Rattle.world_model.proofs.TalkShows.{ShowsBy, ByReply, ByOutcome, taken_shows, next_shows}
 use Rattle.world_model.proofs.TalkTop.{top_open}
 use Rattle.world_model.proofs.Tests.{not_both}
 
@@ -79,11 +78,6 @@ scan_owned owner scan (step ∷ steps) same all =
     scan_owned owner (scanned scan step) steps same
     (frames_all (λ sending. same_owner sending.owner owner) now step.done.act.send now.sendings (λ any call x is. ap (λ (one : Owner). same_owner one owner) same ∙ owner_self owner)
     (answered_all (λ sending. same_owner sending.owner owner) (λ sending answers so. so) step.done.input step.done.act.shown scan.sendings all))
-
-next_shown : (terms : Terms) (talk : Talk) (state : Living) (alive : Bool) (before : List Up) (shown : Option Shown) (now : ℕ) (next : Option Call) → (sends_or_ends terms talk state alive before shown now next).1.shown ≡ shown
-next_shown terms talk state alive before shown now None = refl
-next_shown terms talk state true before shown now (Some call) = refl
-next_shown terms talk state false before shown now (Some call) = refl
 
 share_not : (a b : Sending) → same_ltxid a.ltxid b.ltxid ≡ true → a.taken ≡ None → b.taken ≡ None → share a b ≡ true → ⊥
 share_not a b same one other here = by (same_ltxid a.ltxid b.ltxid) (option_map_or ends_committed a.taken true) (option_map_or ends_committed b.taken true) (a.connection == b.connection) same (ap (λ (t : _). option_map_or ends_committed t true) one) (ap (λ (t : _). option_map_or ends_committed t true) other) here
@@ -191,7 +185,7 @@ module _ (t : Traced) (inv : Orderly t) (apart : are_apart t ≡ true) (new : Tr
         ∙ (ap (λ (p : Phase). (taken_by terms step.before.talk p (down.Reply answers draws x) link.is_open m.tick).1.shown) at.1
         ∙ ap (λ (call : Option Call). (on_reply terms step.before.talk at.0 answers draws x link.is_open m.tick call).1.shown) left.1) in
         let some : (on_reply terms step.before.talk at.0 answers draws x link.is_open m.tick (Some left.0)).1.shown ≡ Some (record { answers = answers; draws = draws; ltxid = x }) =
-        next_shown terms after _ link.is_open [] (Some (record { answers = answers; draws = draws; ltxid = x })) m.tick (next_call after) in
+        next_shows terms after _ link.is_open [] (Some (record { answers = answers; draws = draws; ltxid = x })) m.tick (next_call after) in
         let never : ◌≡◌ {A = Option Shown} None (Some (record { answers = answers; draws = draws; ltxid = x })) = sym none ∙ (first ∙ some) in
         let nothing : ⊥ = cc in nothing
 
@@ -223,7 +217,7 @@ module _ (t : Traced) (inv : Orderly t) (apart : are_apart t ≡ true) (new : Tr
           top_fate : has_commit top.call ≡ true → Fate top link
           top_fate commits =
               let at = fated_from t.machine.links top (committing_from (fated t.machine.links) top parts.0 commits) in
-              subst (Fate top) (same_link (link_at m.links taking.connection) at.link link (subst (λ (k : ℕ). link_at m.links k ≡ Some at.link) place at.there) taking.there) at.fate
+              subst (Fate top) (some_same (link_at m.links taking.connection) at.link link (subst (λ (k : ℕ). link_at m.links k ≡ Some at.link) place at.there) taking.there) at.fate
 
           first : has_commit top.call ≡ true → fated new.machine.links (record top { taken = Some answers }) ≡ true
           first commits =

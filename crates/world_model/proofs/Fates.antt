@@ -22,6 +22,7 @@ use Rattle.world_model.specs.Parts.{Sending, Scan, implies, is_rep, count_reps, 
 use Rattle.world_model.specs.Sames.{same_owner}
 use Rattle.world_model.proofs.Ends.{sends_alike}
 use Rattle.world_model.proofs.FrontLists.{last_pushed}
+use Rattle.world_model.proofs.LinkLives.{implied}
 use Rattle.world_model.proofs.LinkOut.{reps_more}
 use Rattle.world_model.proofs.Placing.{SameOut}
 use Rattle.world_model.proofs.SameSelf.{owner_self, ltxid_self}
@@ -73,10 +74,6 @@ waits_to sending link waits =
 abbrev taken_test : Sending → ℕ → Option (List Answer) → Bool
 taken_test sending number taken = option_map_or (λ answers. implies (ends_committed answers) (nat_lt sending.ltxid.number number)) taken true
 
-implied_by : (a b : Bool) → a ≡ true → implies a b ≡ true → b ≡ true
-implied_by true b is here = here
-implied_by false b is here = absurd (let none : ⊥ = cc in none)
-
 implies_by : (a b : Bool) → (a ≡ true → b ≡ true) → implies a b ≡ true
 implies_by true b here = here refl
 implies_by false b here = refl
@@ -92,8 +89,8 @@ fate_from sending link here =
     record {
       low = le_from sending.ltxid.number (held_number link) one.0;
       told = λ answers taken commits. lt_from sending.ltxid.number (held_number link)
-          (implied_by (ends_committed answers) (nat_lt sending.ltxid.number (held_number link)) commits (subst (λ (t : Option (List Answer)). taken_test sending (held_number link) t ≡ true) taken two.0));
-      waits = λ none. waits_from sending link (implied_by (is_none sending.taken) (waits_test sending link) (ap is_none none) two.1);
+          (implied (ends_committed answers) (nat_lt sending.ltxid.number (held_number link)) commits (subst (λ (t : Option (List Answer)). taken_test sending (held_number link) t ≡ true) taken two.0));
+      waits = λ none. waits_from sending link (implied (is_none sending.taken) (waits_test sending link) (ap is_none none) two.1);
     }
 
 pub fate_to : (sending : Sending) (link : Link) → Fate sending link → has_fate sending link ≡ true

@@ -39,7 +39,8 @@ use Rattle.world_model.proofs.Happened.{Followed, follow_happens, at_event}
 use Rattle.world_model.proofs.Held.{held_now}
 use Rattle.world_model.proofs.KeptGone.{new_apart}
 use Rattle.world_model.proofs.KeptSendings.{resting_none}
-use Rattle.world_model.proofs.LinksStay.{Stays, same_link}
+use Rattle.world_model.proofs.LinksStay.{Stays}
+use Rattle.world_model.proofs.Turning.{some_same}
 use Rattle.world_model.proofs.Saying.{opening}
 use Rattle.world_model.proofs.Sendings.{sends_at}
 use Rattle.world_model.proofs.LostSteps.{before_so}
@@ -193,7 +194,7 @@ module _ (t : Traced) (inv : Orderly t) (apart : are_apart t ≡ true) (new : Tr
       let spoke : Spoke = heard_so.spoke calls in
       let both : Some spoke.connection ≡ Some is.connection = sym spoke.has ∙ is.has in
       let number : spoke.connection ≡ is.connection = cc in
-      let same : sends m.event said_now spoke.link ≡ is.next = same_link (link_at new.machine.links is.connection) (sends m.event said_now spoke.link) is.next (subst (λ (k : ℕ). link_at new.machine.links k ≡ Some (sends m.event said_now spoke.link)) number spoke.after) is.there in
+      let same : sends m.event said_now spoke.link ≡ is.next = some_same (link_at new.machine.links is.connection) (sends m.event said_now spoke.link) is.next (subst (λ (k : ℕ). link_at new.machine.links k ≡ Some (sends m.event said_now spoke.link)) number spoke.after) is.there in
       let link_held : spoke.link.held ≡ Some x = sym (sends_alike (λ (l : Link). l.held ≡ spoke.link.held) m.event said_now spoke.link refl refl) ∙ (ap (λ (l : Link). l.held) same ∙ (is.held ∙ held)) in
       let place : ℕ = call_in (first_doing t.setting m inv.script.talks who new.machine step).talk.phase in
       let said_is : said_now ≡ call_frames mine place begun settings call =

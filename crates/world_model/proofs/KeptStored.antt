@@ -30,7 +30,7 @@ use Rattle.world_model.proofs.KeptEntries.{numbered_now}
 use Rattle.world_model.proofs.KeptFates.{fates_law}
 use Rattle.world_model.proofs.KeptOnLinks.{on_from, links_law}
 use Rattle.world_model.proofs.KeptSendings.{resting_none}
-use Rattle.world_model.proofs.LinksStay.{same_link}
+use Rattle.world_model.proofs.Turning.{some_same}
 use Rattle.world_model.proofs.LostKept.{both_all}
 use Rattle.world_model.proofs.Numbered.{entries_cons, numbered_parts}
 use Rattle.world_model.proofs.SameSelf.{ltxid_self}
@@ -93,7 +93,7 @@ module _ (t : Traced) (near : are_near t ≡ true) (numbered : numbered_after []
       entry answers taken commits =
           let at = fated_from t.machine.links sending fated_so in
           let on = on_from t sending on_so in
-          let same : at.link ≡ on.link = same_link (link_at t.machine.links sending.connection) at.link on.link at.there on.there in
+          let same : at.link ≡ on.link = some_same (link_at t.machine.links sending.connection) at.link on.link at.there on.there in
           let below : sending.ltxid.number < held_number at.link = at.fate.told answers taken commits in
           let least : held_number at.link ≤ number_of t.entries at.link =
           le_from (held_number at.link) (number_of t.entries at.link) (and_parts (nat_le (held_number at.link) (number_of t.entries at.link)) (nat_le (number_of t.entries at.link) (held_number at.link + cond_held at.link)) (at_link (is_near t) t.machine.links sending.connection at.link near at.there)).0 in

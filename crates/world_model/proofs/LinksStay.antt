@@ -1,6 +1,5 @@
 -- What becomes of the connection of a number in an event: it is there still, and stands so to what it was.
 use Rattle.std.proofs.Common.{◌≡◌, ◌≢◌, refl, sym, ap, subst, ◌∙◌, Bool, true, false, ℕ, suc, zero, List, [], ◌∷◌, fold, map, Option, Some, None, ◌⊎◌, inl, inr, if◌then◌else◌}
-use Rattle.std.specs.Prelude.{slice_get}
 use Rattle.std.proofs.lemmas.Bool.{and_parts}
 use Rattle.outage_schedule.specs.declared.item.Served.{Served}
 use Rattle.pool_core.specs.Slots.{Slots, after_take, after_opened}
@@ -19,24 +18,16 @@ use Rattle.world_model.specs.Serving.{Front, front_at, is_of_front, is_ordinary,
 use Rattle.world_model.specs.Cutting.{cut_link, reaped_link}
 use Rattle.world_model.specs.Crashing.{is_stopped, is_over, fallen_link, falls}
 use Rattle.world_model.proofs.AllLinks.{front_is, open_is}
-use Rattle.world_model.proofs.Lookups.{with_others, with_own, changed_own, new_others}
+use Rattle.world_model.proofs.Lookups.{mapped, with_others, with_own, changed_own, new_others}
 use Rattle.world_model.proofs.Others.{changed_others}
 use Rattle.world_model.proofs.Moves.{next_number, takes_one, Goes, Rests, Waits, Lends, Opens, Fails, Takes, Loses, ServesLast, LastNone, LastStopped, LastServed, Happens, Nothing, IsStep, Serves, Cuts, Reaps, Crashes, OpensUp, StopsOpening, Ticks, RunsOutside, Asks, Drains}
-use Rattle.world_model.proofs.Turning.{either}
+use Rattle.world_model.proofs.Turning.{some_same, either}
 
 -- the connection of this number is there, and stands so to this one
 pub record Becomes (R : Link → Link → Type 0) (links : List Link) (number : ℕ) (link : Link) : Type 0 where
   pub next : Link
   pub there : link_at links number ≡ Some next
   pub so : R link next
-
-pub same_link : (found : Option Link) (a b : Link) → found ≡ Some a → found ≡ Some b → a ≡ b
-same_link found a b one other = let same : Some a ≡ Some b = sym one ∙ other in let is : a ≡ b = cc in is
-
-mapped_own : (change : Link → Link) (links : List Link) (index : ℕ) (link : Link) → slice_get links index ≡ Some link → slice_get (map change links) index ≡ Some (change link)
-mapped_own change [] index link is = absurd (let none : ⊥ = cc in none)
-mapped_own change (first ∷ links) zero link is = ap Some (let same : first ≡ link = cc in ap change same)
-mapped_own change (first ∷ links) (suc index) link is = mapped_own change links index link is
 
 -- it is a step of a client
 abbrev pub is_went : Noted → Bool
@@ -71,7 +62,7 @@ module _ (R : Link → Link → Type 0) (self : (link : Link) → R link link) (
           record {
             next = new;
             there = ap (link_at (with_link links at new)) same ∙ with_own links at old new there;
-            so = subst (λ (l : Link). R l new) (same_link (link_at links at) old link there here) so;
+            so = subst (λ (l : Link). R l new) (some_same (link_at links at) old link there here) so;
           }
       by (inr apart) = record { next = link; there = with_others links at number new apart ∙ is; so = self link }
 
@@ -90,7 +81,7 @@ module _ (R : Link → Link → Type 0) (self : (link : Link) → R link link) (
 
   pub mapped_stay : (change : Link → Link) (links : List Link) → ((link : Link) → R link (change link)) → Stays links (map change links)
   mapped_stay change links so zero link is = absurd (let none : ⊥ = cc in none)
-  mapped_stay change links so (suc index) link is = record { next = change link; there = mapped_own change links index link is; so = so link }
+  mapped_stay change links so (suc index) link is = record { next = change link; there = mapped change links index link is; so = so link }
 
   -- EVENTS ----------------------------------------------------------------------------------------
 

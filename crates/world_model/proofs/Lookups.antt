@@ -55,7 +55,7 @@ found_there change links number (Some one) is said other link at = with_there li
 pub changed_there : (change : Link → Link) (links : List Link) (number : ℕ) → ((link : Link) → IsSaid link (change link)) → (other : ℕ) (link : Link) → link_at links other ≡ Some link → IsThere (changed change links number) other link
 changed_there change links number said other link at = found_there change links number (link_at links number) refl said other link at
 
-mapped : (change : Link → Link) (links : List Link) (index : ℕ) (link : Link) → slice_get links index ≡ Some link → slice_get (map change links) index ≡ Some (change link)
+pub mapped : (change : Link → Link) (links : List Link) (index : ℕ) (link : Link) → slice_get links index ≡ Some link → slice_get (map change links) index ≡ Some (change link)
 mapped change [] index link is = absurd (let none : ⊥ = cc in none)
 mapped change (first ∷ links) zero link is = ap Some (let same : first ≡ link = cc in ap change same)
 mapped change (first ∷ links) (suc index) link is = mapped change links index link is

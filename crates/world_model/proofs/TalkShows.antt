@@ -34,7 +34,7 @@ none_shown found shown none is = absurd (let e : None ≡ Some shown = sym none 
 same_shown : (found : Option Shown) (one shown : Shown) → found ≡ Some one → found ≡ Some shown → one ≡ shown
 same_shown found one shown mine is = let e : Some one ≡ Some shown = sym mine ∙ is in let same : one ≡ shown = cc in same
 
-next_shows : (terms : Terms) (talk : Talk) (state : Living) (alive : Bool) (before : List Up) (shown : Option Shown) (now : ℕ) (next : Option Call) → (sends_or_ends terms talk state alive before shown now next).1.shown ≡ shown
+pub next_shows : (terms : Terms) (talk : Talk) (state : Living) (alive : Bool) (before : List Up) (shown : Option Shown) (now : ℕ) (next : Option Call) → (sends_or_ends terms talk state alive before shown now next).1.shown ≡ shown
 next_shows terms talk state true before shown now None = refl
 next_shows terms talk state false before shown now None = refl
 next_shows terms talk state true before shown now (Some call) = refl

@@ -66,7 +66,7 @@ same_or_not a b false is = inr (λ same. let yes_is : (a == b) ≡ true = eq_to 
 pub either : (a b : ℕ) → (a ≡ b) ⊎ (a ≢ b)
 either a b = same_or_not a b (a == b) refl
 
-some_same : (found : Option Link) (a b : Link) → found ≡ Some a → found ≡ Some b → a ≡ b
+pub some_same : (found : Option Link) (a b : Link) → found ≡ Some a → found ≡ Some b → a ≡ b
 some_same found a b one other = let same : Some a ≡ Some b = sym one ∙ other in let is : a ≡ b = cc in is
 
 mapped_back : (change : Link → Link) (links : List Link) (index : ℕ) (next : Link) → slice_get (map change links) index ≡ Some next → (link : Link) × ((slice_get links index ≡ Some link) × (next ≡ change link))
