@@ -68,7 +68,7 @@ pub living_view : (found : Option Link) → living_of found ≡ living_in (optio
 living_view None = refl
 living_view (Some link) = refl
 
-same_living : (new old : List Link) (number : ℕ) → views new ≡ views old → living_of (link_at new number) ≡ living_of (link_at old number)
+pub same_living : (new old : List Link) (number : ℕ) → views new ≡ views old → living_of (link_at new number) ≡ living_of (link_at old number)
 same_living new old number same =
     living_view (link_at new number)
     ∙ ap living_in (sym (at_view new number) ∙ ap (λ all. view_at all number) same ∙ at_view old number)
@@ -79,14 +79,14 @@ some_view None one e = absurd (let nothing : ⊥ = cc in nothing)
 some_view (Some link) one e = (link, (refl, cc))
 
 -- the one of a number, where both look alike
-same_found : (new old : List Link) (number : ℕ) (link : Link) → views new ≡ views old → link_at new number ≡ Some link → (other : Link) × ((link_at old number ≡ Some other) × (view other ≡ view link))
+pub same_found : (new old : List Link) (number : ℕ) (link : Link) → views new ≡ views old → link_at new number ≡ Some link → (other : Link) × ((link_at old number ≡ Some other) × (view other ≡ view link))
 same_found new old number link same there =
     some_view (link_at old number) (view link) (sym (at_view old number) ∙ ap (λ all. view_at all number) (sym same) ∙ at_view new number ∙ ap (option_map view) there)
 
-abbrev StoredIn : List Entry → View → Type 0
+abbrev pub StoredIn : List Entry → View → Type 0
 StoredIn entries one = HasStored entries (living_in (Some one)) one.commits
 
-abbrev LivedIn : List Happened → View → Type 0
+abbrev pub LivedIn : List Happened → View → Type 0
 LivedIn history one = HasLived history (living_in (Some one)) one.life
 
 -- COUPLED -----------------------------------------------------------------------------------------
@@ -151,13 +151,13 @@ abbrev pub begun : Machine → Machine
 begun m = record m { event = m.event + 1 }
 
 -- at most four calls more
-most_calls : (old new event next : ℕ) → old ≤ 4 * event + 4 → new ≤ old + 4 → next ≡ event + 1 → new ≤ 4 * next + 4
+pub most_calls : (old new event next : ℕ) → old ≤ 4 * event + 4 → new ≤ old + 4 → next ≡ event + 1 → new ≤ 4 * next + 4
 most_calls old new event next most more is = omega (arith, most, more, is)
 
-most_ticks : (old new event next : ℕ) → old ≤ event → new ≤ old + 1 → next ≡ event + 1 → new ≤ next
+pub most_ticks : (old new event next : ℕ) → old ≤ event → new ≤ old + 1 → next ≡ event + 1 → new ≤ next
 most_ticks old new event next most more is = omega (arith, most, more, is)
 
-same_calls : (n : ℕ) → n ≤ n + 4
+pub same_calls : (n : ℕ) → n ≤ n + 4
 same_calls n = omega arith
 
 pub one_call : (old new : ℕ) → new ≡ old + 1 → new ≤ old + 4

@@ -1,7 +1,6 @@
 -- A Close is sent on each of some connections, all of them open.
-use Rattle.std.proofs.Common.{◌≡◌, ℕ, zero, suc, ◌==◌, Bool, true, false, List, [], ◌∷◌, ◌++◌, ◌+◌, Option, Some, None, length, refl, sym, ap, ◌∙◌, subst, eq-eqb, inr}
-use Rattle.std.specs.Prelude.{◌||◌, slice_get, is_none, if◌then◌else◌}
-use Rattle.std.specs.Option.{option_map_or}
+use Rattle.std.proofs.Common.{◌≡◌, ℕ, zero, suc, ◌==◌, Bool, true, false, List, [], ◌∷◌, ◌+◌, Option, Some, None, length, refl, sym, ap, ◌∙◌, subst, eq-eqb, inr}
+use Rattle.std.specs.Prelude.{◌||◌, slice_get, is_none}
 use Rattle.outage_schedule.specs.declared.event.Event.TheVariants as event
 use Rattle.outage_schedule.specs.declared.note.Note.TheVariants as note
 use Rattle.server_model.specs.Seen.{Seen}
@@ -10,7 +9,7 @@ use Rattle.world_model.specs.Walking.{follow}
 use Rattle.svc_values.specs.declared.frame.Up.{Up}
 use Rattle.svc_values.specs.declared.frame.Up.TheVariants as up
 use Rattle.pool_core.specs.Slots.{Slots, is_among, after_drain}
-use Rattle.world_model.specs.Links.{Link, link_at, with_link, changed, sends}
+use Rattle.world_model.specs.Links.{Link, link_at, changed, sends}
 use Rattle.world_model.specs.KeptLaws.{OrderlyIsKept}
 use Rattle.world_model.specs.Machines.{Machine}
 use Rattle.world_model.specs.Outside.{closed_by_drain, drained, follow_drain}
@@ -22,7 +21,8 @@ use Rattle.world_core.specs.Linked.{AreLinks, Stand, MaySend, connection_at}
 use Rattle.world_core.specs.Underway.{AreClosable, all_closed, IsUnderway, Leads}
 use Rattle.world_core.specs.Making.{Makes, IsSomewhere}
 use Rattle.world_core.proofs.Underway.{changed_kept}
-use Rattle.world_core.proofs.Coupling.{views, view, view_with, begun, one_alone, made_alone}
+use Rattle.world_core.proofs.Coupling.{views, begun, one_alone, made_alone}
+use Rattle.world_core.proofs.Unseen.{sent_views}
 
 first_false : (a b : Bool) → (a || b) ≡ false → (a ≡ false) × (b ≡ false)
 first_false true b e = absurd (let nothing : ⊥ = cc in nothing)
@@ -87,17 +87,10 @@ closable_there sees traffic there =
 -- AT THE SERVICE ----------------------------------------------------------------------------------
 
 -- it looks alike to the service
-view_sent : (event : ℕ) (link : Link) → view (sends event (closed_by_drain ∷ []) link) ≡ view link
-view_sent event link = elim link.is_open as (λ b. view (if b then record link { is_open = false; ended = Some event; sent = link.sent ++ closed_by_drain ∷ []; up = link.up ++ closed_by_drain ∷ [] } else record link { sent = link.sent ++ closed_by_drain ∷ []; up = link.up ++ closed_by_drain ∷ [] }) ≡ view link) [ true ↦ refl | false ↦ refl ]
-
-changed_alike : (change : Link → Link) (links : List Link) (number : ℕ) (found : Option Link) → ((link : Link) → view (change link) ≡ view link) → link_at links number ≡ found → views (option_map_or (λ link. with_link links number (change link)) found links) ≡ views links
-changed_alike change links number None same there = refl
-changed_alike change links number (Some link) same there = view_with links number link (change link) there (same link)
-
 closed_alike : (event : ℕ) (links : List Link) (numbers : List ℕ) → views (all_closed event links numbers) ≡ views links
 closed_alike event links [] = refl
 closed_alike event links (number ∷ numbers) =
-    closed_alike event (changed (sends event (closed_by_drain ∷ [])) links number) numbers ∙ changed_alike (sends event (closed_by_drain ∷ [])) links number (link_at links number) (view_sent event) refl
+    closed_alike event (changed (sends event (closed_by_drain ∷ [])) links number) numbers ∙ sent_views event (closed_by_drain ∷ []) links number
 
 some_machine : (test : Bool) (a b : Machine) → only_if test a ≡ Some b → b ≡ a
 some_machine true a b e = let same : a ≡ b = cc in sym same

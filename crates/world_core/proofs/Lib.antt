@@ -10,6 +10,12 @@ mod Placing
 mod Silence
 mod Steps
 mod Turns
+mod PoolAsks
+mod Looking
+mod Wanting
+mod Unseen
+mod ClientEvents
+mod EachClient
 mod Resting
 mod Coursing
 mod Beginning

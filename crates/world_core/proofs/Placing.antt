@@ -117,7 +117,7 @@ module _ (R : Type 0) (rules : R → Rules) (script : List Request) (number : �
   pub talk_is : Placed → held.driver.talk ≡ doing.talk
   talk_is at = talk_by held.course at.stands.now
 
-  wants_are : Placed → wants_of (terms_in R rules held) held.driver.talk traffic.tick ≡ wanted
+  pub wants_are : Placed → wants_of (terms_in R rules held) held.driver.talk traffic.tick ≡ wanted
   wants_are at =
       ap (λ (terms : Terms). wants_of terms held.driver.talk traffic.tick) at.stands.beside.terms
       ∙ (ap (λ (talk : Talk). wants_of setting.terms talk traffic.tick) (talk_is at)

@@ -5,6 +5,8 @@ pub mod Linked
 pub mod Forgetting
 pub mod Underway
 pub mod Making
+pub mod Beside
+pub mod Among
 pub mod Answering
 pub mod Stopping
 pub mod Allowing

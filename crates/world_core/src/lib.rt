@@ -3,19 +3,23 @@
 
 mod answering;
 mod asking;
+mod choosing;
 mod client;
+mod clients;
 mod connection;
 mod connections;
 mod crashing;
 mod going;
 mod ground;
 mod making;
+mod moving;
 mod openings;
 mod outside;
 mod stopped_opening;
 mod traffic;
 
 pub use client::{Client, Said};
+pub use clients::{clients_stay, first_clients};
 pub use connection::Connection;
 pub use connections::Connections;
 pub use ground::Ground;
