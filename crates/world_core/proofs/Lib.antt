@@ -45,3 +45,4 @@ pub mod StoppedUps
 pub mod LastFrames
 pub mod Lasting
 pub mod Crashes
+pub mod Offered

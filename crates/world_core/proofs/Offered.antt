@@ -1,0 +1,4 @@
+-- Laws of this crate that the crates above cite.
+
+-- the horizon that incarnations that ended ask for
+pub use Rattle.world_core.proofs.Forgetting.{horizon_of, horizon_more, share}
