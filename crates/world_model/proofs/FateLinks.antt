@@ -25,7 +25,7 @@ use Rattle.world_model.specs.Parts.{Sending, is_answered, is_commit_call, is_com
 use Rattle.world_model.specs.Sames.{owned_by, is_of, same_owners, same_up, same_down}
 use Rattle.world_model.specs.Serving.{is_commit}
 use Rattle.world_model.proofs.Ends.{sends_alike}
-use Rattle.world_model.proofs.Fates.{Fate}
+use Rattle.world_model.proofs.Fates.{Fate, Waits}
 use Rattle.world_model.proofs.FrontLists.{last_kept, last_pushed}
 use Rattle.world_model.proofs.HeldSaid.{loud, all_said_loud}
 use Rattle.world_model.proofs.LinkCounts.{Known, IsLast, taken_number, commit_rep}
@@ -126,19 +126,21 @@ not_blocked link orderly living =
     last_loud None link.taken refl (and_parts (list_all loud link.taken) (list_all loud link.down) (sym (list_all-append loud link.taken link.down) ∙ all_said_loud link orderly living)).0
 
 -- so on one that is idle no sending waits
-pub idle_fate : (sending : Sending) (link : Link) (event : ℕ) (frames : List Sent) → is_idle link ≡ true → is_orderly link ≡ true → link.is_living ≡ true → Fate sending link → Fate sending (sends event frames link)
-idle_fate sending link event frames idle orderly living fate = sends_alike (Fate sending) event frames link (record { low = fate.low; told = fate.told; waits = λ none. absurd (never none) }) (record { low = fate.low; told = fate.told; waits = λ none. absurd (never none) })
+pub idle_waits : (sending : Sending) (link : Link) → is_idle link ≡ true → is_orderly link ≡ true → link.is_living ≡ true → Waits sending link → ⊥
+idle_waits sending link idle orderly living waits = by (or_cases (is_out link) (answered_blocked link) waits.out)
   where
-    never : sending.taken ≡ None → ⊥
-    never none = by (or_cases (is_out link) (answered_blocked link) (fate.waits none).out)
-      where
-        by : (is_out link ≡ true) ⊎ (answered_blocked link ≡ true) → ⊥
-        by (inl out) =
-            let count : count_reps link.sent ≡ length link.taken + 1 = eq_from (count_reps link.sent) (length link.taken + 1) out in
-            let same : count_reps link.sent ≡ length link.taken = idle_none link idle in
-            let nothing : ⊥ = omega (arith, count, same) in
-            nothing
-        by (inr blocked) = not_both (answered_blocked link) blocked (not_blocked link orderly living)
+    by : (is_out link ≡ true) ⊎ (answered_blocked link ≡ true) → ⊥
+    by (inl out) =
+        let count : count_reps link.sent ≡ length link.taken + 1 = eq_from (count_reps link.sent) (length link.taken + 1) out in
+        let same : count_reps link.sent ≡ length link.taken = idle_none link idle in
+        let nothing : ⊥ = omega (arith, count, same) in
+        nothing
+    by (inr blocked) = not_both (answered_blocked link) blocked (not_blocked link orderly living)
+
+pub idle_fate : (sending : Sending) (link : Link) (event : ℕ) (frames : List Sent) → is_idle link ≡ true → is_orderly link ≡ true → link.is_living ≡ true → Fate sending link → Fate sending (sends event frames link)
+idle_fate sending link event frames idle orderly living fate =
+    sends_alike (Fate sending) event frames link (record { low = fate.low; told = fate.told; waits = λ none. absurd (idle_waits sending link idle orderly living (fate.waits none)) })
+    (record { low = fate.low; told = fate.told; waits = λ none. absurd (idle_waits sending link idle orderly living (fate.waits none)) })
 
 -- TAKEN -------------------------------------------------------------------------------------------
 

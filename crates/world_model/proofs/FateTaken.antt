@@ -1,7 +1,7 @@
 -- Where a request takes a reply its sendings are fated on: its last one is answered, and no other one waits on the connection.
 use Rattle.std.proofs.Common.{◌≡◌, refl, sym, ap, subst, ◌∙◌, Bool, true, false, ℕ, ◌+◌, ◌&&◌, ◌||◌, cond, filter, fold, length, List, [], ◌∷◌, map, Option, Some, None}
 use Rattle.std.specs.Prelude.{◌==◌, not, is_some, is_none, unwrap_or}
-use Rattle.std.specs.List.{list_all}
+use Rattle.std.specs.List.{list_all, list_any}
 use Rattle.std.specs.Option.{option_or, option_map_or}
 use Rattle.std.proofs.lemmas.Bool.{and_parts, and_from}
 use Rattle.svc_values.specs.declared.answer.Answer.{Answer}
@@ -17,16 +17,19 @@ use Rattle.client_model.specs.declared.input.Input.TheVariants.{Start, Waiting, 
 use Rattle.client_model.specs.States.{Living}
 use Rattle.client_model.specs.Talk.{talk_step, takes as taken_by, next_call}
 use Rattle.client_model.specs.Terms.{Terms, Talk, Phase, Running}
+use Rattle.svc_values.specs.declared.frame.Up.{Up}
+use Rattle.svc_values.specs.declared.frame.Up.TheVariants as up
 use Rattle.world_model.specs.Acting.{sent_by, call_in}
 use Rattle.world_model.specs.Clients.{Step}
 use Rattle.world_model.specs.Conversing.{connected}
-use Rattle.world_model.specs.Frames.{Owner}
+use Rattle.world_model.specs.Frames.{Owner, Sent}
 use Rattle.world_model.specs.Invariant.{Orderly}
 use Rattle.world_model.specs.Links.{Link, link_at, sends, takes, told_by}
 use Rattle.world_model.specs.Machines.{Machine}
 use Rattle.world_model.specs.Once.{share, are_apart}
-use Rattle.world_model.specs.Parts.{Sending, Scan, answered, commit_sendings}
-use Rattle.world_model.specs.Sames.{each_pair, all_with}
+use Rattle.world_model.specs.Hold.{is_awaited, is_call}
+use Rattle.world_model.specs.Parts.{Sending, Scan, answered, commit_sendings, is_commit_call, is_unmarked_frame}
+use Rattle.world_model.specs.Sames.{each_pair, all_with, owned_by}
 use Rattle.world_model.specs.Traced.{Traced, courses_of}
 use Rattle.world_model.specs.Words.{brought}
 use Rattle.world_model.proofs.AllLists.{weaker_all}
@@ -52,10 +55,12 @@ use Rattle.world_model.specs.Parts.{scanned, with_taken}
 use Rattle.world_model.specs.Sames.{same_owner}
 use Rattle.world_model.specs.Wire.{is_reply_front, handled_from, is_answered_in_order}
 use Rattle.world_model.proofs.AllLinks.{at_link}
-use Rattle.world_model.proofs.FateSteps.{fated, fated_from, fated_to, committing, committing_by, committing_from, stays_at, Taking, on, known, out, waits_commits, fate_by}
+use Rattle.world_model.proofs.FateSteps.{fated, fated_from, fated_to, committing, committing_by, committing_from, stays_at, Taking, on, known, out, waits_commits, waits_out, fate_by}
 use Rattle.world_model.proofs.Fates.{none_is}
 use Rattle.world_model.proofs.KeptUnasked.{each_among}
 use Rattle.world_model.proofs.ReplyFits.{is_expected, reply_fits}
+use Rattle.world_model.proofs.RowKept.{at_before}
+use Rattle.world_model.proofs.TalkCounts.{counts_so}
 use Rattle.world_model.proofs.SameSelf.{ltxid_self, owner_self}
 use Rattle.world_model.proofs.SendingsMade.{answered_all, frames_all}
 use Rattle.world_model.proofs.TalkShows.{ShowsBy, ByReply, ByOutcome, taken_shows, next_shows}
@@ -167,9 +172,12 @@ module _ (t : Traced) (inv : Orderly t) (apart : are_apart t ≡ true) (new : Tr
         (at_link is_reply_front t.machine.links taking.connection link inv.wire.replies taking.there) (at_link (λ one. handled_from 0 one.served) t.machine.links taking.connection link inv.wire.handled taking.there)
         (at_link is_answered_in_order t.machine.links taking.connection link inv.wire.in_order taking.there))
 
+    never_expected : (frame : Down) → taking.reply.frame ≡ frame → ((state : Living) → is_expected (Running state) frame ≡ false) → (sending : Sending) → sending.taken ≡ None → Fate sending link → ⊥
+    never_expected frame says never sending none fate =
+        let at = runs sending (fate.waits none) in not_both (is_expected (Running at.0) taking.reply.frame) (expected at.0 at.1) (ap (is_expected (Running at.0)) says ∙ never at.0)
+
     not_expected : (frame : Down) → taking.reply.frame ≡ frame → ((state : Living) → is_expected (Running state) frame ≡ false) → (sending : Sending) → sending.taken ≡ None → Fate sending link → Fate sending next
-    not_expected frame says never sending none fate =
-        let at = runs sending (fate.waits none) in absurd (not_both (is_expected (Running at.0) taking.reply.frame) (expected at.0 at.1) (ap (is_expected (Running at.0)) says ∙ never at.0))
+    not_expected frame says never sending none fate = absurd (never_expected frame says never sending none fate)
 
     act_is : (frame : Down) → taking.reply.frame ≡ frame → step.input ≡ Took frame link.is_open
     act_is frame says = taking.heard ∙ ap (λ (f : Down). Took f link.is_open) says
@@ -269,3 +277,34 @@ module _ (t : Traced) (inv : Orderly t) (apart : are_apart t ≡ true) (new : Tr
     pub taking_mine : list_all old_so sendings ≡ true → list_all new_so scan_now.sendings ≡ true
     taking_mine all =
         subst (λ (input : Input). list_all new_so (answered input one.done.act.shown sendings) ≡ true) (sym taking.heard) (by_frame taking.reply.frame one.done.act.shown refl refl all)
+
+    -- where a call is sent behind it, one that waited was the call that is shown now
+    pub shown_behind : list_any is_unmarked_frame one.done.act.send ≡ true → (sending : Sending) → sending.taken ≡ None → Fate sending link → is_some one.done.act.shown ≡ true
+    shown_behind calls sending untaken fate = by taking.reply.frame one.done.act.shown refl refl
+      where
+        by : (frame : Down) (shown : Option Shown) → taking.reply.frame ≡ frame → one.done.act.shown ≡ shown → is_some shown ≡ true
+        by (down.Reply answers draws x) (Some shown) says some = refl
+        by (down.Reply answers draws x) None says none = absurd (shows answers draws x says none sending untaken fate)
+        by down.Blocked shown says some =
+            absurd (let never : false ≡ true = subst (λ (input : Input). list_any is_unmarked_frame (talk_step terms step.before.talk input m.tick).1.send ≡ true) (act_is down.Blocked says) calls in let nothing : ⊥ = cc in nothing)
+        by (down.Hello x) shown says some = absurd (never_expected (down.Hello x) says (λ state. refl) sending untaken fate)
+        by (down.OutcomeIs committed completed) shown says some = absurd (never_expected (down.OutcomeIs committed completed) says (λ state. refl) sending untaken fate)
+        by (down.OutcomeRefused ahead horizon) shown says some = absurd (never_expected (down.OutcomeRefused ahead horizon) says (λ state. refl) sending untaken fate)
+        by (down.Refused cause) shown says some = absurd (never_expected (down.Refused cause) says (λ state. refl) sending untaken fate)
+
+    pub waits_at : (sending : Sending) → sending.taken ≡ None → Fate sending link → sending.at ≡ (scan_by mine step.before.steps).shown
+    waits_at sending untaken fate =
+        let waits = fate.waits untaken in
+        let at = runs sending waits in
+        let called : at_out.sent.call ≡ at.0.track.call = call_at at.0.track.call at_out.sent at_out.sent.frame (subst (λ (p : Phase). is_awaited p at_out.sent ≡ true) at.1 at_out.awaited) in
+        let own : at_out.sent.call ≡ sending.at =
+        eq_from at_out.sent.call sending.at
+        (and_parts (owned_by sending.owner at_out.sent) (at_out.sent.call == sending.at) (and_parts (is_commit_call at_out.sent) (owned_by sending.owner at_out.sent && (at_out.sent.call == sending.at)) (waits_out t inv apart new who step taking sending waits)).1).1 in
+        let so = at_before t.setting m inv.script.talks who new.machine step in
+        let counted : at.0.track.call ≡ (scan_by mine step.before.steps).shown = eq_from at.0.track.call (scan_by mine step.before.steps).shown (subst (λ (p : Phase). counts_so (scan_by mine step.before.steps).shown p ≡ true) at.1 so.shown) in
+        sym own ∙ (called ∙ counted)
+      where
+        call_at : (index : ℕ) (sent : Sent) (frame : Up) → is_call false index sent frame ≡ true → sent.call ≡ index
+        call_at index sent (up.Call false kept call) is = eq_from sent.call index is
+        call_at index sent (up.Call true kept call) is = absurd (let none : ⊥ = cc in none)
+        call_at index sent frame is = absurd (let none : ⊥ = cc in none)
