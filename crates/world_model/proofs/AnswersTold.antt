@@ -63,7 +63,7 @@ stands_still old new more blocks entries blocked one is = refl
 abbrev pub IsAnswer : Core → Core → Ltxid → Down → Type 0
 IsAnswer core after x frame = (frame ≡ down.Refused 2) ⊎ ((frame ≡ down_of (verdict_on core x)) × (after.entries ≡ core.entries))
 
-blocks_none : (judged : Verdict) (core : Core) (x : Ltxid) → (if_blocks judged core x).entries ≡ core.entries
+pub blocks_none : (judged : Verdict) (core : Core) (x : Ltxid) → (if_blocks judged core x).entries ≡ core.entries
 blocks_none verdict.BlockIt core x = refl
 blocks_none verdict.AlreadyBlocked core x = refl
 blocks_none (verdict.Committed completed) core x = refl

@@ -54,7 +54,7 @@ use Rattle.world_model.proofs.Tests.{eq_from}
 -- LISTS -------------------------------------------------------------------------------------------
 
 -- what holds of all of the lists holds of all of each
-each_flat : {A B : Type 0} (test : B → Bool) (parts : A → List B) (xs : List A) → list_all test (flat_map parts xs) ≡ true → list_all (λ x. list_all test (parts x)) xs ≡ true
+pub each_flat : {A B : Type 0} (test : B → Bool) (parts : A → List B) (xs : List A) → list_all test (flat_map parts xs) ≡ true → list_all (λ x. list_all test (parts x)) xs ≡ true
 each_flat test parts [] all = refl
 each_flat test parts (x ∷ xs) all =
     let both = and_parts (list_all test (parts x)) (list_all test (flat_map parts xs)) (sym (list_all-append test (parts x) (flat_map parts xs)) ∙ all) in

@@ -59,7 +59,7 @@ use Rattle.world_model.proofs.Tests.{lt_to, same_session_is, session_self}
 abbrev among : SessionId → List SessionId → List SessionId → Bool
 among session here outside = list_any (same_session session) here || list_any (same_session session) outside
 
-any_links : (session : SessionId) (links : List Link) → list_any (λ link. option_map_or (same_session session) link.session false) links ≡ list_any (same_session session) (filter_map (λ link. link.session) links)
+pub any_links : (session : SessionId) (links : List Link) → list_any (λ link. option_map_or (same_session session) link.session false) links ≡ list_any (same_session session) (filter_map (λ link. link.session) links)
 any_links session [] = refl
 any_links session (link ∷ links) = by link.session (any_links session links)
   where
@@ -99,7 +99,7 @@ grows_made a _ Outside session is = made_more a.incarnation a.count session is
 grows_made a _ (Reopens incarnation below) session is = made_before a.incarnation a.count incarnation session below is
 
 -- of an incarnation before this one, or made in it
-abbrev known_in : ℕ → ℕ → SessionId → Bool
+abbrev pub known_in : ℕ → ℕ → SessionId → Bool
 known_in incarnation count session = nat_lt session.incarnation incarnation || made_in incarnation count session
 
 grows_later : (a b : Census) → Grows a b → a.incarnation ≤ b.incarnation
@@ -138,7 +138,7 @@ link_among (first ∷ links) zero link session there is =
 link_among (first ∷ links) (suc index) link session there is =
     or_right (option_map_or (same_session session) first.session false) (list_any (λ one. option_map_or (same_session session) one.session false) links) (link_among links index link session there is)
 
-number_among : (links : List Link) (number : ℕ) (link : Link) (session : SessionId) → link_at links number ≡ Some link → link.session ≡ Some session → list_any (same_session session) (filter_map (λ one. one.session) links) ≡ true
+pub number_among : (links : List Link) (number : ℕ) (link : Link) (session : SessionId) → link_at links number ≡ Some link → link.session ≡ Some session → list_any (same_session session) (filter_map (λ one. one.session) links) ≡ true
 number_among links zero link session there is = absurd (let none : ⊥ = cc in none)
 number_among links (suc index) link session there is = sym (any_links session links) ∙ link_among links index link session there is
 
@@ -157,7 +157,7 @@ module _ (before after : Seen) (old new : Traced) (event : Event) (note : Note) 
   abbrev by : Followed old.setting old.machine event note items left new.machine
   by = follow_happens old.setting old.machine event note items left new.machine one.follows
 
-  grown : Grows (census (at_event old.machine) old.outside) (census new.machine new.outside)
+  pub grown : Grows (census (at_event old.machine) old.outside) (census new.machine new.outside)
   grown =
       happens_grows old.setting (at_event old.machine) old.outside new.outside (all_wired old.machine.links inv.wire.sent inv.wire.grammar inv.wire.replies inv.wire.handled) inv.basic.named items left by.kind new.machine by.happens
       (one.outside ∙ ap (λ (more : List SessionId). old.outside ++ more) (outside_is old event note by.kind by.is_kind))
@@ -289,7 +289,7 @@ given_known keeps base (Some image) = by (journal_of image) refl
     by (Err place) is = refl
     by (Ok journal) is = known_image journal journal.entries (keeps image journal is).commits.earlier
 
-none_later : (test : Entry → Bool) (entries : List Entry) → list_all test (drop (length entries) entries) ≡ true
+pub none_later : (test : Entry → Bool) (entries : List Entry) → list_all test (drop (length entries) entries) ≡ true
 none_later test entries = ap (list_all test) (ap (drop (length entries)) (sym (append-nil entries)) ∙ drop-append_seam entries [])
 
 pub known_law : EachKeeps → IsKept known_so_far

@@ -1,5 +1,5 @@
 -- InvOnce: entries, the sendings that they are of, and values that were drawn.
-use Rattle.std.specs.Prelude.{ℕ, ◌+◌, ◌==◌, ◌&&◌, ◌||◌, Bool, true, false, not, nat_lt, nat_le, if◌then◌else◌, IsTrue, List, [], ◌∷◌, ◌++◌, length, map, filter, flat_map, count_by, take, Option, Some, None, is_none}
+use Rattle.std.specs.Prelude.{ℕ, ◌+◌, ◌==◌, ◌&&◌, ◌||◌, Bool, true, false, not, nat_lt, nat_le, if◌then◌else◌, IsTrue, List, [], ◌∷◌, ◌++◌, length, map, filter, flat_map, count_by, take, drop, Option, Some, None, is_none}
 use Rattle.std.specs.List.{list_all, list_any, last_or}
 use Rattle.std.specs.Option.{option_map_or}
 use Rattle.svc_values.specs.declared.draw.Draw.{Draw}
@@ -50,14 +50,21 @@ has_sending t entry = count_by is_open_or_committed (under entry.ltxid (all_send
 abbrev pub entries_sent : Traced → Bool
 entries_sent t = list_all (λ entry. implies (is_of_link t entry) (has_sending t entry)) t.entries
 
--- O1a: an entry is completed where the call that committed it has no statement
+-- O1a: an entry of this run is completed where the call that committed it has no statement. One of the image has what its bytes say, whatever
+-- made them, and is of no connection's session
 abbrev pub last_lone : List Piece → Bool
 last_lone [] = false
 last_lone (piece ∷ []) = is_lone_commit piece.call
 last_lone (piece ∷ next ∷ pieces) = last_lone (next ∷ pieces)
 
+abbrev pub is_completed_rightly : Entry → Bool
+is_completed_rightly entry = same_bool entry.completed (last_lone entry.pieces)
+
+abbrev pub is_foreign : Traced → Entry → Bool
+is_foreign t entry = not (is_of_link t entry)
+
 abbrev pub completed_rightly : Traced → Bool
-completed_rightly t = list_all (λ entry. same_bool entry.completed (last_lone entry.pieces)) t.entries
+completed_rightly t = list_all (is_foreign t) (take t.image t.entries) && list_all is_completed_rightly (drop t.image t.entries)
 
 -- O1b: a sending's identifier is one of its connection's session
 abbrev pub is_on_link : Traced → Sending → Bool

@@ -10,7 +10,6 @@ ghost use Rattle.world_model.specs.Hold.{are_had, are_queued, are_held, are_idle
 ghost use Rattle.world_model.specs.Number.{are_near, are_counted as are_numbered, are_told, are_served_near, are_ahead, blocks_next, entries_numbered, known_so_far, none_blocked};
 ghost use Rattle.world_model.specs.Shown.{are_given, in_rows, lose_own, answers_stand, outcomes_stand};
 ghost use Rattle.world_model.specs.Lost.{stay_gone, are_lost, are_pending, want_lost, want_next, outcomes_lost, go_unasked, ask_rightly, leave_none, fail_incomplete, are_told as tell_rightly, have_events};
-ghost use Rattle.world_model.specs.Once.{on_links, have_fates, committed_stored, are_apart};
 ghost use Rattle.world_model.specs.RunLaws.{RunsAreFollowed, RunsAreOrderly};
 ghost use Rattle.world_model.specs.Basic.{have_risen, kept_ticks, items_rise, items_differ, is_down, are_ended, sessions_differ, are_made, are_counted, are_named, living_now, commits_counted, lives};
 
@@ -314,31 +313,6 @@ pub fn committed_outcomes_are_told()
 /// before.
 pub fn errors_tell_their_events()
     ensures { IsKeptOfAll have_events }
-{}
-
-/// The identifier of each sending with a commit is one of its connection's session.
-pub fn sendings_are_of_sessions()
-    ensures { StaysTrue on_links }
-{}
-
-/// What became of each sending with a commit is told by its connection, if the whole invariant held before. Its number is at most that of
-/// the identifier held there, and below it where it was answered Committed. Where no reply was taken to it, it is what is out there, or was
-/// blocked, and the identifier held is its own.
-pub fn sendings_have_fates()
-    ensures { IsKeptOfAll have_fates }
-{}
-
-/// A sending that was answered Committed has its entry, if the whole invariant held before.
-pub fn committed_sendings_are_stored()
-    ensures { IsKeptOfAll committed_stored }
-{
-    server_model::laws::runs_number();
-}
-
-/// Of two sendings under one identifier, both are on one connection, and at most one has no reply that was taken, or one that says
-/// Committed, if the whole invariant held before.
-pub fn sendings_stay_apart()
-    ensures { IsKeptOfAll are_apart }
 {}
 
 /// The record of identifiers and entries as a whole.

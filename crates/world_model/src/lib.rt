@@ -1,5 +1,6 @@
 //! The world as a pure machine, in `specs/`: it walks the events of a run with their notes and the items that were served
-//! (`Followed`), and the invariant of its states is a record of tests (`Invariant`). `laws` says what of it is proved to be kept.
+//! (`Followed`), and the invariant of its states is a record of tests (`Invariant`). `laws` and `once_laws` say what of it is proved to be kept.
 #![tactic(auto)]
 
 pub mod laws;
+pub mod once_laws;

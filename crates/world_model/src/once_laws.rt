@@ -1,0 +1,35 @@
+//! What of entries and of the sendings that they are of holds of the start and is kept in each event. Each law is the clause of a function
+//! with nothing to run.
+ghost use Rattle.world_model.specs.KeptLaws.{IsKeptOfAll, StaysTrue};
+ghost use Rattle.world_model.specs.Once.{completed_rightly, on_links, have_fates, committed_stored, are_apart};
+
+/// The identifier of each sending with a commit is one of its connection's session.
+pub fn sendings_are_of_sessions()
+    ensures { StaysTrue on_links }
+{}
+
+/// What became of each sending with a commit is told by its connection, if the whole invariant held before. Its number is at most that of
+/// the identifier held there, and below it where it was answered Committed. Where no reply was taken to it, it is what is out there, or was
+/// blocked, and the identifier held is its own.
+pub fn sendings_have_fates()
+    ensures { IsKeptOfAll have_fates }
+{}
+
+/// A sending that was answered Committed has its entry, if the whole invariant held before.
+pub fn committed_sendings_are_stored()
+    ensures { IsKeptOfAll committed_stored }
+{
+    server_model::laws::runs_number();
+}
+
+/// Of two sendings under one identifier, both are on one connection, and at most one has no reply that was taken, or one that says
+/// Committed, if the whole invariant held before.
+pub fn sendings_stay_apart()
+    ensures { IsKeptOfAll are_apart }
+{}
+
+/// Each entry of the run is completed exactly where the call that committed it has no statement, if the whole invariant held before. An
+/// entry of the image is of no connection's session.
+pub fn entries_are_completed_rightly()
+    ensures { IsKeptOfAll completed_rightly }
+{}
