@@ -106,7 +106,7 @@ module _ (test : Sending → Bool) where
 
 -- WHERE IT SPEAKS ---------------------------------------------------------------------------------
 
-held_same : (a b : Option Ltxid) → same_held a b ≡ true → a ≡ b
+pub held_same : (a b : Option Ltxid) → same_held a b ≡ true → a ≡ b
 held_same None None same = refl
 held_same (Some x) (Some y) same = ap Some ((same_ltxid_decides x y).0 same)
 held_same None (Some y) same = absurd (let none : ⊥ = cc in none)

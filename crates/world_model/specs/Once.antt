@@ -2,6 +2,8 @@
 use Rattle.std.specs.Prelude.{ℕ, ◌+◌, ◌==◌, ◌&&◌, ◌||◌, Bool, true, false, not, nat_lt, nat_le, if◌then◌else◌, IsTrue, List, [], ◌∷◌, ◌++◌, length, map, filter, flat_map, count_by, take, drop, Option, Some, None, is_none}
 use Rattle.std.specs.List.{list_all, list_any, last_or}
 use Rattle.std.specs.Option.{option_map_or}
+use Rattle.std.specs.Cmp.Lexicographic.{pointwise}
+use Rattle.svc_values.specs.declared.answer.Answer.{Answer}
 use Rattle.svc_values.specs.declared.draw.Draw.{Draw}
 use Rattle.svc_values.specs.declared.entry.Ltxid.{Ltxid}
 use Rattle.svc_values.specs.declared.entry.Entry.{Entry}
@@ -13,7 +15,8 @@ use Rattle.outage_schedule.specs.declared.item.Item.{Item}
 use Rattle.outage_schedule.specs.declared.item.Item.TheVariants as item
 use Rattle.outage_schedule.specs.declared.request.ShownCall.{ShownCall}
 use Rattle.outage_schedule.specs.declared.request.RequestReport.{RequestReport}
-use Rattle.svc_values.specs.Same.{same_bool}
+use Rattle.svc_values.specs.Same.{same_answers, same_bool, same_call}
+use Rattle.client_model.specs.Tried.{Sending as Noted, Trying, trying_of}
 use Rattle.run_clauses.specs.Tried.{Sending as Tried, is_tried, ids_tried, ids_differ, holds}
 use Rattle.run_clauses.specs.Once.{request_ends, copies_have_one, entries_in}
 use Rattle.run_clauses.specs.Copies.{copies_of}
@@ -24,8 +27,9 @@ use Rattle.world_model.specs.Frames.{Owner, Sent, Handled}
 use Rattle.world_model.specs.Links.{Link, link_at}
 use Rattle.world_model.specs.Clients.{Client, script_at}
 use Rattle.world_model.specs.Traced.{Traced, Course, courses_of}
+use Rattle.world_model.specs.Words.{dones_of}
 use Rattle.world_model.specs.Sames.{each_pair, same_owners, owned_by}
-use Rattle.world_model.specs.Parts.{Sending, sendings_of, commit_sendings, is_commit_call, has_entry, implies, is_out, out_frame, held_number}
+use Rattle.world_model.specs.Parts.{Sending, Scan, scan_of, sendings_of, commit_sendings, is_commit_call, has_entry, implies, is_out, out_frame, held_number}
 
 -- all sendings of calls with a commit, of all requests
 abbrev pub all_sendings : Traced → List Sending
@@ -137,6 +141,28 @@ over_ends t = list_all (λ course. implies course.is_over (request_ends t.entrie
 abbrev pub transactions_have_one : Traced → Bool
 transactions_have_one t = list_all (λ course. list_all (λ ids. nat_le (length (entries_in t.entries ids)) 1) course.report.tried) (courses_of t)
 
+-- O4a: what a client notes of its sendings is what they are: each call without the mark, under the identifier held on the connection, of the
+-- transaction of its place, with the answers that were taken
+abbrev pub same_taken : Option (List Answer) → Option (List Answer) → Bool
+same_taken None None = true
+same_taken (Some a) (Some b) = same_answers a b
+same_taken _ _ = false
+
+abbrev pub is_noted : List ShownCall → Noted → Sending → Bool
+is_noted shown noted sending =
+    same_ltxid noted.ltxid sending.ltxid
+    && (same_call noted.call sending.call && (same_taken noted.reply sending.taken && (noted.transaction == transaction_at shown sending.at)))
+
+abbrev pub agree_on : List ShownCall → Trying → Scan → Bool
+agree_on shown trying scan =
+    (scan.shown == length shown) && ((trying.over == transaction_at shown (length shown)) && pointwise (is_noted shown) trying.sendings scan.sendings)
+
+abbrev pub notes_sendings : Course → Bool
+notes_sendings course = agree_on course.report.calls (trying_of (dones_of course.steps)) (scan_of course)
+
+abbrev pub note_sendings : Traced → Bool
+note_sendings t = list_all notes_sendings (courses_of t)
+
 -- O4: `tried` is that of the sendings
 abbrev pub reverse_onto : List Sending → List Sending → List Sending
 reverse_onto [] done = done
@@ -226,6 +252,7 @@ pub record Once (t : Traced) : Type 0 where
   pub settled : IsTrue (earlier_settled t)
   pub ends : IsTrue (over_ends t)
   pub one : IsTrue (transactions_have_one t)
+  pub noted : IsTrue (note_sendings t)
   pub tried : IsTrue (tell_tried t)
   pub lists : IsTrue (tried_apart t)
   pub copies : IsTrue (copies_once t)

@@ -1,7 +1,7 @@
 //! What of entries and of the sendings that they are of holds of the start and is kept in each event. Each law is the clause of a function
 //! with nothing to run.
 ghost use Rattle.world_model.specs.KeptLaws.{IsKeptOfAll, StaysTrue};
-ghost use Rattle.world_model.specs.Once.{completed_rightly, on_links, have_fates, committed_stored, are_apart};
+ghost use Rattle.world_model.specs.Once.{completed_rightly, on_links, have_fates, committed_stored, are_apart, note_sendings, tell_tried};
 
 /// The identifier of each sending with a commit is one of its connection's session.
 pub fn sendings_are_of_sessions()
@@ -32,4 +32,16 @@ pub fn sendings_stay_apart()
 /// entry of the image is of no connection's session.
 pub fn entries_are_completed_rightly()
     ensures { IsKeptOfAll completed_rightly }
+{}
+
+/// What a client notes of its sendings is what they are: each call without the mark, under the identifier held on its connection, in the
+/// transaction of its place, with the answers that were taken.
+pub fn sendings_are_noted()
+    ensures { StaysTrue note_sendings }
+{}
+
+/// What a report has as tried is what the sendings of its request tell, if the whole invariant held before: transaction by transaction, the
+/// identifiers of those with a commit that were answered Committed, or to which no reply was taken.
+pub fn reports_tell_what_was_tried()
+    ensures { IsKeptOfAll tell_tried }
 {}
