@@ -1,0 +1,5 @@
+pub mod Noting
+pub mod Onward
+pub mod AtStart
+pub mod Unfinished
+pub mod Ending

@@ -1,0 +1,6 @@
+use Rattle.world_run.specs.Places.{place_of}
+use Rattle.world_run.proofs.Ending.{Comes}
+use Rattle.world_run.proofs.world.World.finish.Given as goal
+
+abbrev pub invariant-loop : goal.invariant-loop
+invariant-loop g l = Comes _ _ g.S.Service.sees (λ rule. g.R.BoundRule.rules rule) l.scripts (place_of l.place) l.counter l.fn.self l.self

@@ -1,0 +1,23 @@
+use Rattle.std.proofs.Common.{◌<◌, ◌^◌, refl, sym, subst, [], length}
+use Rattle.outage_schedule.specs.declared.event.Event.{Event}
+use Rattle.world_run.specs.Running.{Leads}
+use Rattle.world_run.proofs.Onward.{few_events, if_made, is_somewhere, may_forget, not_go, standing_in}
+use Rattle.world_run.proofs.world.World.make.Goals as goal
+
+pub make-requires : goal.make-requires
+make-requires g c =
+    let there = standing_in _ _ g.S.Service.sees (λ rule. g.R.BoundRule.rules rule) c.args.scripts.now _ _ c.self.view_is c.requires.there in
+    record {
+      events = few_events _ _ g.S.Service.sees (λ rule. g.R.BoundRule.rules rule) c.args.scripts.now _ there (subst (λ parts. length parts.notes < 2 ^ 45) (sym c.self.view_is) c.requires.events);
+      there = is_somewhere _ _ g.S.Service.sees (λ rule. g.R.BoundRule.rules rule) c.args.scripts.now _ there;
+      may = may_forget _ _ g.S.Service.sees (λ rule. g.R.BoundRule.rules rule) c.args.scripts.now _ _ c.wanted-horizon.result there (λ seen sees. (g.met.S.Service.honest c.self.inside.ground.service seen sees).state_is) c.wanted-horizon.ensures;
+      allowed = (length c.args.scripts.now, c.requires.allowed);
+      other = not_go c.args.event.now c.in_default.not-Go;
+    }
+
+pub returns-in_default : goal.returns-in_default
+returns-in_default g c = if_made _ _ g.S.Service.sees (λ rule. g.R.BoundRule.rules rule) c.args.scripts.now _ _ _ c.args.event.now c.self.view_is c.clients_stay.ensures (not_go c.args.event.now c.in_default.not-Go) c.make.result c.make.ensures refl (refl, refl, refl)
+
+pub returns : goal.returns
+returns g c =
+    subst (λ (event : Event). Leads _ _ g.S.Service.sees (λ rule. g.R.BoundRule.rules rule) c.args.scripts.now event c.in_ok-note.note [] c.args.self.now c.go.new.self) (sym c.in-Go.is) c.in_ok-note.ensures
