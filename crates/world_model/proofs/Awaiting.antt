@@ -1,6 +1,6 @@
 -- What the connection of a request, or the one that the pool lends it, is like at an event, and that nothing is said on one that has ended.
 use Rattle.std.proofs.Common.{◌≡◌, refl, sym, ap, subst, ◌∙◌, Bool, true, false, ℕ, zero, suc, ◌+◌, ◌<◌, ◌≤◌, ◌&&◌, cond, length, List, [], ◌∷◌, ◌++◌, count_by, drop, Option, Some, None, if◌then◌else◌, arith}
-use Rattle.std.specs.Prelude.{◌==◌, not, nat_le, is_some}
+use Rattle.std.specs.Prelude.{◌==◌, nat_le, is_some}
 use Rattle.std.specs.List.{list_all}
 use Rattle.std.specs.Option.{option_map_or}
 use Rattle.std.proofs.lemmas.Bool.{and_parts}
@@ -9,17 +9,16 @@ use Rattle.std.proofs.lemmas.Option.{slice_get_within}
 use Rattle.svc_values.specs.declared.entry.Ltxid.{Ltxid}
 use Rattle.svc_values.specs.declared.frame.Down.{Down}
 use Rattle.svc_values.specs.Same.{same_bool}
-use Rattle.pool_core.specs.declared.answers.Take.{Take}
 use Rattle.pool_core.specs.declared.answers.Take.TheVariants as take
 use Rattle.pool_core.specs.declared.answers.Back.{Back}
-use Rattle.pool_core.specs.Slots.{Slots, is_among, drains, has_to_wait, joined, without, lends, take_answer, after_take}
+use Rattle.pool_core.specs.Slots.{Slots, is_among, has_to_wait, joined, without, lends, take_answer, after_take}
 use Rattle.client_model.specs.declared.input.Wants.TheVariants as wants
 use Rattle.client_model.specs.Talk.{takes, wants_of}
 use Rattle.client_model.specs.Terms.{Terms, Talk}
 use Rattle.client_model.specs.Released.{has_slot}
 use Rattle.world_model.specs.Acting.{closing}
 use Rattle.world_model.specs.Clients.{Client, Doing, client_at, doing_of}
-use Rattle.world_model.specs.Hold.{idle_of, is_idle, holds_connection, is_held, waits_on}
+use Rattle.world_model.specs.Hold.{is_idle, holds_connection, is_held, waits_on}
 use Rattle.world_model.specs.Invariant.{Orderly}
 use Rattle.world_model.specs.Links.{Link, link_at}
 use Rattle.world_model.specs.Sames.{all_with, each_pair}

@@ -1,7 +1,6 @@
 -- Of Once: an entry of the run is completed where the call that committed it has no statement, and one of the image is of no connection's session, at the
 -- start and behind each event.
 use Rattle.std.proofs.Common.{◌≡◌, refl, sym, ap, ◌∙◌, Bool, true, false, ℕ, ◌+◌, ◌||◌, ◌&&◌, length, List, [], ◌∷◌, ◌++◌, take, drop, append_assoc, arith}
-use Rattle.std.specs.Prelude.{not}
 use Rattle.std.specs.List.{list_all, list_any}
 use Rattle.std.proofs.Math.Seq.{take-append_seam}
 use Rattle.std.proofs.lemmas.Bool.{and_parts, and_from, not_from_false, not-true}
@@ -26,7 +25,6 @@ use Rattle.world_model.specs.Traced.{Traced}
 use Rattle.world_model.proofs.AllLists.{weaker_all}
 use Rattle.world_model.proofs.Census.{Census, next_of, Grows, Stands, Connects, Outside, Reopens}
 use Rattle.world_model.proofs.EntriesMade.{gained_right}
-use Rattle.world_model.proofs.Happened.{at_event}
 use Rattle.world_model.proofs.Inserted.{Inserted, Here, There}
 use Rattle.world_model.proofs.KnownSessions.{any_links, grown, known_in, none_later}
 use Rattle.world_model.proofs.LostKept.{both_all}

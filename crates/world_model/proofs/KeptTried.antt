@@ -1,4 +1,5 @@
--- Of Once: what a report has as tried is what the sendings of its request tell, at the start and behind each event.
+-- Of Once: what a report has as tried is what the sendings of its request tell, and no identifier stands there twice, at the start and behind each
+-- event.
 use Rattle.std.proofs.Common.{◌≡◌, refl, sym, subst, ◌∙◌, Bool, true, ℕ, length, List, [], ◌∷◌}
 use Rattle.std.specs.Prelude.{◌==◌, ◌&&◌}
 use Rattle.std.specs.Cmp.Lexicographic.{pointwise}
@@ -12,13 +13,15 @@ use Rattle.world_model.specs.Clients.{Client, past_of}
 use Rattle.world_model.specs.Hold.{are_by_held}
 use Rattle.world_model.specs.Invariant.{Orderly}
 use Rattle.world_model.specs.KeptLaws.{IsKeptOfAll}
-use Rattle.world_model.specs.Once.{is_noted, note_sendings, notes_sendings, tell_tried, tells_tried, transaction_at}
+use Rattle.world_model.specs.Once.{is_noted, note_sendings, notes_sendings, tell_tried, tells_tried, transaction_at, tried_apart}
 use Rattle.world_model.specs.Parts.{Scan, scan_of}
+use Rattle.world_model.specs.Reached.{traced_start}
 use Rattle.world_model.specs.Settings.{Setting, setting_of}
-use Rattle.world_model.specs.Traced.{Traced, Course, course_now, course_over, courses_of_clients}
+use Rattle.world_model.specs.Traced.{Traced, Course, course_now, course_over, courses_of, courses_of_clients}
 use Rattle.world_model.specs.Words.{dones_of}
 use Rattle.world_model.proofs.CoursesStep.{all_step}
 use Rattle.world_model.proofs.Happened.{Followed, follow_happens, at_event}
+use Rattle.world_model.proofs.KeptApart.{apart_law}
 use Rattle.world_model.proofs.KeptHold.{by_held_law}
 use Rattle.world_model.proofs.KeptNoted.{mine_noted}
 use Rattle.world_model.proofs.KeptSendings.{resting_none}
@@ -28,6 +31,7 @@ use Rattle.world_model.proofs.NotedParts.{lists_told}
 use Rattle.world_model.proofs.Placing.{Moving, Quietly, Stepping, moving}
 use Rattle.world_model.proofs.SameSelf.{ltxid_self}
 use Rattle.world_model.proofs.Tests.{eq_from}
+use Rattle.world_model.proofs.TriedApart.{lists_apart}
 
 same_list : {A : Type 0} (same : A → A → Bool) → ((x : A) → same x x ≡ true) → (xs : List A) → pointwise same xs xs ≡ true
 same_list same self [] = refl
@@ -61,4 +65,12 @@ tried_law = record {
       let by : Followed old.setting old.machine event note items left new.machine = follow_happens old.setting old.machine event note items left new.machine one.follows in
       subst (λ (setting : Setting). list_all tells_tried (courses_of_clients setting 1 new.machine.clients) ≡ true) (sym one.setting)
       (by_step old inv.orderly new (by_held_law.at_event before after old new event note items left one inv.orderly) (moving old.setting (at_event old.machine) items left by.kind new.machine by.happens) inv.once.noted inv.once.tried);
+}
+
+-- and no identifier stands there twice
+pub lists_law : IsKeptOfAll tried_apart
+lists_law = record {
+  at_start = λ document. lists_apart (courses_of (traced_start document)) (tried_law.at_start document) (apart_law.at_start document);
+  at_event = λ granted before after old new event note items left one inv.
+      lists_apart (courses_of new) (tried_law.at_event granted before after old new event note items left one inv) (apart_law.at_event granted before after old new event note items left one inv);
 }

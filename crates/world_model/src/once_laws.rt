@@ -1,7 +1,7 @@
 //! What of entries and of the sendings that they are of holds of the start and is kept in each event. Each law is the clause of a function
 //! with nothing to run.
 ghost use Rattle.world_model.specs.KeptLaws.{IsKeptOfAll, StaysTrue};
-ghost use Rattle.world_model.specs.Once.{completed_rightly, on_links, have_fates, committed_stored, are_apart, note_sendings, tell_tried};
+ghost use Rattle.world_model.specs.Once.{completed_rightly, on_links, have_fates, committed_stored, are_apart, note_sendings, tell_tried, tried_apart};
 
 /// The identifier of each sending with a commit is one of its connection's session.
 pub fn sendings_are_of_sessions()
@@ -44,4 +44,9 @@ pub fn sendings_are_noted()
 /// identifiers of those with a commit that were answered Committed, or to which no reply was taken.
 pub fn reports_tell_what_was_tried()
     ensures { IsKeptOfAll tell_tried }
+{}
+
+/// No identifier stands twice in what reports have as tried, neither in one list nor in two, if the whole invariant held before.
+pub fn tried_identifiers_differ()
+    ensures { IsKeptOfAll tried_apart }
 {}
