@@ -34,6 +34,15 @@ use Rattle.world_model.proofs.Tests.{eq_from, eq_to, lt_from}
 
 -- LISTS -------------------------------------------------------------------------------------------
 
+-- one of which the one holds, and so the other
+pub any_goes : {A : Type 0} (p r : A → Bool) → ((x : A) → p x ≡ true → r x ≡ true) → (xs : List A) → list_any p xs ≡ true → list_any r xs ≡ true
+any_goes p r goes [] any = any
+any_goes p r goes (x ∷ xs) any = by (or_cases (p x) (list_any p xs) any) (λ later. any_goes p r goes xs later)
+  where
+    by : (p x ≡ true) ⊎ (list_any p xs ≡ true) → (list_any p xs ≡ true → list_any r xs ≡ true) → (r x || list_any r xs) ≡ true
+    by (inl here) again = or_left (r x) (list_any r xs) (goes x here)
+    by (inr later) again = or_right (r x) (list_any r xs) (again later)
+
 -- one of which both hold
 pub any_with : {A : Type 0} (p q r : A → Bool) (xs : List A) → ((x : A) → p x ≡ true → q x ≡ true → r x ≡ true) → list_any p xs ≡ true → list_all q xs ≡ true → list_any r xs ≡ true
 any_with p q r [] both any all = absurd (let none : ⊥ = cc in none)
@@ -62,7 +71,7 @@ last_found test keep found (first ∷ xs) x is here = by (keep first) is (λ now
     by true is with_it without = inr (later (with_it is))
     by false is with_it without = still (without is)
 
-filter_any : (test keep : Sent → Bool) (xs : List Sent) → list_any (λ x. test x && keep x) xs ≡ true → list_any test (filter keep xs) ≡ true
+pub filter_any : {A : Type 0} (test keep : A → Bool) (xs : List A) → list_any (λ x. test x && keep x) xs ≡ true → list_any test (filter keep xs) ≡ true
 filter_any test keep [] any = any
 filter_any test keep (x ∷ xs) any = by (keep x) (or_cases (test x && keep x) (list_any (λ y. test y && keep y) xs) any) (λ later. filter_any test keep xs later)
   where
@@ -73,7 +82,7 @@ filter_any test keep (x ∷ xs) any = by (keep x) (or_cases (test x && keep x) (
     by false (inl here) again = absurd (let never : false ≡ true = (and_parts (test x) false here).1 in let none : ⊥ = cc in none)
     by false (inr later) again = again later
 
-any_filtered : (test keep : Sending → Bool) (xs : List Sending) → list_any test (filter keep xs) ≡ true → list_any (λ x. test x && keep x) xs ≡ true
+pub any_filtered : (test keep : Sending → Bool) (xs : List Sending) → list_any test (filter keep xs) ≡ true → list_any (λ x. test x && keep x) xs ≡ true
 any_filtered test keep [] any = any
 any_filtered test keep (x ∷ xs) any = by (keep x) any (λ later. any_filtered test keep xs later)
   where

@@ -1,9 +1,9 @@
 -- Of Shown: each call that was shown is from an item, or from an outcome, at the start and behind each event.
-use Rattle.std.proofs.Common.{◌≡◌, refl, sym, ap, subst, ◌∙◌, Bool, true, false, ℕ, ◌+◌, ◌&&◌, ◌||◌, length, List, [], ◌∷◌, ◌++◌, map, Option, Some, None, ⊎_elim, arith}
+use Rattle.std.proofs.Common.{◌≡◌, refl, sym, ap, subst, ◌∙◌, Bool, true, false, ℕ, ◌+◌, ◌&&◌, ◌||◌, length, List, [], ◌∷◌, ◌++◌, map, Option, Some, None, arith}
 use Rattle.std.specs.Prelude.{◌==◌, slice_get, option_map}
 use Rattle.std.specs.List.{list_all, list_any, cons_option}
 use Rattle.std.specs.Option.{option_or, option_map_or}
-use Rattle.std.proofs.lemmas.Bool.{and_parts, and_from, or_right, or_cases}
+use Rattle.std.proofs.lemmas.Bool.{and_parts, and_from, or_right}
 use Rattle.std.proofs.lemmas.List.{append-nil, map-append, length-map}
 use Rattle.std.proofs.lemmas.List.Folds.{list_any-append}
 use Rattle.svc_values.specs.declared.call.Call.{Call}
@@ -15,42 +15,51 @@ use Rattle.outage_schedule.specs.declared.request.Outcome.{Outcome}
 use Rattle.outage_schedule.specs.declared.request.ShownCall.{ShownCall}
 use Rattle.client_model.specs.declared.act.Shown.{Shown}
 use Rattle.client_model.specs.States.{Asking}
+use Rattle.client_model.specs.Terms.{Asked}
 use Rattle.run_clauses.specs.Reports.{shown_call, told_outcome}
 use Rattle.run_clauses.specs.Tried.{holds}
-use Rattle.world_model.specs.Clients.{Doing, Client, begun, past_of}
+use Rattle.world_model.specs.Clients.{Doing, Client, Step, begun, past_of}
 use Rattle.world_model.specs.Frames.{Owner, Handled}
 use Rattle.world_model.specs.Invariant.{Invariant, Orderly}
 use Rattle.world_model.specs.KeptLaws.{IsKeptOfAll}
 use Rattle.world_model.specs.Links.{Link, link_at}
 use Rattle.world_model.specs.Machines.{Machine}
+use Rattle.world_model.specs.Once.{tells_tried}
+use Rattle.world_model.specs.Parts.{Sending, sendings_of}
 use Rattle.world_model.specs.Reached.{traced_start}
 use Rattle.world_model.specs.Sames.{owned_by}
 use Rattle.world_model.specs.Settings.{Setting, setting_of}
-use Rattle.world_model.specs.Shown.{calls_on, is_current, is_row, in_row, first_of, is_scripts, is_shown_item, link_shows, outcome_shows, is_from, all_from, has_completed, lone_completed, is_given, all_given, are_given}
+use Rattle.world_model.specs.Shown.{calls_on, is_current, is_row, in_row, first_of, is_scripts, is_shown_item, link_shows, has_completed, is_from, all_from, are_from}
 use Rattle.world_model.specs.Traced.{Traced, Course, course_now, course_over, courses_of_clients, courses_of}
 use Rattle.world_model.specs.Words.{brought, held_in}
 use Rattle.world_model.proofs.AllLists.{weaker_all}
 use Rattle.world_model.proofs.ClientSteps.{HasStepped, MayStep, Still, Closed, Stepped, happens_step}
+use Rattle.world_model.proofs.CommittedSendings.{filter_any, any_filtered, any_goes}
+use Rattle.world_model.proofs.CompletedSendings.{completed_new, completed_sent, completed_still, may_be, told_by}
 use Rattle.world_model.proofs.CoursesGrow.{or_left}
 use Rattle.world_model.proofs.CoursesStep.{all_step}
-use Rattle.world_model.proofs.GivenMore.{shows_by, all_more, all_push}
+use Rattle.world_model.proofs.GivenMore.{shows_by, all_more, all_push, all_weaker}
 use Rattle.world_model.proofs.Happened.{Followed, follow_happens, at_event}
 use Rattle.world_model.proofs.Held.{doing_course}
 use Rattle.world_model.proofs.KeptRows.{course_rows, before_rows, before_on}
 use Rattle.world_model.proofs.KeptSendings.{any_of_all, resting_none}
+use Rattle.world_model.proofs.KeptTried.{tried_law}
 use Rattle.world_model.proofs.KnownLinks.{known_of}
 use Rattle.world_model.proofs.LinkCounts.{Known}
 use Rattle.world_model.proofs.LoneCalls.{lone_now}
+use Rattle.world_model.proofs.LostKept.{both_all}
 use Rattle.world_model.proofs.OutcomesTold.{told_more, outcomes_are}
 use Rattle.world_model.proofs.OwnedKept.{left_held}
 use Rattle.world_model.proofs.RowLast.{row_of}
 use Rattle.world_model.proofs.RowSteps.{ShownStep, NoneMore, OneMore, shown_step, shown_after}
-use Rattle.world_model.proofs.SendingSteps.{after_held}
+use Rattle.world_model.proofs.SendingSteps.{after_held, scan_by}
 use Rattle.world_model.proofs.ServedGrows.{IsLonger, happens_longer}
 use Rattle.world_model.proofs.ShownNow.{IsShownOn, Completed, ShownNow, FromItem, FromOutcome, shown_now}
 use Rattle.world_model.proofs.StepFacts.{account_now, first_step, first_doing, before_talks, request_after}
 use Rattle.world_model.proofs.Strangers.{same_owner_is}
 use Rattle.world_model.proofs.Tests.{eq_from}
+use Rattle.world_model.proofs.TriedApart.{commits, is_under}
+use Rattle.world_model.proofs.TriedSendings.{sent_of_tried, tried_of_sent}
 
 -- LISTS -------------------------------------------------------------------------------------------
 
@@ -65,7 +74,7 @@ any_at test (first ∷ numbers) number is here = by (first == number) refl is (�
 -- THE STEP ----------------------------------------------------------------------------------------
 
 abbrev given_test : Traced → Course → Bool
-given_test t course = all_given t course 0 course.report.calls
+given_test t course = all_from (completed_sent course) t course 0 course.report.calls
 
 module _ (granted : Draw → Bool) (old new : Traced) (whole : Invariant granted old) (rows : list_all (course_rows old.machine.links) (courses_of old) ≡ true) (given : list_all (given_test old) (courses_of old) ≡ true)
     (longer : (number : ℕ) (link : Link) → link_at old.machine.links number ≡ Some link → IsLonger new.machine.links number link) where
@@ -76,8 +85,7 @@ module _ (granted : Draw → Bool) (old new : Traced) (whole : Invariant granted
   m = at_event old.machine
 
   others_given : (course : Course) → given_test old course ≡ true → given_test new course ≡ true
-  others_given course =
-      all_more old new longer course course refl [] (sym (append-nil (held_in course.steps))) [] (sym (append-nil course.report.outcomes)) refl 0 course.report.calls
+  others_given course = all_more old new longer course course refl [] (sym (append-nil (held_in course.steps))) (completed_sent course) (completed_sent course) (λ so. so) refl 0 course.report.calls
 
   known : (number : ℕ) (link : Link) → link_at old.machine.links number ≡ Some link → Known link
   known = known_of old inv
@@ -122,12 +130,26 @@ module _ (granted : Draw → Bool) (old new : Traced) (whole : Invariant granted
       held_are : held_in d.steps ≡ held_in step.before.steps ++ cons_option (brought step.input) []
       held_are = ap held_in steps ∙ after_held old.setting m inv.script.talks number n step
 
-      so_far : all_given new d 0 before_course.report.calls ≡ true
-      so_far =
-          all_more old new longer before_course d owner (cons_option (brought step.input) []) held_are (told_more step.input step.before.talk.phase) (outcomes ∙ outcomes_are old inv number n step) request_same 0
-          before_course.report.calls before_given
+      sendings_same : sendings_of d ≡ (scan_by mine step.after.steps).sendings
+      sendings_same = ap (λ (o : Owner). (scan_by o d.steps).sendings) owner ∙ ap (λ (all : List Step). (scan_by mine all).sendings) steps
 
-      from_item : (shown : Shown) (at : ℕ) → step.before.connection ≡ Some at → IsShownOn m.links mine step.before.request.calls (length shown_before) shown at → is_given new d (length shown_before) (slice_get d.request.calls (length shown_before)) (shown_call shown) ≡ true
+      outcomes_more : d.report.outcomes ≡ before_course.report.outcomes ++ told_more step.input step.before.talk.phase
+      outcomes_more = outcomes ∙ outcomes_are old inv number n step
+
+      -- what was told before is told still
+      completed_more : completed_sent before_course ≡ true → completed_sent d ≡ true
+      completed_more here =
+          ap (λ (list : List Sending). list_any (told_by list) d.report.outcomes) sendings_same
+          ∙ (ap (list_any (told_by (scan_by mine step.after.steps).sendings)) outcomes_more
+          ∙ (list_any-append (told_by (scan_by mine step.after.steps).sendings) before_course.report.outcomes (told_more step.input step.before.talk.phase)
+          ∙ or_left (list_any (told_by (scan_by mine step.after.steps).sendings) before_course.report.outcomes) (list_any (told_by (scan_by mine step.after.steps).sendings) (told_more step.input step.before.talk.phase))
+          (completed_still granted old whole number n step here)))
+
+      so_far : all_from (completed_sent d) new d 0 before_course.report.calls ≡ true
+      so_far =
+          all_more old new longer before_course d owner (cons_option (brought step.input) []) held_are (completed_sent before_course) (completed_sent d) completed_more request_same 0 before_course.report.calls before_given
+
+      from_item : (shown : Shown) (at : ℕ) → step.before.connection ≡ Some at → IsShownOn m.links mine step.before.request.calls (length shown_before) shown at → is_from (completed_sent d) new d (length shown_before) (slice_get d.request.calls (length shown_before)) (shown_call shown) ≡ true
       from_item shown at has found =
           let next = longer at found.link found.there in
           let here : shows_by mine new.machine.links (length shown_before) found.call (shown_call shown) at ≡ true =
@@ -137,42 +159,45 @@ module _ (granted : Draw → Bool) (old new : Traced) (whole : Invariant granted
           ap (λ (all : List ℕ). list_any (λ other. other == at) all) held_are
           ∙ (list_any-append (λ other. other == at) (held_in step.before.steps) (cons_option (brought step.input) [])
           ∙ or_left (list_any (λ other. other == at) (held_in step.before.steps)) (list_any (λ other. other == at) (cons_option (brought step.input) [])) (was_held at has)) in
-          subst (λ (c : Option Call). is_given new d (length shown_before) c (shown_call shown) ≡ true) (sym (ap (λ (all : List Call). slice_get all (length shown_before)) request_same ∙ found.script))
-          (or_left (list_any (link_shows new d (length shown_before) found.call (shown_call shown)) (held_in d.steps)) (lone_completed d found.call (shown_call shown))
+          subst (λ (c : Option Call). is_from (completed_sent d) new d (length shown_before) c (shown_call shown) ≡ true) (sym (ap (λ (all : List Call). slice_get all (length shown_before)) request_same ∙ found.script))
+          (or_left (list_any (link_shows new d (length shown_before) found.call (shown_call shown)) (held_in d.steps)) (is_lone_commit found.call && (ends_committed shown.answers && completed_sent d))
           (any_at (link_shows new d (length shown_before) found.call (shown_call shown)) (held_in d.steps) at held
           (subst (λ (o : Owner). shows_by o new.machine.links (length shown_before) found.call (shown_call shown) at ≡ true) (sym owner) here)))
 
       -- the outcome is among those that were taken
-      completed_now : (shown : Shown) (asking : Asking) → Completed old.setting m inv.script.talks number n step asking shown → has_completed d ≡ true
-      completed_now shown asking completed =
+      completed_now : (shown : Shown) (asking : Asking) → step.before.talk.phase ≡ Asked asking → Completed old.setting m inv.script.talks number n step asking shown → completed_sent d ≡ true
+      completed_now shown asking phase completed =
           let x : Outcome = record { ltxid = asking.ltxid; committed = true; completed = true } in
-          let test = λ (o : Outcome). o.committed && o.completed in
-          ap (λ (o : List Outcome). list_any test o) (outcomes ∙ (outcomes_are old inv number n step ∙ ap (λ (o : List Outcome). before_course.report.outcomes ++ o) completed.told))
-          ∙ (list_any-append test before_course.report.outcomes (x ∷ []) ∙ or_right (list_any test before_course.report.outcomes) (list_any test (x ∷ [])) refl)
+          let list : List Sending = (scan_by mine step.after.steps).sendings in
+          ap (λ (all : List Sending). list_any (told_by all) d.report.outcomes) sendings_same
+          ∙ (ap (list_any (told_by list)) (outcomes_more ∙ ap (λ (o : List Outcome). before_course.report.outcomes ++ o) completed.told)
+          ∙ (list_any-append (told_by list) before_course.report.outcomes (x ∷ [])
+          ∙ or_right (list_any (told_by list) before_course.report.outcomes) (list_any (told_by list) (x ∷ []))
+          (or_left (told_by list x) false (completed_new granted old whole number n step asking completed.alive completed.input phase))))
 
       is_now : (shown : Shown) → (first_step old.setting m inv.script.talks number n step).done.act.shown ≡ Some shown → ShownNow old.setting m inv.script.talks number n step shown
-          → is_given new d (length shown_before) (slice_get d.request.calls (length shown_before)) (shown_call shown) ≡ true
+          → is_from (completed_sent d) new d (length shown_before) (slice_get d.request.calls (length shown_before)) (shown_call shown) ≡ true
       is_now shown is (FromItem at has found) = from_item shown at has found
       is_now shown is (FromOutcome asking phase completed) =
-          subst (λ (c : Option Call). is_given new d (length shown_before) c (shown_call shown) ≡ true) (sym (ap (λ (all : List Call). slice_get all (length shown_before)) request_same ∙ completed.script))
-          (or_right (list_any (link_shows new d (length shown_before) completed.call (shown_call shown)) (held_in d.steps)) (lone_completed d completed.call (shown_call shown))
-          (and_from (is_lone_commit completed.call) (ends_committed shown.answers && has_completed d)
+          subst (λ (c : Option Call). is_from (completed_sent d) new d (length shown_before) c (shown_call shown) ≡ true) (sym (ap (λ (all : List Call). slice_get all (length shown_before)) request_same ∙ completed.script))
+          (or_right (list_any (link_shows new d (length shown_before) completed.call (shown_call shown)) (held_in d.steps)) (is_lone_commit completed.call && (ends_committed shown.answers && completed_sent d))
+          (and_from (is_lone_commit completed.call) (ends_committed shown.answers && completed_sent d)
           (lone_now granted old whole number n step asking completed.alive completed.input phase completed.call
           (ap (slice_get step.before.request.calls) (length-map shown_before shown_call) ∙ completed.script))
-          (and_from (ends_committed shown.answers) (has_completed d) (ap ends_committed completed.commits) (completed_now shown asking completed))))
+          (and_from (ends_committed shown.answers) (completed_sent d) (ap ends_committed completed.commits) (completed_now shown asking phase completed))))
 
       steps_given : given_test new d ≡ true
       steps_given = by (shown_step old.setting m inv.script.talks number n step)
         where
           by : ShownStep shown_before (account_now old.setting.terms (first_doing old.setting m inv.script.talks number n step)).shown (first_step old.setting m inv.script.talks number n step).done.act.shown → given_test new d ≡ true
           by (NoneMore same) =
-              subst (λ (all : List ShownCall). all_given new d 0 all ≡ true) (sym (calls ∙ ap (λ (s : List Shown). map shown_call s) (shown_after old.setting m inv.script.talks number n step ∙ same))) so_far
+              subst (λ (all : List ShownCall). all_from (completed_sent d) new d 0 all ≡ true) (sym (calls ∙ ap (λ (s : List Shown). map shown_call s) (shown_after old.setting m inv.script.talks number n step ∙ same))) so_far
           by (OneMore shown is more) =
               let long : length (map shown_call shown_before) ≡ length shown_before = length-map shown_before shown_call in
               let place : length shown_before ≡ 0 + length (map shown_call shown_before) = omega arith in
-              subst (λ (all : List ShownCall). all_given new d 0 all ≡ true)
+              subst (λ (all : List ShownCall). all_from (completed_sent d) new d 0 all ≡ true)
               (sym (calls ∙ (ap (λ (s : List Shown). map shown_call s) (shown_after old.setting m inv.script.talks number n step ∙ more) ∙ map-append shown_call shown_before (shown ∷ []))))
-              (all_push new d 0 (length shown_before) before_course.report.calls (shown_call shown) place so_far
+              (all_push (completed_sent d) new d 0 (length shown_before) before_course.report.calls (shown_call shown) place so_far
               (is_now shown is
               (shown_now old.setting m inv.script.talks number n step same_owner_is (λ at has. before_on old m number n step step.here inv.hold.held inv.wire.grammar at has) (λ at link there. known at link there)
               scripts shown is)))
@@ -187,45 +212,47 @@ module _ (granted : Draw → Bool) (old new : Traced) (whole : Invariant granted
       (λ keep. steps_given number new.machine step (course_now old.setting number (length step.client.past) step.after) refl refl refl refl refl)
       (λ over. steps_given number new.machine step (course_over number (length step.client.past) (past_of old.setting.terms step.after)) refl refl refl refl refl) given
 
--- WHAT IS SO BEFORE -------------------------------------------------------------------------------
+-- WHAT IS TOLD AS TRIED ----------------------------------------------------------------------------
 
-outcome_given : (course : Course) (ltxid_shown : Outcome → Bool) → list_any (λ (outcome : Outcome). outcome.committed && (outcome.completed && ltxid_shown outcome)) course.report.outcomes ≡ true → has_completed course ≡ true
-outcome_given course ltxid_shown is = any_weaker course.report.outcomes is
-  where
-    one : (a b c : Bool) → (a && (b && c)) ≡ true → (a && b) ≡ true
-    one a b c is = let parts = and_parts a (b && c) is in and_from a b parts.0 (and_parts b c parts.1).0
+-- of a request whose report tells what it tried: the sending of such an outcome, and its identifier among those tried
+tried_completed : (course : Course) → tells_tried course ≡ true → has_completed course ≡ true → completed_sent course ≡ true
+tried_completed course tells here =
+    any_goes (λ (o : Outcome). o.committed && (o.completed && list_any (λ ids. holds ids o.ltxid) course.report.tried)) (told_by (sendings_of course))
+    (λ o so.
+    let first = and_parts o.committed (o.completed && list_any (λ ids. holds ids o.ltxid) course.report.tried) so in
+    let second = and_parts o.completed (list_any (λ ids. holds ids o.ltxid) course.report.tried) first.1 in
+    and_from o.committed (o.completed && list_any (may_be o.ltxid) (sendings_of course)) first.0
+    (and_from o.completed (list_any (may_be o.ltxid) (sendings_of course)) second.0 (any_filtered (is_under o.ltxid) commits (sendings_of course) (sent_of_tried course tells o.ltxid second.1)))) course.report.outcomes here
 
-    any_weaker : (all : List Outcome) → list_any (λ (outcome : Outcome). outcome.committed && (outcome.completed && ltxid_shown outcome)) all ≡ true → list_any (λ (outcome : Outcome). outcome.committed && outcome.completed) all ≡ true
-    any_weaker [] is = absurd (let none : ⊥ = cc in none)
-    any_weaker (x ∷ all) is =
-        ⊎_elim (λ first. or_left (x.committed && x.completed) (list_any (λ (outcome : Outcome). outcome.committed && outcome.completed) all) (one x.committed x.completed (ltxid_shown x) first))
-        (λ later. or_right (x.committed && x.completed) (list_any (λ (outcome : Outcome). outcome.committed && outcome.completed) all) (any_weaker all later))
-        (or_cases (x.committed && (x.completed && ltxid_shown x)) (list_any (λ (outcome : Outcome). outcome.committed && (outcome.completed && ltxid_shown outcome)) all) is)
+completed_tried : (course : Course) → tells_tried course ≡ true → completed_sent course ≡ true → has_completed course ≡ true
+completed_tried course tells here =
+    any_goes (told_by (sendings_of course)) (λ (o : Outcome). o.committed && (o.completed && list_any (λ ids. holds ids o.ltxid) course.report.tried))
+    (λ o so.
+    let first = and_parts o.committed (o.completed && list_any (may_be o.ltxid) (sendings_of course)) so in
+    let second = and_parts o.completed (list_any (may_be o.ltxid) (sendings_of course)) first.1 in
+    and_from o.committed (o.completed && list_any (λ ids. holds ids o.ltxid) course.report.tried) first.0
+    (and_from o.completed (list_any (λ ids. holds ids o.ltxid) course.report.tried) second.0 (tried_of_sent course tells o.ltxid (filter_any (is_under o.ltxid) commits (sendings_of course) second.1)))) course.report.outcomes here
 
-from_given : (t : Traced) (course : Course) (index : ℕ) (call : Option Call) (shown : ShownCall) → is_from t course index call shown ≡ true → is_given t course index call shown ≡ true
-from_given t course index None shown is = is
-from_given t course index (Some call) shown is =
-    ⊎_elim (λ item. or_left (list_any (link_shows t course index call shown) (held_in course.steps)) (lone_completed course call shown) item)
-    (λ told.
-    let one = and_parts (is_lone_commit call) _ told in
-    let two = and_parts (ends_committed shown.answers) _ one.1 in
-    or_right (list_any (link_shows t course index call shown) (held_in course.steps)) (lone_completed course call shown)
-    (and_from (is_lone_commit call) (ends_committed shown.answers && has_completed course) one.0
-    (and_from (ends_committed shown.answers) (has_completed course) two.0 (outcome_given course (λ outcome. list_any (λ ids. holds ids outcome.ltxid) course.report.tried) two.1))))
-    (or_cases (list_any (link_shows t course index call shown) (held_in course.steps)) (outcome_shows course call shown) is)
+abbrev from_test : Traced → Course → Bool
+from_test t course = all_from (has_completed course) t course 0 course.report.calls
 
-all_from_given : (t : Traced) (course : Course) (index : ℕ) (shown : List ShownCall) → all_from t course index shown ≡ true → all_given t course index shown ≡ true
-all_from_given t course index [] all = refl
-all_from_given t course index (one ∷ shown) all =
-    let parts = and_parts (is_from t course index (slice_get course.request.calls index) one) (all_from t course (index + 1) shown) all in
-    and_from (is_given t course index (slice_get course.request.calls index) one) (all_given t course (index + 1) shown) (from_given t course index (slice_get course.request.calls index) one parts.0) (all_from_given t course (index + 1) shown parts.1)
-
-pub given_law : IsKeptOfAll are_given
-given_law = record {
-  at_start = λ document. resting_none (setting_of document) 1 (given_test (traced_start document)) document.clients;
+pub from_law : IsKeptOfAll are_from
+from_law = record {
+  at_start = λ document. resting_none (setting_of document) 1 (from_test (traced_start document)) document.clients;
   at_event = λ granted before after old new event note items left one inv.
       let by : Followed old.setting old.machine event note items left new.machine = follow_happens old.setting old.machine event note items left new.machine one.follows in
+      let given : list_all (given_test old) (courses_of old) ≡ true =
+      weaker_all (λ course. tells_tried course && from_test old course) (given_test old) (courses_of old)
+      (λ course both.
+      let parts = and_parts (tells_tried course) (from_test old course) both in
+      all_weaker (has_completed course) (completed_sent course) old course (tried_completed course parts.0) 0 course.report.calls parts.1) (both_all tells_tried (from_test old) (courses_of old) inv.once.tried inv.shown.shown) in
+      let now : list_all (given_test new) (courses_of new) ≡ true =
       subst (λ (setting : Setting). list_all (given_test new) (courses_of_clients setting 1 new.machine.clients) ≡ true) (sym one.setting)
-      (may_give granted old new inv inv.shown.rows (weaker_all (λ course. all_from old course 0 course.report.calls) (given_test old) (courses_of old) (λ course. all_from_given old course 0 course.report.calls) inv.shown.shown)
-      (happens_longer old.setting (at_event old.machine) items left by.kind new.machine by.happens) (happens_step old.setting (at_event old.machine) items left by.kind new.machine by.happens));
+      (may_give granted old new inv inv.shown.rows given
+      (happens_longer old.setting (at_event old.machine) items left by.kind new.machine by.happens) (happens_step old.setting (at_event old.machine) items left by.kind new.machine by.happens)) in
+      weaker_all (λ course. tells_tried course && given_test new course) (from_test new) (courses_of new)
+      (λ course both.
+      let parts = and_parts (tells_tried course) (given_test new course) both in
+      all_weaker (completed_sent course) (has_completed course) new course (completed_tried course parts.0) 0 course.report.calls parts.1)
+      (both_all tells_tried (given_test new) (courses_of new) (tried_law.at_event granted before after old new event note items left one inv) now);
 }

@@ -45,12 +45,12 @@ record Behind (first at : ℕ) : Type 0 where
 behind : (first at : ℕ) → first ≤ at → Behind first at
 behind first at least = record { more = at - first; is = omega (arith, least) }
 
-record Part : Type 0 where
-  first : List ShownCall
-  rest : List (List ShownCall)
+pub record Part : Type 0 where
+  pub first : List ShownCall
+  pub rest : List (List ShownCall)
 
 -- there is always a last part
-some_part : (calls : List ShownCall) → (p : Part) × (txns calls ≡ p.first ∷ p.rest)
+pub some_part : (calls : List ShownCall) → (p : Part) × (txns calls ≡ p.first ∷ p.rest)
 some_part [] = (record { first = []; rest = [] }, refl)
 some_part (call ∷ calls) = by (ends_transaction call.answers) (some_part calls)
   where

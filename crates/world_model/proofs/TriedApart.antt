@@ -17,6 +17,7 @@ use Rattle.world_model.specs.Parts.{Sending, commit_sendings, sendings_of}
 use Rattle.world_model.specs.Sames.{all_with, each_pair}
 use Rattle.world_model.specs.Traced.{Course}
 use Rattle.world_model.proofs.AskedNear.{any_all}
+use Rattle.world_model.proofs.CommittedSendings.{any_goes}
 use Rattle.world_model.proofs.FateTops.{all_with_is}
 use Rattle.world_model.proofs.SameSelf.{ltxid_self}
 use Rattle.world_model.proofs.Tests.{le_from, le_to, lt_from, not_both}
@@ -31,7 +32,7 @@ either_false : (a b : Bool) → a ≡ false → b ≡ false → (a || b) ≡ fal
 either_false false b one other = other
 either_false true b one other = absurd (let none : ⊥ = cc in none)
 
-holds_append : (ids more : List Ltxid) (x : Ltxid) → holds (ids ++ more) x ≡ (holds ids x || holds more x)
+pub holds_append : (ids more : List Ltxid) (x : Ltxid) → holds (ids ++ more) x ≡ (holds ids x || holds more x)
 holds_append ids more x = list_any-append (same_ltxid x) ids more
 
 -- two lists that have none in common
@@ -88,14 +89,14 @@ new_holds (y ∷ more) ids x here = by (new_holds more (with_new ids y) x here)
 
 -- SENDINGS ----------------------------------------------------------------------------------------
 
-abbrev commits : Sending → Bool
+abbrev pub commits : Sending → Bool
 commits sending = has_commit sending.call
 
 -- open or committed, under this identifier
-abbrev is_under : Ltxid → Sending → Bool
+abbrev pub is_under : Ltxid → Sending → Bool
 is_under x sending = is_open_or_committed sending && same_ltxid x sending.ltxid
 
-abbrev under_at : (ℕ → Bool) → Ltxid → Sending → Bool
+abbrev pub under_at : (ℕ → Bool) → Ltxid → Sending → Bool
 under_at is_of x sending = is_of sending.at && is_under x sending
 
 share_not : (x : Ltxid) (a b : Sending) → is_under x a ≡ true → is_under x b ≡ true → share a b ≡ true → ⊥
@@ -157,10 +158,10 @@ pairs_front (s ∷ front) back pairs =
 -- ONE REQUEST -------------------------------------------------------------------------------------
 
 module _ (x : Ltxid) (is_of : ℕ → Bool) where
-  abbrev may_at : Tried → Bool
+  abbrev pub may_at : Tried → Bool
   may_at one = is_of one.at && may_have_committed one
 
-  abbrev sent_under : Sending → Bool
+  abbrev pub sent_under : Sending → Bool
   sent_under sending = may_at (tried_one sending) && same_ltxid x sending.ltxid
 
   among_sent : (ys done : List Sending) → holds (map (λ (one : Tried). one.ltxid) (filter may_at (map tried_one (reverse_onto ys done)))) x ≡ true
@@ -210,14 +211,6 @@ module _ (x : Ltxid) (is_of : ℕ → Bool) where
           pick (inl any) = committing ys any
           pick (inr never) = absurd (let none : ⊥ = cc in none)
 
-any_more : (p q : Sending → Bool) → ((s : Sending) → p s ≡ true → q s ≡ true) → (list : List Sending) → list_any p list ≡ true → list_any q list ≡ true
-any_more p q weaker [] any = any
-any_more p q weaker (s ∷ list) any = by (or_cases (p s) (list_any p list) any) (λ later. any_more p q weaker list later)
-  where
-    by : (p s ≡ true) ⊎ (list_any p list ≡ true) → (list_any p list ≡ true → list_any q list ≡ true) → (q s || list_any q list) ≡ true
-    by (inl here) again = or_left (q s) (list_any q list) (weaker s here)
-    by (inr later) again = or_right (q s) (list_any q list) (again later)
-
 module _ (ys : List Sending) (pairs : each_pair share (filter commits ys) ≡ true) where
   abbrev told : List Tried
   told = map tried_one (reverse_onto ys [])
@@ -249,10 +242,10 @@ module _ (ys : List Sending) (pairs : each_pair share (filter commits ys) ≡ tr
 
       by : (x : Ltxid) → (holds (tried_among (within first part) told) x ≡ true) ⊎ (holds (flat (tried_from (first + length part) (next ∷ parts) told)) x ≡ true) → list_any (under_at (λ at. nat_le first at) x) (filter commits ys) ≡ true
       by x (inl mine) =
-          any_more (under_at (within first part) x) (under_at (λ at. nat_le first at) x)
+          any_goes (under_at (within first part) x) (under_at (λ at. nat_le first at) x)
           (λ s here. let parts = and_parts ((within first part) s.at) (is_under x s) here in and_from (nat_le first s.at) (is_under x s) (and_parts (nat_le first s.at) (nat_lt s.at (first + length part)) parts.0).0 parts.1) (filter commits ys) (tried_sent x (within first part) ys mine)
       by x (inr its) =
-          any_more (under_at (λ at. nat_le (first + length part) at) x) (under_at (λ at. nat_le first at) x)
+          any_goes (under_at (λ at. nat_le (first + length part) at) x) (under_at (λ at. nat_le first at) x)
           (λ s here. let parts = and_parts (nat_le (first + length part) s.at) (is_under x s) here in and_from (nat_le first s.at) (is_under x s) (le_lower s.at parts.0) parts.1) (filter commits ys) (rest.sent x its)
         where
           le_lower : (at : ℕ) → nat_le (first + length part) at ≡ true → nat_le first at ≡ true
@@ -297,7 +290,7 @@ one_more course courses tells pairs rest = record {
     mine_differ = placed.differ
 
     mine_sent : (x : Ltxid) → holds (ids_tried course.report) x ≡ true → list_any (is_under x) (commit_sendings course) ≡ true
-    mine_sent x here = any_more (under_at (λ at. nat_le 0 at) x) (is_under x) (λ s so. (and_parts (nat_le 0 s.at) (is_under x s) so).1) (commit_sendings course) (placed.sent x here)
+    mine_sent x here = any_goes (under_at (λ at. nat_le 0 at) x) (is_under x) (λ s so. (and_parts (nat_le 0 s.at) (is_under x s) so).1) (commit_sendings course) (placed.sent x here)
 
     by : (x : Ltxid) → (holds (ids_tried course.report) x ≡ true) ⊎ (holds (ids_of courses) x ≡ true) → (list_any (is_under x) (commit_sendings course) || list_any (is_under x) (flat_map commit_sendings courses)) ≡ true
     by x (inl one) = or_left (list_any (is_under x) (commit_sendings course)) (list_any (is_under x) (flat_map commit_sendings courses)) (mine_sent x one)

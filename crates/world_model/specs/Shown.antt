@@ -39,39 +39,20 @@ item_shows course index call shown one = owned_by course.owner one.sent && ((one
 abbrev pub link_shows : Traced → Course → ℕ → Call → ShownCall → ℕ → Bool
 link_shows t course index call shown number = option_map_or (λ link. list_any (item_shows course index call shown) link.served) (link_at t.machine.links number) false
 
--- or a lone commit, whose outcome says so
-abbrev pub outcome_shows : Course → Call → ShownCall → Bool
-outcome_shows course call shown =
-    is_lone_commit call && (ends_committed shown.answers && list_any (λ outcome. outcome.committed && (outcome.completed && list_any (λ ids. holds ids outcome.ltxid) course.report.tried)) course.report.outcomes)
+-- or a lone commit, and an outcome was taken that says committed and completed, of an identifier under which the request tried
+abbrev pub has_completed : Course → Bool
+has_completed course = list_any (λ outcome. outcome.committed && (outcome.completed && list_any (λ ids. holds ids outcome.ltxid) course.report.tried)) course.report.outcomes
 
-abbrev pub is_from : Traced → Course → ℕ → Option Call → ShownCall → Bool
-is_from t course index None shown = false
-is_from t course index (Some call) shown = list_any (link_shows t course index call shown) (held_in course.steps) || outcome_shows course call shown
+abbrev pub is_from : Bool → Traced → Course → ℕ → Option Call → ShownCall → Bool
+is_from completed t course index None shown = false
+is_from completed t course index (Some call) shown = list_any (link_shows t course index call shown) (held_in course.steps) || (is_lone_commit call && (ends_committed shown.answers && completed))
 
-abbrev pub all_from : Traced → Course → ℕ → List ShownCall → Bool
-all_from t course index [] = true
-all_from t course index (shown ∷ others) = is_from t course index (slice_get course.request.calls index) shown && all_from t course (index + 1) others
+abbrev pub all_from : Bool → Traced → Course → ℕ → List ShownCall → Bool
+all_from completed t course index [] = true
+all_from completed t course index (shown ∷ others) = is_from completed t course index (slice_get course.request.calls index) shown && all_from completed t course (index + 1) others
 
 abbrev pub are_from : Traced → Bool
-are_from t = list_all (λ course. all_from t course 0 course.report.calls) (courses_of t)
-
--- as far as its identifier is left out: from an item, or a lone commit, and an outcome was taken that said committed and completed
-abbrev pub has_completed : Course → Bool
-has_completed course = list_any (λ outcome. outcome.committed && outcome.completed) course.report.outcomes
-
-abbrev pub lone_completed : Course → Call → ShownCall → Bool
-lone_completed course call shown = is_lone_commit call && (ends_committed shown.answers && has_completed course)
-
-abbrev pub is_given : Traced → Course → ℕ → Option Call → ShownCall → Bool
-is_given t course index None shown = false
-is_given t course index (Some call) shown = list_any (link_shows t course index call shown) (held_in course.steps) || lone_completed course call shown
-
-abbrev pub all_given : Traced → Course → ℕ → List ShownCall → Bool
-all_given t course index [] = true
-all_given t course index (shown ∷ others) = is_given t course index (slice_get course.request.calls index) shown && all_given t course (index + 1) others
-
-abbrev pub are_given : Traced → Bool
-are_given t = list_all (λ course. all_given t course 0 course.report.calls) (courses_of t)
+are_from t = list_all (λ course. all_from (has_completed course) t course 0 course.report.calls) (courses_of t)
 
 -- S7: A SEGMENT -----------------------------------------------------------------------------------
 

@@ -8,7 +8,7 @@ ghost use Rattle.world_model.specs.Ready.{are_ready};
 ghost use Rattle.world_model.specs.Script.{are_conversations, are_kept, all_sent, are_owned, carry_draws, follow_scripts, report_rightly};
 ghost use Rattle.world_model.specs.Hold.{are_had, are_queued, are_held, are_idle, slots_held, are_opened, are_by_held};
 ghost use Rattle.world_model.specs.Number.{are_near, are_counted as are_numbered, are_told, are_served_near, are_ahead, blocks_next, entries_numbered, known_so_far, none_blocked};
-ghost use Rattle.world_model.specs.Shown.{are_given, in_rows, lose_own, answers_stand, outcomes_stand};
+ghost use Rattle.world_model.specs.Shown.{are_from, in_rows, lose_own, answers_stand, outcomes_stand};
 ghost use Rattle.world_model.specs.Lost.{stay_gone, are_lost, are_pending, want_lost, want_next, outcomes_lost, go_unasked, ask_rightly, leave_none, fail_incomplete, are_told as tell_rightly, have_events};
 ghost use Rattle.world_model.specs.RunLaws.{RunsAreFollowed, RunsAreOrderly};
 ghost use Rattle.world_model.specs.Basic.{have_risen, kept_ticks, items_rise, items_differ, is_down, are_ended, sessions_differ, are_made, are_counted, are_named, living_now, commits_counted, lives};
@@ -228,9 +228,9 @@ pub fn calls_go_in_rows()
 
 /// If the whole invariant held before: each call that was shown is that of an item, which a connection that the request held has for this
 /// call, with these answers and draws; or it is a commit without a statement that ends with Committed, and an outcome was taken that said
-/// committed and completed.
+/// committed and completed, of an identifier that the report has as tried.
 pub fn shown_calls_were_answered()
-    ensures { IsKeptOfAll are_given }
+    ensures { IsKeptOfAll are_from }
 {}
 
 /// If the whole invariant held before: on a connection that a request lost, the answered frame that was sent last is its own.

@@ -1,5 +1,5 @@
-use Rattle.world_model.proofs.KeptShown.{given_law}
+use Rattle.world_model.proofs.KeptShown.{from_law}
 use Rattle.world_model.proofs.laws.shown_calls_were_answered.Goals as goal
 
 pub returns : goal.returns
-returns c = given_law
+returns c = from_law
