@@ -8,6 +8,7 @@ crates/continuity, in crates/wire_bench and in crates/log_bench.
 import json
 import multiprocessing
 import os
+import random
 import subprocess
 import sys
 import tempfile
@@ -86,6 +87,36 @@ def commits_document(commits, rows):
     return one_request([accounts(rows)], script)
 
 
+def transfers(clients, calls):
+    """So many clients that each submit so many transactions of one call."""
+    call = lambda client, n: [["update", "acc", (client * calls + n) % 64, "bal", "plus", 1], ["commit"]]
+    return [{"requests": [{"calls": [call(client, n)]} for n in range(calls)]} for client in range(clients)]
+
+
+def events_document(events):
+    """A schedule that goes round 64 clients, with a cut each 16 events and a crash each 256: what an event costs."""
+    drawn = random.Random(1)
+    schedule = []
+    connections = 64
+    while len(schedule) < events:
+        client = drawn.randint(1, 64)
+        connection = drawn.randint(max(1, connections - 128), connections)
+        schedule += [["go", client], ["serve", connection], ["go", client], ["serve", connection]]
+        if len(schedule) % 16 == 0:
+            schedule += [["cut", connection, drawn.randint(0, 200), drawn.randint(0, 200)], ["reap", connection], ["tick"]]
+            connections += 1
+        if len(schedule) % 256 == 0:
+            schedule += [["crash", connection, drawn.randint(0, 4), drawn.randint(0, 3)], ["up"]]
+            connections += 4
+    return compact({"tables": [accounts(64)], "clients": transfers(64, 31), "schedule": schedule[:events]})
+
+
+def openings_document(openings, rows):
+    """A store that crashes and is opened so often: what an opening costs."""
+    schedule = [["crash", 0, 0, 0], ["up"]] * openings
+    return compact({"tables": [accounts(rows)], "clients": [], "schedule": schedule})
+
+
 def long_document(size):
     """A document of about so many bytes, nearly all of them texts of rows in 32 tables."""
     rows = size // 32 // 76
@@ -144,6 +175,8 @@ CASES = {
     "updates": lambda: document_case("one transaction of updates", updates_document, [(256,), (1_023,)]),
     "reads": lambda: document_case("reads of a whole table in one transaction", reads_document, [(512, 1_000), (512, 10_000)]),
     "whole": lambda: document_case("a whole-table read, an update and a commit", commits_document, [(512, 1_000), (512, 10_000)]),
+    "events": lambda: document_case("events of a schedule", events_document, [(1_000,), (10_000,), (100_000,)]),
+    "openings": lambda: document_case("openings of a store", openings_document, [(200, 5_000), (2_000, 5_000)]),
     "answers": lambda: program_case("wire_bench", [["answers", "100000"], ["answers", "1000000"]], "answer"),
     "stream": lambda: program_case("wire_bench", [["stream", "1000000"], ["stream", "4000000"]], "byte"),
     "commits": lambda: program_case("log_bench", [["10000"], ["100000"]], "commit"),

@@ -6,14 +6,13 @@ use Rattle.std.specs.Io.KnownBytes.{Appends, Consumes}
 use Rattle.serde_json.specs.Written.{compact_text}
 use Rattle.json_form.specs.Faults.{Fault}
 use Rattle.outage_schedule.specs.declared.document.Document.{Document}
-use Rattle.continuity_run.specs.declared.report.Report.{Report}
+use Rattle.outage_schedule.specs.declared.report.Report.{Report}
 use Rattle.continuity_run.specs.declared.top.Status.{Status}
 use Rattle.continuity_run.specs.declared.top.Status.TheVariants as status
 use Rattle.continuity_run.specs.Causes.{AppendsFront}
-use Rattle.doc_reader.specs.Documents.{limit}
-use Rattle.continuity_run.specs.Plain.{run_at}
+use Rattle.doc_reader.specs.Documents.{document_at, limit}
 use Rattle.continuity_run.specs.Headline.{Headline}
-use Rattle.continuity_run.specs.ReportText.{report_of}
+use Rattle.report_text.specs.Report.{report_value}
 
 -- the one command
 abbrev pub is_command : List (String Global) → Bool
@@ -24,17 +23,17 @@ is_command _ = false
 pub record IsReported (document : Document) (text : List ℕ) : Type 0 where
   pub report : Report
   pub headline : Headline document report
-  pub written : text ≡ compact_text (report_of report)
+  pub written : text ≡ compact_text (report_value report)
 
 -- The bytes are a document, and the text is that of its report.
 pub record IsAnswer (bytes text : List ℕ) : Type 0 where
   pub document : Document
-  pub accepted : run_at bytes ≡ Ok document
+  pub accepted : document_at bytes ≡ Ok document
   pub reported : IsReported document text
 
 -- where the source tells what is left, what was read is judged as all of that is
 abbrev pub IsJudged : Option (List ℕ) → List ℕ → Type 0
-IsJudged left front = IfSome left (λ bytes. run_at front ≡ run_at bytes)
+IsJudged left front = IfSome left (λ bytes. document_at front ≡ document_at bytes)
 
 -- the bytes that were read: at most one past the limit, and judged as the whole input is
 pub record IsRead (left_before left_after : Option (List ℕ)) (bytes : List ℕ) : Type 0 where
@@ -62,7 +61,7 @@ pub record IsCut (left_before left_after held_before held_after : Option (List �
 pub record IsRefused (left_before left_after : Option (List ℕ)) (fault : Fault) : Type 0 where
   pub bytes : List ℕ
   pub read : IsRead left_before left_after bytes
-  pub refused : run_at bytes ≡ Err fault
+  pub refused : document_at bytes ≡ Err fault
 
 abbrev pub Writes : List ℕ → Option (List ℕ) → Option (List ℕ) → Type 0
 Writes bytes held_before held_after = (text : List ℕ) × (IsAnswer bytes text × Appends held_before held_after text)

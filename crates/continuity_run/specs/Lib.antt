@@ -1,14 +1,9 @@
-pub mod Asked
-pub mod CallText
 pub mod Causes
 pub mod Clauses
 pub mod Headline
 pub mod Memory
-pub mod Plain
-pub mod Progress
+pub mod Reading
 pub mod Reads
-pub mod ReportText
-pub mod Run
-pub mod Start
 pub mod Statuses
-pub mod Tables
+pub mod Stores
+pub mod Runs

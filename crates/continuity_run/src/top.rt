@@ -3,17 +3,16 @@ ghost use Rattle.std.specs.Prelude.{◌≡◌, ◌↔◌, false, Err, IfOk, IfEr
 ghost use Rattle.json_form.specs.Faults.{Fails, Gives};
 ghost use Rattle.continuity_run.specs.Causes.{Rose};
 ghost use Rattle.doc_reader.specs.Keeping.{IsDocument};
-ghost use Rattle.continuity_run.specs.Plain.{is_plain as is_plain_def, run_at};
+ghost use Rattle.doc_reader.specs.Documents.{document_at};
 ghost use Rattle.continuity_run.specs.Clauses.{is_command as is_command_def, IsAnswer, IsReported, IsDone, IsCut, IsRead, IsRefused, Writes, WritesFront, IfDocument, IsBefore, IsReply};
 
 use crate::outside::{Sink, Source};
-use crate::plain::is_plain;
 use crate::run::run_document;
 use crate::whole::{ReadError, read_to_limit, write_whole};
-use crate::writing::report_bytes;
 use doc_reader::{DOCUMENT_LIMIT, read_document};
 use json_form::{DocCode, DocFault, Pointer};
 use outage_schedule::Document;
+use report_text::report_bytes;
 use std::alloc::Global;
 use svc_values::NoMemory;
 
@@ -62,40 +61,26 @@ fn is_command(words: &[String]) -> bool
     }
 }
 
-/// The text of the document's report.
-fn report_text(alloc: Global, document: Document) -> Result<Vec<u8>, NoMemory>
-    requires document { IsDocument document }
-    requires plain { IsTrue (is_plain_def document) }
-    ensures { IfOk result (λ text. IsReported document text.items) }
-{
-    let ran = run_document(alloc, document)?;
-    let text = report_bytes(alloc, &ran)?;
-    Ok(text)
-}
-
-/// The document that the bytes are, if it is one that is run. The bytes are given up.
-fn plain_document(alloc: Global, bytes: Vec<u8>) -> Result<Document, DocFault>
-    ensures read { Gives result (run_at bytes.items) }
-    ensures document { IfOk result IsDocument }
-    ensures plain { IfOk result (λ document. IsTrue (is_plain_def document)) }
-{
-    let document = read_document(alloc, bytes.as_slice())?;
-    if !is_plain(&document) {
-        return Err(DocFault::here(alloc, DocCode::NotBuilt));
-    }
-    Ok(document)
-}
-
-/// The text of the report of the document that the bytes are.
+/// The text of the report of the document that the bytes are. The bytes are given up once they are read.
 fn answer(alloc: Global, bytes: Vec<u8>) -> Result<Vec<u8>, DocFault>
     ensures answered { IfOk result (λ text. IsAnswer bytes.items text.items) }
-    ensures refused { IfErr result (λ e. Fails e (run_at bytes.items)) }
+    ensures refused { IfErr result (λ e. Fails e (document_at bytes.items)) }
 {
-    let document = plain_document(alloc, bytes)?;
+    let document = read_document(alloc, bytes.as_slice())?;
+    drop(bytes);
     match report_text(alloc, document) {
         Ok(text) => Ok(text),
         Err(NoMemory) => Err(DocFault::NoMemory),
     }
+}
+
+/// The text of the document's report.
+fn report_text(alloc: Global, document: Document) -> Result<Vec<u8>, NoMemory>
+    requires document { IsDocument document }
+    ensures { IfOk result (λ text. IsReported document text.items) }
+{
+    let report = run_document(alloc, document)?;
+    report_bytes(alloc, report)
 }
 
 fn read_input<S: Source>(alloc: Global, source: &mut S) -> Result<Vec<u8>, ReadError>
@@ -110,7 +95,7 @@ fn respond<K: Sink>(alloc: Global, bytes: Vec<u8>, sink: &mut K) -> Status
     ensures done { result ≡ Status.Done → Writes bytes.items (K.held sink.old) (K.held sink.new) }
     ensures cut { result ≡ Status.Write → WritesFront bytes.items (K.held sink.old) (K.held sink.new) }
     ensures write { result ≡ Status.Write → Rose (K.faults sink.old) (K.faults sink.new) }
-    ensures document { IfDocument result (λ fault. run_at bytes.items ≡ Err fault) }
+    ensures document { IfDocument result (λ fault. document_at bytes.items ≡ Err fault) }
     ensures untouched { IsBefore result → sink.new ≡ sink.old }
     ensures others { IsReply result }
 {
@@ -125,7 +110,7 @@ fn respond<K: Sink>(alloc: Global, bytes: Vec<u8>, sink: &mut K) -> Status
     }
 }
 
-/// Carries out a command. `run` reads a document from the source, runs its client's script, and
+/// Carries out a command. `run` reads a document from the source, runs its clients' scripts under its schedule, and
 /// writes the report to the sink as compact JSON. The words are looked at first; then the source is
 /// read, to one byte past the limit of 8,388,608 bytes at most; then the document is judged. Memory
 /// is proportional to the input, and the cost of reading, judging and writing is n log n in it.

@@ -26,10 +26,10 @@ use Rattle.commit_log.specs.Journals.{journal_of}
 use Rattle.doc_reader.specs.Images.{if_alone, is_store, if_store, image_of}
 use Rattle.doc_reader.specs.Counts.{is_small, if_small}
 use Rattle.doc_reader.specs.Documents.{is_alone, store_of, begin_of, document_with, clients_of, rest_of, document_members, document_of, limit, document_at}
-use Rattle.doc_reader.specs.Keeping.{is_service, is_begin, IsDocument}
+use Rattle.doc_reader.specs.Keeping.{is_begin, IsDocument}
 use Rattle.json_form.proofs.Offered.{after, ok_is, within_ok, passed, both_true, first_true, second_true, optional_keeps}
 use Rattle.doc_reader.proofs.ReadSequences.{AreTables, tables_read, no_tables, AreSequences, sequences_read, no_sequences}
-use Rattle.doc_reader.proofs.ReadService.{service_read, usual_is}
+use Rattle.doc_reader.proofs.ReadService.{IsServiceRead, service_read, usual_is}
 use Rattle.doc_reader.proofs.ReadScripts.{clients_read}
 use Rattle.doc_reader.proofs.ReadEvents.{AreEvents, schedule_read, no_events}
 
@@ -103,7 +103,7 @@ store_read ms store h =
     })
 
 record IsBegin (begin : Begin) : Type 0 where
-  service : is_service begin.service ≡ true
+  service : IsServiceRead begin.service
   store : IsStore begin.store
 
 abbrev with_print : Named → ServiceOf → Store → Result Begin Fault
@@ -120,7 +120,7 @@ begin_read ms begin h =
     let p = after (optional (codes "print_image") false bool_of ms) (λ print. Ok (record { service = s.0; store = t.0; print_image = print })) begin t.2 in
     let made : Begin = record { service = s.0; store = t.0; print_image = p.0 } in
     subst IsBegin {x = made} (ok_is made begin p.2) (record {
-      service = optional_keeps (λ one. is_service one ≡ true) (codes "service") usual_service service_of ms s.0 usual_is service_read s.1;
+      service = optional_keeps IsServiceRead (codes "service") usual_service service_of ms s.0 usual_is service_read s.1;
       store = store_read ms t.0 t.1;
     })
 
@@ -145,7 +145,8 @@ rest_read schedule clients begin document is h =
     let clients = clients_read clients cs.0 (within_ok (escaped (codes "clients")) _ cs.0 cs.1) in
     let events = events_read schedule (length cs.0) begin.service.standby e.0 e.1 in
     subst IsDocument {x = all} (ok_is all document q.1) (record {
-      service = is.service;
+      service = is.service.limits;
+      standby = is.service.standby;
       tables = is.store.tables.all;
       table_names = is.store.tables.apart;
       few_tables = is.store.tables.few;

@@ -19,7 +19,7 @@ use Rattle.mutable_values.specs.Sources.{Opening, are_sequences, is_within, name
 use Rattle.commit_log.specs.declared.base.BaseSequence.{BaseSequence}
 use Rattle.commit_log.specs.declared.journal.Journal.{Journal}
 use Rattle.commit_log.specs.declared.log.Log.{Log}
-use Rattle.commit_log.specs.Bases.{IsBase, is_sequence, sequence_name, schemas_of}
+use Rattle.commit_log.specs.Bases.{IsBase, is_sequence, sequence_name}
 use Rattle.commit_log.specs.Growth.{HasAdded, opening_of, with_opening}
 use Rattle.commit_log.specs.Journals.{so_far_of, journal_of}
 use Rattle.commit_log.specs.Keeping.{KeepsJournal, EachKeeps}
@@ -44,7 +44,7 @@ below_most start end n begins ends few =
 pub can_go_on : (image : List ℕ) (journal : Journal) → KeepsJournal image journal → length image ≤ 2 ^ 62 → CanGoOn journal
 can_go_on image journal keeps few = record {
   base = keeps.base;
-  fitting = list_all-from_AllPass (entry_fits (schemas_of journal.base)) journal.entries keeps.commits.fitting;
+  fitting = keeps.commits.fitting;
   within = list_all-from_AllPass (ends_low journal) journal.base.sequences
       (λ k d at.
       let sequence : BaseSequence = slice_index_or journal.base.sequences k d in

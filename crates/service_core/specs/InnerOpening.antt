@@ -1,5 +1,5 @@
 -- The parts of an opening.
-use Rattle.std.specs.Prelude.{◌≡◌, ◌-◌, ◌^◌, ℕ, Bool, pos, int_lt, List, IsTrue}
+use Rattle.std.specs.Prelude.{◌≡◌, ◌-◌, ◌^◌, ℕ, All, Bool, pos, int_lt, List, IsTrue}
 use Rattle.std.specs.List.{list_all}
 use Rattle.svc_values.specs.declared.value.Value.{Value}
 use Rattle.svc_values.specs.declared.schema.Schema.{Schema}
@@ -39,7 +39,7 @@ state_of journal sequence = sequence_at (sequence_of journal sequence)
 -- What a service asks of a journal to go on from it.
 pub record CanGoOn (journal : Journal) : Type 0 where
   pub base : IsBase journal.base
-  pub fitting : IsTrue (list_all (entry_fits (schemas_of journal.base)) journal.entries)
+  pub fitting : All (λ entry. IsTrue (writes_fit (schemas_of journal.base) entry.writes)) journal.entries
   pub within : IsTrue (list_all (ends_low journal) journal.base.sequences)
 
 -- what sessions share with this log and journal

@@ -15,3 +15,4 @@ mod serving;
 mod up;
 
 pub use one::OneService;
+pub use opening::tables_of;

@@ -1,13 +1,13 @@
 //! A new opening of a store: the tables, the book and the source of values that its journal says.
-ghost use Rattle.std.specs.Prelude.{◌≡◌, ◌++◌, ◌≤◌, IfOk, OnOk, IsErrOf, IsTrue, length, map};
+ghost use Rattle.std.specs.Prelude.{◌≡◌, ◌++◌, ◌≤◌, All, IfOk, OnOk, IsErrOf, IsTrue, length, map};
 ghost use Rattle.std.specs.List.{flat_map, list_all};
 ghost use Rattle.disk_model.specs.Disk.{Meanwhile, IsSettled, LoweredByLess, Caused};
+ghost use Rattle.svc_values.specs.Fitting.{writes_fit};
 ghost use Rattle.table_store.specs.Given.{plain};
 ghost use Rattle.commit_log.specs.Bases.{IsBase, is_sequence, rows_of, schema_in, schemas_of, start_of as start_def};
 ghost use Rattle.commit_log.specs.Journals.{so_far_of};
 ghost use Rattle.commit_log.specs.Growth.{IsGrown, opening_of};
 ghost use Rattle.server_model.specs.Core.{tables_with};
-ghost use Rattle.server_session.specs.Fits.{tables_of as tables_def};
 ghost use Rattle.service_core.specs.Opening.{CanOpen, HasOpened, source_of as source_def, stop_of};
 ghost use Rattle.service_core.specs.InnerOpening.{CanGoOn, IsCoreOf, ends_low, entry_fits, plain_row, state_of};
 
@@ -66,7 +66,8 @@ fn core_of(alloc: Global, log: Log, journal: Journal, grants: Grants) -> Result<
         journal.blocked.as_slice(),
     )?;
     let source = source_of(alloc, &journal)?;
-    let tables = tables_of(alloc, journal)?;
+    let Journal { base, entries, .. } = journal;
+    let tables = tables_of(alloc, base, entries.as_slice())?;
     Ok(Core {
         tables,
         book,
@@ -121,14 +122,14 @@ fn sequence_of(
     })
 }
 
-/// The tables of the base, with what the entries wrote.
-fn tables_of(alloc: Global, journal: Journal) -> Result<Tables, NoMemory>
-    requires { CanGoOn journal }
-    ensures { IfOk result (λ tables. tables ≡ tables_def journal) }
+/// The tables of a base, with what these entries wrote. n log n for n rows and writes.
+pub fn tables_of(alloc: Global, base: Base, entries: &[Entry]) -> Result<Tables, NoMemory>
+    requires base { IsBase base }
+    requires fitting { All (λ entry. IsTrue (writes_fit (schemas_of base) entry.writes)) entries.now }
+    ensures { IfOk result (λ tables. tables ≡ record { schemas = schemas_of base; rows = tables_with (start_def base) entries.now }) }
 {
-    let Journal { base, entries, .. } = journal;
     let mut tables = start_of(alloc, base)?;
-    apply_each(&mut tables, entries.as_slice())?;
+    apply_each(&mut tables, entries)?;
     Ok(tables)
 }
 

@@ -1,34 +1,33 @@
-use Rattle.std.proofs.Common.{◌≡◌, Some, true, List, [], map, refl, sym, subst, ap, ◌∙◌}
-use Rattle.std.specs.List.{list_all}
-use Rattle.svc_values.specs.declared.call.Call.{Call}
-use Rattle.svc_values.specs.declared.schema.Schema.{Schema}
-use Rattle.table_store.specs.Stored.{Stored}
-use Rattle.doc_reader.specs.Keeping.{schema_in}
-use Rattle.continuity_run.specs.Plain.{is_plain_call}
-use Rattle.continuity_run.specs.declared.report.Report.{Report}
-use Rattle.continuity_run.specs.declared.run.Asked.{Asked}
-use Rattle.continuity_run.specs.Asked.{asked_of, transcripts_asked}
-use Rattle.continuity_run.specs.Headline.{Headline, table_at}
-use Rattle.continuity_run.specs.Tables.{tables_in}
-use Rattle.continuity_run.specs.Progress.{run_seen}
-use Rattle.continuity_run.specs.Run.{run_of, start_run}
-use Rattle.continuity_run.specs.Start.{shape_of, start_of}
-use Rattle.continuity_run.proofs.Reports.{plain_script, headline, tables_shown, as_asked}
+use Rattle.service_core.specs.Seeing.{SeesIn}
+use Rattle.world_model.specs.Settings.{rules_of}
+use Rattle.continuity_run.specs.Runs.{IsRunOf}
+use Rattle.continuity_run.proofs.Beginning.{can_begin, run_begins}
+use Rattle.continuity_run.proofs.Lasting.{may_be_read}
+use Rattle.continuity_run.proofs.Headlines.{headline_if}
 use Rattle.continuity_run.proofs.run.run_document.Goals as goal
 
-pub run_calls-requires : goal.run_calls-requires
-run_calls-requires c =
-    subst (λ (calls : List Call). list_all is_plain_call calls ≡ true) (sym c.calls_of.ensures) (plain_script c.args.document c.requires.plain)
+pub new-service-requires : goal.new-service-requires
+new-service-requires c = can_begin c.args.document c.requires.document c.in_ok-disk.field-0 c.in_ok-disk.ensures
+
+pub run_all-requires : goal.run_all-requires
+run_all-requires c = record {
+  begins = (
+    c.args.document,
+    run_begins c.args.document c.requires.document c.in_ok-disk.field-0 c.in_ok-disk.ensures c.as_slice.result.now c.as_slice-2.result.now c.grants_of.result c.new-service.result c.as_slice.ensures c.as_slice-2.ensures c.grants_of.ensures
+        c.new-service.ensures.made c.new-service.ensures.sound c.new-service.ensures.seen,
+  );
+}
+
+pub report_of-requires : goal.report_of-requires
+report_of-requires c =
+    let begun : IsRunOf (SeesIn c.new-service.result) (rules_of c.args.document.service.failover c.args.document.service.consistency) c.args.document.service c.as_slice.result.now c.as_slice-2.result.now c.in_ok-disk.field-0.opened c.args.document =
+    run_begins c.args.document c.requires.document c.in_ok-disk.field-0 c.in_ok-disk.ensures c.as_slice.result.now c.as_slice-2.result.now c.grants_of.result c.new-service.result c.as_slice.ensures c.as_slice-2.ensures c.grants_of.ensures
+    c.new-service.ensures.made c.new-service.ensures.sound c.new-service.ensures.seen in
+    may_be_read c.finish_goes_on.ensures.start c.finish_falls.ensures c.finish_goes_on.ensures.event c.finish_is_short.ensures c.runs_are_orderly.ensures c.args.document c.requires.document SeesIn c.in_ok-ran.ran (c.in_ok-ran.ensures c.args.document begun)
 
 pub returns : goal.returns
 returns c =
-    let document = c.args.document in
-    let progress = c.in_ok-progress.progress in
-    let after = run_seen progress in
-    let begun = subst (λ (tables : Stored). run_of (record { schemas = tables.schemas; sequences = [] }) (start_run tables.rows) c.calls_of.result.items ≡ Some after) c.in_ok-tables.ensures c.in_ok-progress.ensures.ran in
-    let done = subst (λ (calls : List Call). run_of (shape_of document.tables) (start_run (start_of document.tables)) calls ≡ Some after) c.calls_of.ensures begun in
-    let declared : progress.tables.schemas ≡ map schema_in document.tables = c.in_ok-progress.ensures.declared ∙ ap (λ (tables : Stored). tables.schemas) c.in_ok-tables.ensures in
-    let ran : Report = record { clients = c.in_ok-transcripts.transcripts; entries = progress.entries; tables = tables_in progress.tables } in
-    subst (Headline document) (sym c.new.ensures) (headline document after done ran
-    (c.in_ok-transcripts.ensures ∙ ap (λ (asked : Asked). transcripts_asked asked progress.shown) (c.asked_of-asked.ensures ∙ ap asked_of c.as_slice.ensures) ∙ as_asked document.clients progress.shown) refl
-    (ap (map (λ (schema : Schema). table_at progress.tables.rows schema.name)) declared ∙ tables_shown progress.tables.rows document.tables))
+    let begun : IsRunOf (SeesIn c.new-service.result) (rules_of c.args.document.service.failover c.args.document.service.consistency) c.args.document.service c.as_slice.result.now c.as_slice-2.result.now c.in_ok-disk.field-0.opened c.args.document =
+    run_begins c.args.document c.requires.document c.in_ok-disk.field-0 c.in_ok-disk.ensures c.as_slice.result.now c.as_slice-2.result.now c.grants_of.result c.new-service.result c.as_slice.ensures c.as_slice-2.ensures c.grants_of.ensures
+    c.new-service.ensures.made c.new-service.ensures.sound c.new-service.ensures.seen in
+    headline_if c.args.document c.in_ok-ran.ran c.in_ok-disk.field-0.before c.report_of.result (c.in_ok-ran.ensures c.args.document begun) c.in_ok-disk.ensures.counts c.report_of.ensures c.runs_are_followed.ensures c.runs_serial.ensures

@@ -1,9 +1,0 @@
-use Rattle.std.proofs.Common.{◌≡◌, ◌++◌, map}
-use Rattle.std.specs.List.{flat_map}
-use Rattle.table_store.specs.Given.{plain}
-use Rattle.doc_reader.specs.Keeping.{schema_in}
-use Rattle.continuity_run.specs.Start.{rows_of_table}
-use Rattle.continuity_run.proofs.start.gathered.Given as goal
-
-abbrev pub invariant-loop-table : goal.invariant-loop-table
-invariant-loop-table l = (l.schemas.items ++ map schema_in l.table-iterator.rest.items ≡ map schema_in l.fn.tables) × (plain l.rows.items ++ flat_map rows_of_table l.table-iterator.rest.items ≡ flat_map rows_of_table l.fn.tables)

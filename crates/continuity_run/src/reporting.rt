@@ -1,0 +1,110 @@
+//! The report of a run that is over.
+ghost use Rattle.std.specs.Prelude.{◌≡◌, IfOk, OnOk, Ok, drop, map};
+ghost use Rattle.commit_log.specs.Journals.{journal_of as journal_def};
+ghost use Rattle.continuity_run.specs.Reading.{IsReadOff, MayBeRead, image_if, printed_by};
+
+use crate::store::Before;
+use commit_log::Journal;
+use commit_log::laws::keeps_journal;
+use outage_schedule::{Image, Report, ReportTable, ReportTables};
+use service_calls::{ServeFault, Service};
+use service_core::tables_of;
+use std::alloc::Global;
+use svc_values::{Listed, NoMemory, TryCopy};
+use table_store::Tables;
+use world_run::Ran;
+
+/// What stands behind the first of these.
+fn behind<T: Drop>(alloc: Global, all: Vec<T>, first: usize) -> Result<Listed<T>, NoMemory>
+    ensures { IfOk result (λ later. later ≡ drop first all.items) }
+{
+    let later = all.into_iter().skip(first).collect(alloc)?;
+    Ok(Listed::from_vec(later))
+}
+
+/// The rows of each table, in order of key.
+fn report_tables(alloc: Global, tables: &Tables) -> Result<ReportTables, NoMemory>
+    ensures { IfOk result (λ all. all ≡ map (printed_by tables.now.rows) tables.now.schemas) }
+{
+    let mut all = Vec::new(alloc);
+    for schema in tables.schemas().as_slice() {
+        all.push(ReportTable {
+            name: schema.name.copy(alloc)?,
+            rows: Listed::from_vec(tables.rows(&schema.name)?),
+        })?;
+    }
+    Ok(Listed::from_vec(all))
+}
+
+/// What the store holds.
+fn journal_of<S: Service>(alloc: Global, service: &mut S) -> Result<Journal, NoMemory>
+    requires { MayBeRead (S.sees service.old) 1 }
+    ensures { IfOk result (λ journal. journal_def (S.bytes service.old) ≡ Ok journal) }
+{
+    match service.journal(alloc) {
+        Ok(journal) => Ok(journal),
+        Err(ServeFault::NoMemory) => Err(NoMemory),
+        Err(ServeFault::Stopped) => unreachable!(),
+    }
+}
+
+/// The bytes of the disk, where they are asked for.
+fn image_of<S: Service>(
+    alloc: Global,
+    service: &mut S,
+    print_image: bool,
+) -> Result<Option<Image>, NoMemory>
+    requires { MayBeRead (S.sees service.old) 2 }
+    ensures image { IfOk result (λ image. image ≡ image_if print_image (S.bytes service.old)) }
+    ensures unwritten { OnOk result (S.bytes service.new ≡ S.bytes service.old) }
+    ensures again { OnOk result (MayBeRead (S.sees service.new) 1) }
+{
+    if !print_image {
+        return Ok(None);
+    }
+    match service.image(alloc) {
+        Ok(bytes) => Ok(Some(Listed::from_vec(bytes))),
+        Err(ServeFault::NoMemory) => Err(NoMemory),
+        Err(ServeFault::Stopped) => unreachable!(),
+    }
+}
+
+/// The report: what the disk holds at the end, as an opening would read it, with what the run did.
+pub(crate) fn report_of<S: Service + Drop>(
+    alloc: Global,
+    ran: Ran<S>,
+    before: Before,
+    print_image: bool,
+) -> Result<Report, NoMemory>
+    requires { MayBeRead (S.sees ran.service) 2 }
+    ensures { IfOk result (IsReadOff (S.bytes ran.service) before print_image ran) }
+{
+    let Ran {
+        mut service,
+        notes,
+        served,
+        clients,
+    } = ran;
+    keeps_journal();
+    let image = image_of(alloc, &mut service, print_image)?;
+    let Journal {
+        base,
+        horizon,
+        entries,
+        blocked,
+        alerts,
+        ..
+    } = journal_of(alloc, &mut service)?;
+    let tables = tables_of(alloc, base, entries.as_slice())?;
+    Ok(Report {
+        alerts: behind(alloc, alerts.into_vec(), before.alerts)?,
+        blocked: behind(alloc, blocked.into_vec(), before.blocked)?,
+        clients,
+        entries: behind(alloc, entries.into_vec(), before.entries)?,
+        forgotten: horizon,
+        image,
+        notes,
+        served,
+        tables: report_tables(alloc, &tables)?,
+    })
+}

@@ -1,0 +1,178 @@
+//! The store that a run begins with.
+ghost use Rattle.std.specs.Prelude.{◌≡◌, ◌≤◌, ℕ, None, Some, Err, length, map, IfOk, IsTrue, OnOk};
+ghost use Rattle.std.specs.List.{list_all};
+ghost use Rattle.std.specs.Str.{bytes_eq};
+ghost use Rattle.json_form.specs.Arrays.{have_distinct_keys};
+ghost use Rattle.disk_model.specs.Disk.{OnlyReads};
+ghost use Rattle.disk_model.specs.Mem.{mem_state};
+ghost use Rattle.commit_log.specs.declared.base.Base.{Base as Start};
+ghost use Rattle.commit_log.specs.Bases.{IsBase};
+ghost use Rattle.commit_log.specs.Journals.{so_far_of, journal_of, is_opened};
+ghost use Rattle.doc_reader.specs.Keeping.{is_begin, is_sequence, is_table};
+ghost use Rattle.run_clauses.specs.Before.{base_table, base_sequence};
+ghost use Rattle.continuity_run.specs.Stores.{CountsOf, IsStoreOf, IsUntroubled, table_name, sequence_name};
+
+use commit_log::{
+    Base, BaseRows, BaseSequence, BaseSequences, BaseTable, BaseTables, Log, LogFault,
+};
+use disk_model::MemDisk;
+use outage_schedule::{DocSequences, DocTable, DocTables, Image};
+use std::alloc::Global;
+use svc_values::{NoMemory, Schema};
+
+/// A disk with a store, whether the store was opened before, and how many entries, blocks and lines it has.
+#[derive(Drop)]
+pub(crate) struct Store {
+    pub(crate) disk: MemDisk,
+    pub(crate) opened: bool,
+    pub(crate) before: Before,
+}
+
+/// What a store had before a run.
+#[derive(Clone, Copy)]
+pub(crate) struct Before {
+    pub(crate) entries: usize,
+    pub(crate) blocked: usize,
+    pub(crate) alerts: usize,
+}
+
+/// A table of a base, whose rows are moved.
+#[tactic(auto, unfolding(doc_reader::specs::Keeping::is_table))]
+fn table_in(table: DocTable) -> BaseTable
+    requires { IsTrue (is_table table) }
+    ensures { result ≡ base_table table }
+{
+    BaseTable {
+        schema: Schema {
+            name: table.name,
+            columns: table.columns,
+        },
+        rows: BaseRows::from_vec(table.rows.into_vec()),
+    }
+}
+
+/// The tables of a base.
+fn tables_in(alloc: Global, tables: DocTables) -> Result<BaseTables, NoMemory>
+    requires tables { IsTrue (list_all is_table tables) }
+    requires few { length tables ≤ 32 }
+    ensures { IfOk result (λ all. all ≡ map base_table tables) }
+{
+    let mut all = Vec::new(alloc);
+    for table in tables.into_vec() {
+        all.push(table_in(table))?;
+    }
+    Ok(BaseTables::from_vec(all))
+}
+
+/// The sequences of a base.
+fn sequences_in(alloc: Global, sequences: DocSequences) -> Result<BaseSequences, NoMemory>
+    requires { length sequences ≤ 32 }
+    ensures { IfOk result (λ all. all ≡ map base_sequence sequences) }
+{
+    let mut all = Vec::new(alloc);
+    for sequence in sequences.into_vec() {
+        all.push(BaseSequence {
+            name: sequence.name,
+            start: sequence.start,
+            keep: sequence.keep,
+        })?;
+    }
+    Ok(BaseSequences::from_vec(all))
+}
+
+/// A new store of this base.
+fn created(alloc: Global, base: Base) -> Result<Store, NoMemory>
+    requires { IsBase base }
+    ensures { IfOk result (IsStoreOf base None) }
+{
+    let mut disk = MemDisk::new(alloc);
+    match Log::create(alloc, &mut disk, &base) {
+        Ok(()) => Ok(Store {
+            disk,
+            opened: false,
+            before: Before {
+                entries: 0,
+                blocked: 0,
+                alerts: 0,
+            },
+        }),
+        Err(LogFault::NoMemory) => Err(NoMemory),
+        Err(LogFault::Stopped) => unreachable!(),
+        Err(LogFault::Damaged(_)) => unreachable!(),
+    }
+}
+
+/// What the store of this disk has.
+fn before_on(alloc: Global, disk: &mut MemDisk) -> Result<Before, NoMemory>
+    requires untroubled { IsUntroubled (mem_state disk.old) }
+    requires whole { (place : ℕ) → journal_of (mem_state disk.old).now.seen ≡ Err place → ⊥ }
+    ensures counts { IfOk result (λ before. CountsOf (journal_of (mem_state disk.old).now.seen) before) }
+    ensures only_reads { OnOk result (OnlyReads ⊥ (mem_state disk.old) (mem_state disk.new)) }
+{
+    match Log::read(alloc, disk) {
+        Ok(journal) => Ok(Before {
+            entries: journal.entries.len(),
+            blocked: journal.blocked.len(),
+            alerts: journal.alerts.len(),
+        }),
+        Err(LogFault::NoMemory) => Err(NoMemory),
+        Err(LogFault::Stopped) => unreachable!(),
+        Err(LogFault::Damaged(_)) => unreachable!(),
+    }
+}
+
+/// Whether the store of this disk was opened.
+fn opened_on(alloc: Global, disk: &mut MemDisk) -> Result<bool, NoMemory>
+    requires untroubled { IsUntroubled (mem_state disk.old) }
+    requires whole { (place : ℕ) → journal_of (mem_state disk.old).now.seen ≡ Err place → ⊥ }
+    ensures opened { IfOk result (λ opened. opened ≡ is_opened (so_far_of (mem_state disk.old).now.seen)) }
+    ensures only_reads { OnOk result (OnlyReads ⊥ (mem_state disk.old) (mem_state disk.new)) }
+{
+    match Log::was_opened(alloc, disk) {
+        Ok(opened) => Ok(opened),
+        Err(LogFault::NoMemory) => Err(NoMemory),
+        Err(LogFault::Stopped) => unreachable!(),
+        Err(LogFault::Damaged(_)) => unreachable!(),
+    }
+}
+
+/// The store of an image.
+fn pictured(alloc: Global, image: &Image) -> Result<Store, NoMemory>
+    requires { (place : ℕ) → journal_of image.now ≡ Err place → ⊥ }
+    ensures { IfOk result (λ store. (base : Start) → IsStoreOf base (Some image.now) store) }
+{
+    let mut disk = MemDisk::of(alloc, image.as_slice())?;
+    let opened = opened_on(alloc, &mut disk)?;
+    let before = before_on(alloc, &mut disk)?;
+    Ok(Store {
+        disk,
+        opened,
+        before,
+    })
+}
+
+/// The store that a run begins with: that of the image, and else a new one of these tables and sequences.
+pub(crate) fn store_of(
+    alloc: Global,
+    tables: DocTables,
+    sequences: DocSequences,
+    image: &Option<Image>,
+) -> Result<Store, NoMemory>
+    requires tables { IsTrue (list_all is_table tables) }
+    requires table_names { IsTrue (have_distinct_keys bytes_eq table_name tables) }
+    requires few_tables { length tables ≤ 32 }
+    requires sequences { IsTrue (list_all is_sequence sequences) }
+    requires sequence_names { IsTrue (have_distinct_keys bytes_eq sequence_name sequences) }
+    requires few_sequences { length sequences ≤ 32 }
+    requires begins { IsTrue (is_begin tables sequences image.now) }
+    ensures { IfOk result (IsStoreOf (record { tables = map base_table tables; sequences = map base_sequence sequences }) image.now) }
+{
+    if let Some(image) = image {
+        return pictured(alloc, image);
+    }
+    let base = Base {
+        tables: tables_in(alloc, tables)?,
+        sequences: sequences_in(alloc, sequences)?,
+    };
+    created(alloc, base)
+}
