@@ -1,5 +1,5 @@
 -- Where a server runs on, each frame that was stopped is of an earlier opening.
-use Rattle.std.specs.Prelude.{◌≡◌, ◌+◌, ◌<◌, ◌≤◌, ℕ, true, IsTrue, List, [], ◌∷◌, ◌++◌}
+use Rattle.std.specs.Prelude.{◌≡◌, ◌+◌, ◌<◌, ◌≤◌, ℕ, IsTrue, List, [], ◌∷◌, ◌++◌}
 use Rattle.std.proofs.Common.{arith, refl, inl, inr, sym, ap, subst, append-nil}
 use Rattle.svc_values.specs.declared.entry.SessionId.{SessionId}
 use Rattle.svc_values.specs.declared.frame.Up.{Up}
@@ -9,7 +9,7 @@ use Rattle.server_model.specs.Base.{Base, IsSound}
 use Rattle.server_model.specs.Core.{Core}
 use Rattle.server_model.specs.Sessions.{Sess}
 use Rattle.server_model.specs.Outcomes.{Telling, Silent, Says, Stopped}
-use Rattle.server_model.specs.Runs.{Happened, Served, Asked, Power, Off, On, Halted, Server, is_answered, is_running, Turns, Moves, Makes, Answers, Halts, Loses, AnswersAsk, HaltsInAsk, Reaps, Falls, Opens, StopsOpening, Runs, Start, Then}
+use Rattle.server_model.specs.Runs.{Happened, Served, Asked, Power, Off, On, Halted, Server, is_answered, Turns, Moves, Makes, Answers, Halts, Loses, AnswersAsk, HaltsInAsk, Reaps, Falls, Opens, StopsOpening, Runs, Start, Then}
 use Rattle.server_model.specs.Laws.{AreStoppedBefore, RunsStopped}
 use Rattle.server_model.proofs.Stays.{serve_stays, outcomes_stay}
 use Rattle.server_model.proofs.Numbers.{Numbered, mine-at, AllMine}
