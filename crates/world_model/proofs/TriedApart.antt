@@ -99,7 +99,7 @@ is_under x sending = is_open_or_committed sending && same_ltxid x sending.ltxid
 abbrev pub under_at : (ℕ → Bool) → Ltxid → Sending → Bool
 under_at is_of x sending = is_of sending.at && is_under x sending
 
-share_not : (x : Ltxid) (a b : Sending) → is_under x a ≡ true → is_under x b ≡ true → share a b ≡ true → ⊥
+pub share_not : (x : Ltxid) (a b : Sending) → is_under x a ≡ true → is_under x b ≡ true → share a b ≡ true → ⊥
 share_not x a b mine its here =
     let one = and_parts (is_open_or_committed a) (same_ltxid x a.ltxid) mine in
     let two = and_parts (is_open_or_committed b) (same_ltxid x b.ltxid) its in
