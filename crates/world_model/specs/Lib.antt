@@ -44,3 +44,5 @@ pub mod RoundsLeft
 pub mod Remaining
 pub mod FinishEnds
 pub mod FinishShort
+pub mod Judged
+pub mod Reported

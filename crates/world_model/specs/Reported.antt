@@ -1,0 +1,37 @@
+-- A report that has what a whole run did and left, and what holds of it.
+use Rattle.std.specs.Prelude.{◌≡◌, IsTrue}
+use Rattle.outage_schedule.specs.declared.document.Document.{Document}
+use Rattle.outage_schedule.specs.declared.report.Report.{Report}
+use Rattle.run_clauses.specs.Fresh.{fresh}
+use Rattle.run_clauses.specs.ServiceBase.{service_base}
+use Rattle.server_model.specs.Runs.{Server, Runs}
+use Rattle.server_model.specs.Seen.{Seen}
+use Rattle.world_model.specs.Followed.{transcripts_of}
+use Rattle.world_model.specs.Judged.{is_legal, is_fresh_new, has_room_for, none_repeated}
+use Rattle.world_model.specs.Reached.{IsRun}
+use Rattle.world_model.specs.Traced.{Traced}
+
+-- The report has the notes and items of a whole run, what its clients were shown, and what the plain server beside it has gained.
+pub record IsReported (document : Document) (report : Report) (seen : Seen) (t : Traced) (server : Server) : Type 0 where
+  pub run : IsRun document report.notes report.served seen t
+  pub clients : report.clients ≡ transcripts_of t.machine
+  pub runs : Runs (service_base document) seen.history server
+  pub entries : report.entries ≡ server.core.entries
+  pub blocked : report.blocked ≡ server.core.blocked
+  pub alerts : report.alerts ≡ server.core.alerts
+  pub forgotten : report.forgotten ≡ server.core.horizon
+
+-- What was served is legal.
+abbrev pub RunsAreLegal : Type 0
+RunsAreLegal = (document : Document) (report : Report) (seen : Seen) (t : Traced) (server : Server) → IsReported document report seen t server → IsTrue (is_legal document report)
+
+-- No value was drawn anew twice, as long as identifiers can be spelled.
+abbrev pub RunsAreFreshNew : Type 0
+RunsAreFreshNew =
+    (document : Document) (report : Report) (seen : Seen) (t : Traced) (server : Server) → IsReported document report seen t server → IsTrue (has_room_for document report) → IsTrue (is_fresh_new document report)
+
+-- Where no call was repeated, no value stands twice among what the entries drew.
+abbrev pub RunsAreFresh : Type 0
+RunsAreFresh =
+    (document : Document) (report : Report) (seen : Seen) (t : Traced) (server : Server) → IsReported document report seen t server
+    → IsTrue (has_room_for document report) → IsTrue (none_repeated report) → IsTrue (fresh report)
