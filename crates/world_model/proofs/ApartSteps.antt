@@ -1,20 +1,14 @@
 -- What sendings share an identifier with others, where a client steps: one that is answered with no more than before, one that is made with none.
 use Rattle.std.proofs.Common.{◌≡◌, ◌≢◌, refl, sym, ap, subst, ◌∙◌, Bool, true, false, ℕ, ◌+◌, ◌<◌, ◌&&◌, ◌||◌, cond, filter, length, List, [], ◌∷◌, Option, Some, None, ◌⊎◌, inl, inr, arith}
-use Rattle.std.specs.Prelude.{◌==◌, not, is_some, is_none}
+use Rattle.std.specs.Prelude.{◌==◌, not, is_some}
 use Rattle.std.specs.List.{list_all, list_any}
 use Rattle.std.specs.Option.{option_map_or}
 use Rattle.std.proofs.lemmas.Bool.{and_parts, and_from}
 use Rattle.svc_values.specs.declared.answer.Answer.{Answer}
 use Rattle.svc_values.specs.declared.entry.Ltxid.{Ltxid}
-use Rattle.svc_values.specs.declared.frame.Down.TheVariants as down
 use Rattle.svc_values.specs.Calls.{has_commit}
 use Rattle.svc_values.specs.Endings.{ends_committed}
-use Rattle.client_model.specs.declared.act.Shown.{Shown}
 use Rattle.client_model.specs.declared.input.Input.{Input}
-use Rattle.client_model.specs.declared.input.Input.TheVariants.{Start, Waiting, Lent, Opened, TryFailed, Took, Gone}
-use Rattle.client_model.specs.States.{Living}
-use Rattle.client_model.specs.Talk.{talk_step}
-use Rattle.client_model.specs.Terms.{Running}
 use Rattle.world_model.specs.Clients.{Step}
 use Rattle.world_model.specs.Frames.{Owner}
 use Rattle.world_model.specs.Invariant.{Orderly}
@@ -26,6 +20,7 @@ use Rattle.world_model.specs.Conversing.{connected}
 use Rattle.world_model.specs.Hold.{is_idle}
 use Rattle.world_model.specs.Parts.{is_unmarked_frame}
 use Rattle.world_model.proofs.AllLinks.{at_link}
+use Rattle.world_model.proofs.Answering.{Answering, Unanswered, LastAnswered, answering}
 use Rattle.world_model.proofs.ClientSteps.{HasStepped, HeardOn, OfNone, OfIdle, OfNew, OfReply, OfEnded, is_frame}
 use Rattle.world_model.proofs.FateLinks.{idle_waits}
 use Rattle.world_model.proofs.FateTaken.{plain_none, shown_behind, waits_at}
@@ -38,21 +33,18 @@ use Rattle.world_model.proofs.LinkSent.{open_living}
 use Rattle.world_model.proofs.Moves.{next_number}
 use Rattle.world_model.proofs.Placing.{IsLent, lent_at, said as spoken_frames}
 use Rattle.world_model.proofs.SentLinks.{lent_idle}
-use Rattle.world_model.proofs.FateTops.{last_open}
 use Rattle.world_model.proofs.Happened.{at_event}
 use Rattle.world_model.proofs.SendingSteps.{scan_by, heard_scan}
 use Rattle.world_model.proofs.StepFacts.{first_step, first_doing}
-use Rattle.world_model.proofs.TalkShows.{ShowsBy, ByReply, ByOutcome, taken_shows}
-use Rattle.world_model.proofs.TalkTop.{top_open}
 use Rattle.svc_values.specs.Identifiers.{same_ltxid, session_of}
 use Rattle.svc_values.specs.SameLaws.{same_ltxid_decides}
 use Rattle.world_model.specs.Basic.{sessions_differ, sessions_of}
 use Rattle.world_model.specs.Links.{Link, link_at}
 use Rattle.world_model.specs.Once.{is_on_link, share, are_apart, is_open_or_committed}
-use Rattle.world_model.specs.Parts.{Sending, Scan, answered, with_taken, held_number}
+use Rattle.world_model.specs.Parts.{Sending, Scan, held_number}
 use Rattle.world_model.specs.Traced.{Traced}
 use Rattle.world_model.proofs.FateSteps.{IsFated, fated, fated_from, no_connection, Taking, on}
-use Rattle.world_model.proofs.Fates.{Fate, Waits, none_is}
+use Rattle.world_model.proofs.Fates.{Fate, Waits}
 use Rattle.world_model.proofs.Gaining.{links_apart}
 use Rattle.world_model.proofs.KeptOnLinks.{on_from}
 use Rattle.world_model.proofs.Tests.{eq_from, eq_to, same_session_is}
@@ -194,33 +186,11 @@ module _ (t : Traced) (inv : Orderly t) (apart : are_apart t ≡ true) (new : Tr
   scan_now = heard_scan t.setting m inv.script.talks who new.machine step
 
   pub answered_as : AnsweredAs sendings scan_now.sendings
-  answered_as = by step.input one.done.act.shown refl refl
+  answered_as = by sendings scan_now.sendings (answering t inv apart new who step)
     where
-      last_now : (answers : List Answer) (state : Living) → step.before.talk.phase ≡ Running state → (list : List Sending) → sendings ≡ list → AnsweredAs list (with_taken answers list)
-      last_now answers state runs [] are = NoneNow []
-      last_now answers state runs (top ∷ rest) are =
-          LastNow top rest answers (none_is top.taken (and_parts (top.connection == (scan_by mine step.before.steps).connection) (is_none top.taken)
-          (subst (λ (list : List Sending). top_open (scan_by mine step.before.steps).connection list ≡ true) are (last_open t inv who new.machine step state runs))).1)
-
-      by : (input : Input) (shown : Option Shown) → step.input ≡ input → one.done.act.shown ≡ shown → AnsweredAs sendings (answered input shown sendings)
-      by (Took (down.Reply answers draws x) alive) (Some shown) is some =
-          cases (taken_shows t.setting.terms step.before.talk step.before.talk.phase (down.Reply answers draws x) alive m.tick shown (sym (ap (λ (input : Input). (talk_step t.setting.terms step.before.talk input m.tick).1.shown) is) ∙ some))
-        where
-          cases : ShowsBy step.before.talk.phase (down.Reply answers draws x) shown → AnsweredAs sendings (with_taken answers sendings)
-          cases (ByReply state runs same) = last_now answers state runs sendings refl
-          cases (ByOutcome asking is_asked same committed) = absurd (let none : ⊥ = cc in none)
-      by (Took (down.Reply answers draws x) alive) None is none = NoneNow sendings
-      by (Took (down.Hello x) alive) shown is some = NoneNow sendings
-      by (Took (down.OutcomeIs a b) alive) shown is some = NoneNow sendings
-      by (Took (down.OutcomeRefused a b) alive) shown is some = NoneNow sendings
-      by (Took down.Blocked alive) shown is some = NoneNow sendings
-      by (Took (down.Refused cause) alive) shown is some = NoneNow sendings
-      by Start shown is some = NoneNow sendings
-      by Waiting shown is some = NoneNow sendings
-      by (Lent connection x) shown is some = NoneNow sendings
-      by (Opened connection) shown is some = NoneNow sendings
-      by TryFailed shown is some = NoneNow sendings
-      by (Gone event) shown is some = NoneNow sendings
+      by : (old now : List Sending) → Answering t inv apart new who step old now → AnsweredAs old now
+      by _ _ (Unanswered list) = NoneNow list
+      by _ _ (LastAnswered top rest answers are is) = LastNow top rest answers is.untaken
 
   -- no sending of before waits where a call is sent, at its place
   pub none_waits : list_any is_unmarked_frame one.done.act.send ≡ true → (sending : Sending) → fated t.machine.links sending ≡ true → sending.taken ≡ None → step.connection ≡ Some sending.connection → sending.at ≡ scan_now.shown → ⊥

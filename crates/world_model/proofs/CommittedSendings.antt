@@ -122,10 +122,10 @@ either_false false is = is
 -- WHAT IS OUT -------------------------------------------------------------------------------------
 
 -- the call that made an entry is out
-record CommitOut (link : Link) : Type 0 where
-  sent : Sent
-  is : out_frame link ≡ Some sent
-  commits : is_commit_call sent ≡ true
+pub record CommitOut (link : Link) : Type 0 where
+  pub sent : Sent
+  pub is : out_frame link ≡ Some sent
+  pub commits : is_commit_call sent ≡ true
 
 commit_alike : (a b : Up) → same_up a b ≡ true → is_commit_frame a ≡ true → is_commit_frame b ≡ true
 commit_alike (up.Call false k c) (up.Call s l d) same commit = by s refl
@@ -140,7 +140,7 @@ commit_alike (up.Call false k c) (up.Call s l d) same commit = by s refl
         ∙ subst (λ (one : Call). has_commit one ≡ true) ((same_call_decides c d).0 (and_parts (same_draws k l) (same_call c d) parts.1).1) commit
 commit_alike a b same commit = absurd (let none : ⊥ = cc in none)
 
-commit_out : (t : Traced) (link : Link) → is_ahead t link ≡ true → ahead_rightly t link ≡ true → CommitOut link
+pub commit_out : (t : Traced) (link : Link) → is_ahead t link ≡ true → ahead_rightly t link ≡ true → CommitOut link
 commit_out t link is rightly = by (last_or None (served_reps link)) (out_frame link) refl (and_parts (last_served_made link) (not (list_any is_commit_call link.up)) (and_parts (is_out link) _ ahead).1).0
   where
     ahead : (is_out link && (last_served_made link && not (list_any is_commit_call link.up))) ≡ true

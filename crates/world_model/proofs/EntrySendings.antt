@@ -14,7 +14,7 @@ use Rattle.world_model.specs.Traced.{Traced}
 use Rattle.world_model.proofs.AllLists.{weaker_all}
 use Rattle.world_model.proofs.AskedNear.{any_all}
 use Rattle.world_model.proofs.FateTops.{all_with_is}
-use Rattle.world_model.proofs.Tests.{eq_to}
+use Rattle.world_model.proofs.Tests.{eq_from, eq_to, not_both}
 use Rattle.world_model.proofs.TriedApart.{is_under, share_not}
 
 counted : (x : Ltxid) (s : Sending) (list : List Sending) → count_by is_open_or_committed (under x (s ∷ list)) ≡ cond (is_under x s) 1 0 + count_by is_open_or_committed (under x list)
@@ -77,3 +77,14 @@ sent_by_one t apart all = weaker_all (is_sent t) (λ entry. implies (is_of_link 
         by : (test : Bool) → implies test (list_any (is_under entry.ltxid) (all_sendings t)) ≡ true → implies test (has_sending t entry) ≡ true
         by false is = refl
         by true any = eq_to (count_by is_open_or_committed (under entry.ltxid (all_sendings t))) 1 (one_counted entry.ltxid (all_sendings t) apart any)
+
+-- and where there is one such, there is one
+pub any_sent : (t : Traced) (entry : Entry) → has_sending t entry ≡ true → list_any (is_under entry.ltxid) (all_sendings t) ≡ true
+any_sent t entry has = by (list_any (is_under entry.ltxid) (all_sendings t)) refl
+  where
+    by : (any : Bool) → list_any (is_under entry.ltxid) (all_sendings t) ≡ any → any ≡ true
+    by true is = refl
+    by false is =
+        let none : count_by is_open_or_committed (under entry.ltxid (all_sendings t)) ≡ 0 = none_counted entry.ltxid (all_sendings t) (λ any. not_both (list_any (is_under entry.ltxid) (all_sendings t)) any is) in
+        let one : count_by is_open_or_committed (under entry.ltxid (all_sendings t)) ≡ 1 = eq_from (count_by is_open_or_committed (under entry.ltxid (all_sendings t))) 1 has in
+        absurd (let never : ⊥ = omega (arith, none, one) in never)

@@ -149,11 +149,16 @@ module _ (owner : Owner) (place : ℕ) (settings : List (List ℕ × Value)) (ca
   rep_is true = refl
   rep_is false = refl
 
+  -- it is the last one that is answered
+  pub last_call : (begun : Bool) (before : List Sent) → last_or None (filter is_rep (before ++ call_frames owner place begun settings call)) ≡ Some sent
+  last_call begun before =
+      ap (last_or None) (filter-append is_rep before (call_frames owner place begun settings call) ∙ ap (λ (more : List Sent). filter is_rep before ++ more) (rep_is begun)) ∙ last_pushed None (filter is_rep before) sent
+
   pub made_fate : (event : ℕ) (begun : Bool) (link : Link) (scan : Scan) (x : Ltxid) → count_reps link.sent ≡ length link.taken → link.held ≡ Some x → scan.owner ≡ owner → (place == scan.shown) ≡ true → has_commit call ≡ true
       → Fate (made scan call x) (sends event (call_frames owner place begun settings call) link)
   made_fate event begun link scan x none held mine at commits =
-      sends_alike (Fate (made scan call x)) event (call_frames owner place begun settings call) link (record { low = low; told = told; waits = λ untaken. record { out = out; held = held; frame = sent; last = last; is = is } })
-      (record { low = low; told = told; waits = λ untaken. record { out = out; held = held; frame = sent; last = last; is = is } })
+      sends_alike (Fate (made scan call x)) event (call_frames owner place begun settings call) link (record { low = low; told = told; waits = λ untaken. record { out = out; held = held; frame = sent; last = last_call begun link.sent; is = is } })
+      (record { low = low; told = told; waits = λ untaken. record { out = out; held = held; frame = sent; last = last_call begun link.sent; is = is } })
     where
       low : x.number ≤ option_map_or (λ (y : Ltxid). y.number) link.held 0
       low = let number : option_map_or (λ (y : Ltxid). y.number) link.held 0 ≡ x.number = ap (λ (h : Option Ltxid). option_map_or (λ (y : Ltxid). y.number) h 0) held in omega (arith, number)
@@ -166,10 +171,6 @@ module _ (owner : Owner) (place : ℕ) (settings : List (List ℕ × Value)) (ca
           or_left (count_reps (link.sent ++ call_frames owner place begun settings call) == length link.taken + 1) (option_map_or (λ reply. is_blocked_reply reply.frame) (last_or None link.taken) false)
           (eq_to (count_reps (link.sent ++ call_frames owner place begun settings call)) (length link.taken + 1)
           (reps_more link.sent (call_frames owner place begun settings call) ∙ (ap (λ (n : ℕ). n + count_reps (call_frames owner place begun settings call)) none ∙ ap (λ (n : ℕ). length link.taken + n) (one_rep begun))))
-
-      last : last_or None (filter is_rep (link.sent ++ call_frames owner place begun settings call)) ≡ Some sent
-      last =
-          ap (last_or None) (filter-append is_rep link.sent (call_frames owner place begun settings call) ∙ ap (λ (more : List Sent). filter is_rep link.sent ++ more) (rep_is begun)) ∙ last_pushed None (filter is_rep link.sent) sent
 
       is : is_frame_of (made scan call x) sent ≡ true
       is =

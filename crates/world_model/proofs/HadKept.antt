@@ -48,7 +48,7 @@ all_had t had (suc index) link is =
     subst (λ (n : ℕ). had_test link.is_open n (idle_in t.machine.pool (suc index)) ≡ true) (holders_are t (suc index))
     (numbered_at (is_had t (courses_of t)) 1 t.machine.links index (suc index) link same had is)
 
-all_numbered : (test : Numbered → Bool) (start : ℕ) (links : List Link) → ((index number : ℕ) (link : Link) → number ≡ start + index → slice_get links index ≡ Some link → test (record { number = number; link = link }) ≡ true)
+pub all_numbered : (test : Numbered → Bool) (start : ℕ) (links : List Link) → ((index number : ℕ) (link : Link) → number ≡ start + index → slice_get links index ≡ Some link → test (record { number = number; link = link }) ≡ true)
     → list_all test (numbered_from start links) ≡ true
 all_numbered test start [] each = refl
 all_numbered test start (link ∷ links) each =

@@ -1,8 +1,8 @@
 -- Of Once: two sendings under one identifier are on one connection, and at most one of them is open or committed, at the start and behind each event.
-use Rattle.std.proofs.Common.{◌≡◌, refl, sym, ap, subst, ◌∙◌, Bool, true, false, ℕ, ◌+◌, ◌&&◌, ◌||◌, cond, filter, flat_map, fold, length, List, [], ◌∷◌, Option, Some, None, append-nil}
-use Rattle.std.specs.Prelude.{◌==◌, is_some, option_map}
+use Rattle.std.proofs.Common.{◌≡◌, refl, sym, ap, subst, ◌∙◌, Bool, true, false, ℕ, ◌+◌, ◌&&◌, ◌||◌, cond, filter, flat_map, fold, length, List, [], ◌∷◌, Option, Some, None}
+use Rattle.std.specs.Prelude.{◌==◌, is_some}
 use Rattle.std.specs.List.{list_all, list_any}
-use Rattle.std.specs.Option.{option_or, option_map_or}
+use Rattle.std.specs.Option.{option_map_or}
 use Rattle.std.proofs.lemmas.Bool.{and_parts, and_from, or_right}
 use Rattle.std.proofs.lemmas.List.Folds.{list_all-append}
 use Rattle.svc_values.specs.declared.entry.Ltxid.{Ltxid}
@@ -13,7 +13,6 @@ use Rattle.world_model.specs.Invariant.{Orderly}
 use Rattle.world_model.specs.Machines.{Machine}
 use Rattle.world_model.specs.Sames.{all_with, each_pair}
 use Rattle.client_model.specs.declared.act.Hold.{Hold}
-use Rattle.world_model.specs.Clients.{Doing}
 use Rattle.world_model.proofs.ClientSteps.{HasStepped}
 use Rattle.world_model.proofs.Happened.{at_event}
 use Rattle.world_model.proofs.SendingSteps.{scan_by, heard_scan}
@@ -43,20 +42,19 @@ use Rattle.world_model.proofs.SendingsMade.{made, Speaks, speaks}
 use Rattle.world_model.proofs.Tests.{or_second}
 use Rattle.std.proofs.Common.{map}
 use Rattle.outage_schedule.specs.declared.document.Client.{Client as Scripted}
-use Rattle.outage_schedule.specs.declared.document.Request.{Request}
 use Rattle.world_model.specs.Clients.{Client, begun, resting}
 use Rattle.world_model.specs.KeptLaws.{IsKeptOfAll}
 use Rattle.world_model.specs.Once.{all_sendings}
 use Rattle.world_model.specs.Parts.{commit_sendings}
 use Rattle.world_model.specs.Settings.{Setting, setting_of}
-use Rattle.world_model.specs.Traced.{Course, course_now, courses_from, courses_of, courses_of_clients}
+use Rattle.world_model.specs.Traced.{courses_of_clients}
 use Rattle.world_model.proofs.Happened.{Followed, follow_happens}
-use Rattle.world_model.proofs.InPlace.{in_flat, step_in, Others, AllBack, OneMore, pairs_in}
+use Rattle.world_model.proofs.InPlace.{Others, AllBack, OneMore, pairs_in}
 use Rattle.world_model.proofs.KeptBasic.{basic_is_kept}
 use Rattle.world_model.proofs.KeptFates.{fates_law}
 use Rattle.world_model.proofs.KeptOnLinks.{links_law}
 use Rattle.world_model.proofs.Placing.{Moving, Quietly, Stepping, moving}
-use Rattle.world_model.proofs.SendingSteps.{after_sendings}
+use Rattle.world_model.proofs.SendingsPlaced.{in_place}
 
 module _ (t : Traced) (inv : Orderly t) (apart : are_apart t ≡ true) (new : Traced) (differ : sessions_differ new ≡ true) (who : ℕ) (step : HasStepped t.setting (at_event t.machine) who new.machine) where
   abbrev m : Machine
@@ -182,28 +180,6 @@ module _ (t : Traced) (inv : Orderly t) (apart : are_apart t ≡ true) (new : Tr
   abbrev mine_new : List Sending
   mine_new = filter commits (fold (sent_on scan_now) scan_now.sendings one.done.act.send)
 
-  abbrev was : List Course
-  was = courses_from t.setting who (length step.client.past) [] step.client.now
-
-  was_is : flat_map commit_sendings was ≡ mine_old
-  was_is = by step.client.now refl step.client.next step.does
-    where
-      by : (found : Option Doing) → step.client.now ≡ found → (next : Option Request) → option_or found (option_map (begun t.setting.terms m.event m.tick) next) ≡ Some step.before → flat_map commit_sendings was ≡ mine_old
-      by (Some doing) is next does =
-          let same : doing ≡ step.before = cc in
-          ap (λ (now : Option Doing). flat_map commit_sendings (courses_from t.setting who (length step.client.past) [] now)) is
-          ∙ (append-nil (commit_sendings (course_now t.setting who (length step.client.past) doing)) ∙ ap (λ (d : Doing). filter commits (scan_by mine d.steps).sendings) same)
-      by None is (Some request) does =
-          let same : begun t.setting.terms m.event m.tick request ≡ step.before = cc in
-          ap (λ (now : Option Doing). flat_map commit_sendings (courses_from t.setting who (length step.client.past) [] now)) is ∙ ap (λ (d : Doing). filter commits (scan_by mine d.steps).sendings) same
-      by None is None does = absurd (let none : ⊥ = cc in none)
-
-  now_is : (course : Course) → course.owner ≡ mine → course.steps ≡ step.after.steps → flat_map commit_sendings (course ∷ []) ≡ mine_new
-  now_is course owner steps =
-      append-nil (commit_sendings course)
-      ∙ (ap (λ (o : Owner). filter commits (scan_by o course.steps).sendings) owner
-      ∙ (ap (λ (list : List Step). filter commits (scan_by mine list).sendings) steps ∙ ap (filter commits) (after_sendings t.setting m inv.script.talks who new.machine step)))
-
   in_parts : (P Q : Sending → Bool) (a b old now : List Sending) → InPlace a b old now → list_all P old ≡ true → list_all Q now ≡ true → (list_all P a ≡ true) × (list_all Q b ≡ true)
   in_parts P Q a b _ _ (Here back) olds nows =
       ((and_parts (list_all P a) (list_all P back) (sym (list_all-append P a back) ∙ olds)).0, (and_parts (list_all Q b) (list_all Q back) (sym (list_all-append Q b back) ∙ nows)).0)
@@ -211,20 +187,13 @@ module _ (t : Traced) (inv : Orderly t) (apart : are_apart t ≡ true) (new : Tr
 
   pub step_apart : list_all (fated t.machine.links) (all_sendings t) ≡ true → list_all now_so (flat_map commit_sendings (courses_of_clients t.setting 1 new.machine.clients)) ≡ true
       → each_pair share (flat_map commit_sendings (courses_of_clients t.setting 1 new.machine.clients)) ≡ true
-  step_apart olds nows = pairs_in share share_turned ok mine_old mine_new fits own (all_sendings t) after_all (others (all_sendings t) after_all in_place olds nows) apart
+  step_apart olds nows = pairs_in share share_turned ok mine_old mine_new fits own (all_sendings t) after_all (others (all_sendings t) after_all (in_place t inv new who step) olds nows) apart
     where
       after_all : List Sending
       after_all = flat_map commit_sendings (courses_of_clients t.setting 1 new.machine.clients)
 
-      in_place : InPlace mine_old mine_new (all_sendings t) (flat_map commit_sendings (courses_of_clients t.setting 1 new.machine.clients))
-      in_place =
-          let found = step_in t.setting m who new.machine step in
-          subst (λ (list : List Sending). InPlace list mine_new (all_sendings t) (flat_map commit_sendings (courses_of_clients t.setting 1 new.machine.clients))) was_is
-          (subst (λ (list : List Sending). InPlace (flat_map commit_sendings was) list (all_sendings t) (flat_map commit_sendings (courses_of_clients t.setting 1 new.machine.clients))) (now_is found.0 found.1.0 found.1.1.0)
-          (in_flat commit_sendings was (found.0 ∷ []) (courses_of t) (courses_of_clients t.setting 1 new.machine.clients) found.1.1.1))
-
       parts : (list_all (fated t.machine.links) mine_old ≡ true) × (list_all now_so mine_new ≡ true)
-      parts = in_parts (fated t.machine.links) now_so mine_old mine_new (all_sendings t) (flat_map commit_sendings (courses_of_clients t.setting 1 new.machine.clients)) in_place olds nows
+      parts = in_parts (fated t.machine.links) now_so mine_old mine_new (all_sendings t) (flat_map commit_sendings (courses_of_clients t.setting 1 new.machine.clients)) (in_place t inv new who step) olds nows
 
       fits : (a : Sending) → ok a ≡ true → all_with (share a) mine_old ≡ true → all_with (share a) mine_new ≡ true
       fits a okay all =

@@ -48,7 +48,7 @@ grows_none a _ Outside session known none = none
 grows_none a _ (Reopens incarnation below) session known none = none
 
 module _ (before after : Seen) (old new : Traced) (event : Event) (note : Note) (items left : List Served) (one : OneEvent before old event note items left after new) (inv : Orderly old) where
-  still_foreign : (entry : Entry) → (is_known old (session_of entry.ltxid) && is_foreign old entry) ≡ true → is_foreign new entry ≡ true
+  pub still_foreign : (entry : Entry) → (is_known old (session_of entry.ltxid) && is_foreign old entry) ≡ true → is_foreign new entry ≡ true
   still_foreign entry both =
       let session : SessionId = session_of entry.ltxid in
       let parts = and_parts (is_known old session) (is_foreign old entry) both in

@@ -1,6 +1,6 @@
 -- Of Once: what became of each sending is told by its connection, at the start and behind each event.
-use Rattle.std.proofs.Common.{◌≡◌, ◌≢◌, refl, sym, ap, subst, ◌∙◌, Bool, true, false, ℕ, ◌&&◌, filter, fold, length, List, [], ◌∷◌, ◌++◌, map, Option, Some, None, append-nil}
-use Rattle.std.specs.Prelude.{◌==◌, unwrap_or}
+use Rattle.std.proofs.Common.{◌≡◌, ◌≢◌, refl, sym, ap, subst, ◌∙◌, Bool, true, false, ℕ, ◌&&◌, filter, fold, length, List, [], ◌∷◌, ◌++◌, Option, Some, None}
+use Rattle.std.specs.Prelude.{◌==◌}
 use Rattle.std.specs.List.{list_all, list_any}
 use Rattle.std.specs.Option.{option_map_or}
 use Rattle.std.proofs.lemmas.Bool.{and_parts, and_from}
@@ -10,23 +10,21 @@ use Rattle.svc_values.specs.declared.frame.Up.{Up}
 use Rattle.svc_values.specs.declared.frame.Up.TheVariants as up
 use Rattle.svc_values.specs.declared.value.Value.{Value}
 use Rattle.svc_values.specs.Calls.{has_commit}
-use Rattle.pool_core.specs.Slots.{give_back_answer}
 use Rattle.client_model.specs.declared.act.Hold.{Hold}
 use Rattle.client_model.specs.declared.act.Hold.TheVariants.{Keep}
 use Rattle.client_model.specs.declared.input.Input.{Input}
-use Rattle.client_model.specs.declared.input.Input.TheVariants.{Took}
 use Rattle.client_model.specs.Talk.{talk_step}
-use Rattle.world_model.specs.Acting.{sent_by, closing, call_in}
+use Rattle.world_model.specs.Acting.{call_in}
 use Rattle.world_model.specs.Clients.{Client, Doing, Step}
 use Rattle.world_model.specs.Conversing.{connected}
 use Rattle.world_model.specs.Frames.{Owner, Sent}
 use Rattle.world_model.specs.Hold.{is_idle}
 use Rattle.world_model.specs.Invariant.{Orderly}
 use Rattle.world_model.specs.KeptLaws.{IsKeptOfAll}
-use Rattle.world_model.specs.Links.{Link, link_at, sends, takes}
+use Rattle.world_model.specs.Links.{Link, link_at, sends}
 use Rattle.world_model.specs.Machines.{Machine}
 use Rattle.world_model.specs.Once.{have_fates, are_apart}
-use Rattle.world_model.specs.Parts.{Sending, Scan, sent_on, answered, commit_sendings, is_unmarked_frame, count_reps}
+use Rattle.world_model.specs.Parts.{Sending, Scan, sent_on, answered, commit_sendings, is_unmarked_frame}
 use Rattle.world_model.specs.Reached.{traced_start}
 use Rattle.world_model.specs.Settings.{Setting, setting_of}
 use Rattle.world_model.specs.Traced.{Traced, Course, course_now, courses_of, courses_of_clients}
@@ -55,17 +53,16 @@ use Rattle.world_model.specs.Parts.{scanned}
 use Rattle.world_model.specs.Sames.{same_owner}
 use Rattle.world_model.proofs.AllLinks.{at_link}
 use Rattle.world_model.proofs.Ends.{sends_alike}
-use Rattle.world_model.proofs.FateSteps.{Says, Silent, CallsOne, fated, fated_from, fated_to, says_at, silent_fold, called_fold, called_at, has_call, committing, committing_by, committing_from, no_connection, elsewhere, stays_at, none_at, Taking, on, out, taking_others}
+use Rattle.world_model.proofs.FateSteps.{Says, Silent, CallsOne, fated, fated_from, fated_to, says_at, silent_fold, called_fold, called_at, has_call, committing, committing_by, committing_from, no_connection, elsewhere, stays_at, none_at, Taking, taking_others}
 use Rattle.world_model.proofs.FateTaken.{scan_owned, plain_none, plain_answers, taking_mine}
 use Rattle.world_model.proofs.KeptWire.{all_orderly}
 use Rattle.world_model.proofs.LinkEnds.{ends_at}
 use Rattle.world_model.proofs.LinkOrder.{is_orderly}
-use Rattle.world_model.proofs.LinkOut.{idle_none, taken_none}
 use Rattle.world_model.proofs.LinkSent.{open_living}
 use Rattle.world_model.proofs.LostKept.{both_all}
 use Rattle.world_model.proofs.SendingSteps.{places}
 use Rattle.world_model.proofs.SendingsMade.{Speaks, speaks}
-use Rattle.world_model.proofs.SendingSteps.{said_mine}
+use Rattle.world_model.proofs.SpokenLinks.{Spoke, spoke, said_call}
 
 scan_owner : (scan : Scan) (steps : List Step) → (fold scanned scan steps).owner ≡ scan.owner
 scan_owner scan [] = refl
@@ -98,18 +95,10 @@ module _ (t : Traced) (inv : Orderly t) (apart : are_apart t ≡ true) (new : Tr
   abbrev new_so : Sending → Bool
   new_so = committing (fated new.machine.links)
 
-  -- Where it hears no reply each fate stays, and no sending is answered; and a connection on which it speaks then has nothing out.
-  record Spoke : Type 0 where
-    connection : ℕ
-    has : step.connection ≡ Some connection
-    link : Link
-    none : count_reps link.sent ≡ length link.taken
-    after : link_at new.machine.links connection ≡ Some (sends m.event said_now link)
-
+  -- Where it hears no reply each fate stays, and no sending is answered.
   record Heard : Type 0 where
     others : (sending : Sending) → (sending.owner ≡ mine → ⊥) → fated t.machine.links sending ≡ true → fated new.machine.links sending ≡ true
     own : list_all old_so sendings ≡ true → list_all new_so scan_now.sendings ≡ true
-    spoke : list_any is_unmarked_frame one.done.act.send ≡ true → Spoke
 
   quietly : ((sending : Sending) → fated t.machine.links sending ≡ true → fated new.machine.links sending ≡ true) → is_frame step.input ≡ false → list_all old_so sendings ≡ true → list_all new_so scan_now.sendings ≡ true
   quietly stays plain all =
@@ -119,9 +108,6 @@ module _ (t : Traced) (inv : Orderly t) (apart : are_apart t ≡ true) (new : Tr
   speaking : list_any is_unmarked_frame one.done.act.send ≡ true → Speaks t inv who new.machine step
   speaking calls = speaks t inv who new.machine step calls
 
-  speaks_not : {A : Type 0} → step.connection ≡ None → list_any is_unmarked_frame one.done.act.send ≡ true → A
-  speaks_not none calls = absurd (let is = speaking calls in let never : None ≡ Some is.connection = sym none ∙ is.has in let nothing : ⊥ = cc in nothing)
-
   heard_so : Heard
   heard_so = by step.before.connection step.input step.after refl refl step.heard_on
     where
@@ -129,7 +115,7 @@ module _ (t : Traced) (inv : Orderly t) (apart : are_apart t ≡ true) (new : Tr
       by _ _ after was is (OfNone had input none plain same) =
           let not_frame : is_frame step.input ≡ false = ap is_frame is ∙ plain in
           let away : step.connection ≡ None = sym step.connects ∙ (ap (λ (c : Option ℕ). connected c step.input) (no_connection t inv apart new who step not_frame) ∙ (ap (connected None) is ∙ plain_none input none plain)) in
-          record { others = λ sending strange here. none_at t inv apart new who step sending away here; own = quietly (λ sending here. none_at t inv apart new who step sending away here) not_frame; spoke = speaks_not away }
+          record { others = λ sending strange here. none_at t inv apart new who step sending away here; own = quietly (λ sending here. none_at t inv apart new who step sending away here) not_frame }
       by _ _ after was is (OfIdle had connection x answer same) =
           let lent : IsLent t.setting m who new.machine step connection x = lent_at t.setting m who new.machine step connection x is in
           let on_it : step.connection ≡ Some connection = sym step.connects ∙ ap (connected step.before.connection) is in
@@ -142,7 +128,6 @@ module _ (t : Traced) (inv : Orderly t) (apart : are_apart t ≡ true) (new : Tr
           record {
             others = λ sending strange here. stays sending here;
             own = quietly stays (ap is_frame is);
-            spoke = λ calls. record { connection = connection; has = on_it; link = lent.link; none = idle_none lent.link idle; after = lent.next };
           }
       by _ _ after was is (OfNew had same) =
           let on_it : step.connection ≡ Some (next_number m) = sym step.connects ∙ ap (connected step.before.connection) is in
@@ -157,7 +142,6 @@ module _ (t : Traced) (inv : Orderly t) (apart : are_apart t ≡ true) (new : Tr
           record {
             others = λ sending strange here. stays sending here;
             own = quietly stays (ap is_frame is);
-            spoke = λ calls. absurd (let never : false ≡ true = subst (λ (i : Input). list_any is_unmarked_frame (talk_step t.setting.terms step.before.talk i m.tick).1.send ≡ true) is calls in let none : ⊥ = cc in none);
           }
       by _ _ after was is (OfReply had connection link reply later some there down_is next back) =
           let taking : Taking t inv apart new who step =
@@ -165,14 +149,6 @@ module _ (t : Traced) (inv : Orderly t) (apart : are_apart t ≡ true) (new : Tr
           record {
             others = taking_others t inv apart new who step taking;
             own = taking_mine t inv apart new who step taking;
-            spoke = λ calls.
-                record {
-                  connection = connection;
-                  has = on t inv apart new who step taking;
-                  link = takes (Took reply.frame link.is_open) reply later link;
-                  none = taken_none link reply (out t inv apart new who step taking).out;
-                  after = next;
-                };
           }
       by _ _ after was is (OfEnded had connection link some there shut next same) =
           let away : step.connection ≡ None = sym step.connects ∙ ap (connected step.before.connection) is in
@@ -182,7 +158,6 @@ module _ (t : Traced) (inv : Orderly t) (apart : are_apart t ≡ true) (new : Tr
             own = λ all.
                 subst (λ (input : Input). list_all new_so (answered input one.done.act.shown sendings) ≡ true) (sym is)
                 (weaker_all old_so new_so sendings (λ sending here. committing_by (fated new.machine.links) sending (λ commits. stays sending (committing_from (fated t.machine.links) sending here commits))) all);
-            spoke = speaks_not away;
           }
 
   -- what is made now waits
@@ -191,21 +166,17 @@ module _ (t : Traced) (inv : Orderly t) (apart : are_apart t ≡ true) (new : Tr
   made_so begun settings call x sends_it keeps held commits =
       let calls : list_any is_unmarked_frame one.done.act.send ≡ true = ap (list_any is_unmarked_frame) sends_it ∙ has_call begun settings call in
       let is = speaking calls in
-      let spoke : Spoke = heard_so.spoke calls in
-      let both : Some spoke.connection ≡ Some is.connection = sym spoke.has ∙ is.has in
-      let number : spoke.connection ≡ is.connection = cc in
-      let same : sends m.event said_now spoke.link ≡ is.next = some_same (link_at new.machine.links is.connection) (sends m.event said_now spoke.link) is.next (subst (λ (k : ℕ). link_at new.machine.links k ≡ Some (sends m.event said_now spoke.link)) number spoke.after) is.there in
-      let link_held : spoke.link.held ≡ Some x = sym (sends_alike (λ (l : Link). l.held ≡ spoke.link.held) m.event said_now spoke.link refl refl) ∙ (ap (λ (l : Link). l.held) same ∙ (is.held ∙ held)) in
+      let spoken : Spoke t inv apart new who step is.connection =
+      spoke t inv apart new who step is.connection is.has
+      (λ opened. let never : false ≡ true = subst (λ (i : Input). list_any is_unmarked_frame (talk_step t.setting.terms step.before.talk i m.tick).1.send ≡ true) opened calls in let none : ⊥ = cc in none) in
+      let same : sends m.event said_now spoken.link ≡ is.next = some_same (link_at new.machine.links is.connection) (sends m.event said_now spoken.link) is.next spoken.after is.there in
+      let link_held : spoken.link.held ≡ Some x = sym (sends_alike (λ (l : Link). l.held ≡ spoken.link.held) m.event said_now spoken.link refl refl) ∙ (ap (λ (l : Link). l.held) same ∙ (is.held ∙ held)) in
       let place : ℕ = call_in (first_doing t.setting m inv.script.talks who new.machine step).talk.phase in
-      let said_is : said_now ≡ call_frames mine place begun settings call =
-      said_mine t.setting m inv.script.talks who new.machine step
-      ∙ (ap (λ (h : Hold). map (sent_by mine place) one.done.act.send ++ map (sent_by mine place) (closing h (give_back_answer step.pool (unwrap_or step.connection 0)))) keeps
-      ∙ (append-nil (map (sent_by mine place) one.done.act.send) ∙ ap (map (sent_by mine place)) sends_it)) in
       let at : (place == scan_now.shown) ≡ true = called_at scan_now place begun settings call (subst (λ (frames : List Up). list_all (sends_at scan_now place) frames ≡ true) sends_it (places t.setting m inv.script.talks who new.machine step)) in
-      let fate : Fate (made scan_now call x) (sends m.event (call_frames mine place begun settings call) spoke.link) = made_fate mine place settings call m.event begun spoke.link scan_now x spoke.none link_held (scan_owner (scan_by mine []) step.before.steps) at commits in
-      fated_to new.machine.links (made scan_now call x) (sends m.event said_now spoke.link)
-      (ap (link_at new.machine.links) (leads t.setting m inv.script.talks who new.machine step spoke.connection spoke.has) ∙ spoke.after)
-      (subst (λ (frames : List Sent). Fate (made scan_now call x) (sends m.event frames spoke.link)) (sym said_is) fate)
+      let fate : Fate (made scan_now call x) (sends m.event (call_frames mine place begun settings call) spoken.link) = made_fate mine place settings call m.event begun spoken.link scan_now x spoken.none link_held (scan_owner (scan_by mine []) step.before.steps) at commits in
+      fated_to new.machine.links (made scan_now call x) (sends m.event said_now spoken.link)
+      (ap (link_at new.machine.links) (leads t.setting m inv.script.talks who new.machine step is.connection is.has) ∙ spoken.after)
+      (subst (λ (frames : List Sent). Fate (made scan_now call x) (sends m.event frames spoken.link)) (sym (said_call t inv apart new who step begun settings call sends_it keeps)) fate)
 
   with_calls : (send : List Up) (held : Hold) → one.done.act.send ≡ send → one.done.act.hold ≡ held → Says send held → list_all new_so scan_now.sendings ≡ true → list_all new_so (fold (sent_on scan_now) scan_now.sendings send) ≡ true
   with_calls _ _ sends_it keeps (Silent send held none) all = subst (λ (list : List Sending). list_all new_so list ≡ true) (sym (silent_fold scan_now send scan_now.sendings none)) all

@@ -43,21 +43,25 @@ idle_right n event frames link idle right =
     sends_alike (Right n) event frames link (record { least = right.least; most = right.most; counted = right.counted; ahead = λ more. absurd (idle_behind n link idle right more) })
     (record { least = right.least; most = right.most; counted = right.counted; ahead = λ more. absurd (idle_behind n link idle right more) })
 
--- what was served last made an entry: it was answered with an identifier, or stopped
-made_told : (link : Link) (reply : Reply) → Known link → IsLast link reply → last_served_made link ≡ true → is_some (told_by (Took reply.frame true)) ≡ true
-made_told link reply known last made =
+-- what was served last made an entry and was answered: it is a commit
+pub made_commit : (link : Link) (reply : Reply) → Known link → (last : IsLast link reply) → last_served_made link ≡ true → is_commit last.one.served.item ≡ true
+made_commit link reply known last made =
     let here : (made_entry last.one.served.item && (is_commit_call last.one.sent && option_map_or (same_sent last.one.sent) (out_frame link) false)) ≡ true =
     subst (λ (f : Option Handled). option_map_or (λ one. made_entry one.served.item && (is_commit_call one.sent && option_map_or (same_sent one.sent) (out_frame link) false)) f false ≡ true) last.last made in
     by (or_cases (is_commit last.one.served.item) (is_stopped_call last.one.served.item) (and_parts (made_entry last.one.served.item) _ here).0)
   where
-    by : (is_commit last.one.served.item ≡ true) ⊎ (is_stopped_call last.one.served.item ≡ true) → is_some (told_by (Took reply.frame true)) ≡ true
-    by (inl commit) =
-        let was = last_was link reply known last in
-        let told : is_told last.one.reply ≡ true = commit_told was.0 last.one was.1 commit in
-        down_told reply.frame last.frame last.same (subst (λ (r : Option Down). is_told r ≡ true) last.replied told)
+    by : (is_commit last.one.served.item ≡ true) ⊎ (is_stopped_call last.one.served.item ≡ true) → is_commit last.one.served.item ≡ true
+    by (inl commit) = commit
     by (inr stopped) =
         let was = last_was link reply known last in
         absurd (some_not last.one.reply last.frame last.replied (stopped_silent was.0 last.one was.1 stopped))
+
+-- so it was answered with an identifier
+made_told : (link : Link) (reply : Reply) → Known link → IsLast link reply → last_served_made link ≡ true → is_some (told_by (Took reply.frame true)) ≡ true
+made_told link reply known last made =
+    let was = last_was link reply known last in
+    let told : is_told last.one.reply ≡ true = commit_told was.0 last.one was.1 (made_commit link reply known last made) in
+    down_told reply.frame last.frame last.same (subst (λ (r : Option Down). is_told r ≡ true) last.replied told)
 
 counted_most : (n commits : ℕ) (stopped : Bool) → ((n == commits) || ((n == commits + 1) && stopped)) ≡ true → stopped ≡ false → n ≡ commits
 counted_most n commits stopped is none = by (or_cases (n == commits) ((n == commits + 1) && stopped) is)

@@ -99,7 +99,7 @@ pub data Moving (setting : Setting) (m : Machine) (n : Machine) : Type 0 where
   Stepping : (who : ℕ) → HasStepped setting m who n → Moving setting m n
 
 module _ (setting : Setting) (m : Machine) (items left : List Served) where
-  quiet_stay : (kind : Noted) (n : Machine) → is_went kind ≡ false → Happens setting m items left kind n → Stays SameOut self_out joined_out m.links n.links
+  pub quiet_stay : (kind : Noted) (n : Machine) → is_went kind ≡ false → Happens setting m items left kind n → Stays SameOut self_out joined_out m.links n.links
   quiet_stay kind n other happens =
       others_stay SameOut self_out joined_out setting m (λ number front served at of. said_out front.link (handled m.event front served) (handled_said m.event front served))
       (λ number front served at of. record { taken = refl; held = refl; count = refl; out = refl }) (λ up down link opens. said_out link (cut_link m.event up down link) (cut_said m.event up down link opens))
@@ -111,7 +111,7 @@ module _ (setting : Setting) (m : Machine) (items left : List Served) where
   last_clients at after failover _ (LastStopped front served is stopped same) = refl
   last_clients at after failover _ (LastServed front served is over same) = refl
 
-  quiet_clients : (kind : Noted) (n : Machine) → is_went kind ≡ false → Happens setting m items left kind n → n.clients ≡ m.clients
+  pub quiet_clients : (kind : Noted) (n : Machine) → is_went kind ≡ false → Happens setting m items left kind n → n.clients ≡ m.clients
   quiet_clients kind _ other (Nothing _ quiet) = refl
   quiet_clients kind n other (IsStep who did _ moves) = absurd (let none : ⊥ = cc in none)
   quiet_clients kind _ other (Serves at frame front served is ordinary same) = refl

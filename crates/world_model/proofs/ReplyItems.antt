@@ -14,6 +14,7 @@ use Rattle.svc_values.specs.declared.frame.Up.{Up}
 use Rattle.svc_values.specs.declared.frame.Up.TheVariants as up
 use Rattle.svc_values.specs.declared.frame.Down.{Down}
 use Rattle.svc_values.specs.declared.frame.Down.TheVariants as down
+use Rattle.svc_values.specs.Endings.{ends_committed}
 use Rattle.svc_values.specs.Same.{same_answers, same_call, same_draws}
 use Rattle.svc_values.specs.SameLaws.{same_answers_decide, same_draws_decide, same_call_decides}
 use Rattle.outage_schedule.specs.declared.item.Item.{Item}
@@ -23,7 +24,7 @@ use Rattle.world_model.specs.Frames.{Sent, Reply, Handled}
 use Rattle.world_model.specs.Links.{Link}
 use Rattle.world_model.specs.Parts.{is_rep, count_reps, served_reps}
 use Rattle.world_model.specs.Sames.{same_up, same_down, same_sent, same_reply, is_front}
-use Rattle.world_model.specs.Serving.{is_item_of, reply_of}
+use Rattle.world_model.specs.Serving.{is_item_of, is_commit, reply_of}
 use Rattle.world_model.specs.Shown.{is_shown_item}
 use Rattle.world_model.specs.Wire.{up_of, replies_of, same_replies}
 use Rattle.world_model.proofs.CoursesGrow.{or_left}
@@ -183,3 +184,12 @@ module _ (answers : List Answer) (draws : List Draw) (ltxid : Ltxid) (kept : Lis
   call_says (up.Outcome x) one said sent by same = absurd (let none : ⊥ = cc in none)
   call_says up.End one said sent by same = absurd (let none : ⊥ = cc in none)
   call_says up.Close one said sent by same = absurd (let none : ⊥ = cc in none)
+
+-- the reply of a commit says Committed
+pub commit_says : (answers : List Answer) (draws : List Draw) (ltxid : Ltxid) (frame : Up) (one : Item) (said : Down) → IsSaidBy frame one said → same_down (down.Reply answers draws ltxid) said ≡ true → is_commit one ≡ true → ends_committed answers ≡ true
+commit_says answers draws ltxid frame (item.Call marked call a d) (down.Reply b e y) by same commit =
+    let one = and_parts (same_answers answers b) _ same in
+    let two = and_parts (same_answers b a) _ by.replies in
+    ap ends_committed ((same_answers_decide answers b).0 one.0 ∙ (same_answers_decide b a).0 two.0) ∙ commit
+commit_says answers draws ltxid frame (item.Call marked call a d) said by same commit = absurd (let none : ⊥ = cc in none)
+commit_says answers draws ltxid frame one said by same commit = absurd (let none : ⊥ = cc in none)

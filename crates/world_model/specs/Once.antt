@@ -29,7 +29,7 @@ use Rattle.world_model.specs.Clients.{Client, script_at}
 use Rattle.world_model.specs.Traced.{Traced, Course, courses_of}
 use Rattle.world_model.specs.Words.{dones_of}
 use Rattle.world_model.specs.Sames.{each_pair, same_owners, owned_by}
-use Rattle.world_model.specs.Parts.{Sending, Scan, scan_of, sendings_of, commit_sendings, is_commit_call, has_entry, implies, is_out, out_frame, held_number}
+use Rattle.world_model.specs.Parts.{Sending, Scan, Numbered, links_of, scan_of, sendings_of, commit_sendings, is_commit_call, has_entry, implies, is_out, out_frame, held_number}
 
 -- all sendings of calls with a commit, of all requests
 abbrev pub all_sendings : Traced → List Sending
@@ -102,6 +102,19 @@ has_fate sending link =
 
 abbrev pub have_fates : Traced → Bool
 have_fates t = list_all (λ sending. option_map_or (has_fate sending) (link_at t.machine.links sending.connection) false) (all_sendings t)
+
+-- O1e: a call with a commit that is out on a connection has its sending there: under the identifier held, and no reply was taken to it
+abbrev pub has_commit_out : Link → Bool
+has_commit_out link = is_out link && option_map_or is_commit_call (out_frame link) false
+
+abbrev pub is_waiting_on : Numbered → Sending → Bool
+is_waiting_on one sending = (sending.connection == one.number) && (is_none sending.taken && option_map_or (same_ltxid sending.ltxid) one.link.held false)
+
+abbrev pub out_waits : Traced → Numbered → Bool
+out_waits t one = implies (has_commit_out one.link) (list_any (is_waiting_on one) (all_sendings t))
+
+abbrev pub outs_wait : Traced → Bool
+outs_wait t = list_all (out_waits t) (links_of t)
 
 -- O2: of two sendings under one identifier, both are on one connection and at most one is open or committed
 abbrev pub share : Sending → Sending → Bool
@@ -248,6 +261,7 @@ pub record Once (t : Traced) : Type 0 where
   pub links : IsTrue (on_links t)
   pub stored : IsTrue (committed_stored t)
   pub fates : IsTrue (have_fates t)
+  pub waits : IsTrue (outs_wait t)
   pub apart : IsTrue (are_apart t)
   pub settled : IsTrue (earlier_settled t)
   pub ends : IsTrue (over_ends t)

@@ -1,7 +1,7 @@
 //! What of entries and of the sendings that they are of holds of the start and is kept in each event. Each law is the clause of a function
 //! with nothing to run.
 ghost use Rattle.world_model.specs.KeptLaws.{IsKeptOfAll, StaysTrue};
-ghost use Rattle.world_model.specs.Once.{completed_rightly, on_links, have_fates, committed_stored, are_apart, note_sendings, tell_tried, tried_apart};
+ghost use Rattle.world_model.specs.Once.{completed_rightly, on_links, have_fates, outs_wait, entries_sent, committed_stored, are_apart, note_sendings, tell_tried, tried_apart};
 
 /// The identifier of each sending with a commit is one of its connection's session.
 pub fn sendings_are_of_sessions()
@@ -14,6 +14,20 @@ pub fn sendings_are_of_sessions()
 pub fn sendings_have_fates()
     ensures { IsKeptOfAll have_fates }
 {}
+
+/// A call with a commit that is out on a connection has its sending there, if the whole invariant held before: under the identifier that is
+/// held, and no reply was taken to it.
+pub fn calls_that_are_out_wait()
+    ensures { IsKeptOfAll outs_wait }
+{}
+
+/// Under the identifier of each entry of a connection's session exactly one sending has no reply that was taken, or one that says
+/// Committed, if the whole invariant held before.
+pub fn entries_are_sent()
+    ensures { IsKeptOfAll entries_sent }
+{
+    server_model::laws::runs_number();
+}
 
 /// A sending that was answered Committed has its entry, if the whole invariant held before.
 pub fn committed_sendings_are_stored()
