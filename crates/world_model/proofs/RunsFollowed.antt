@@ -32,7 +32,7 @@ pub reached_setting : (document : Document) (events : List Event) (notes : List 
 reached_setting document _ _ _ _ _ (Begins seen start history coupled) = refl
 reached_setting document _ _ _ _ _ (GoesOn events notes items more before after old new event note reached one) = one.setting ∙ reached_setting document events notes items before old reached
 
-reached_walk : (document : Document) (events : List Event) (notes : List Note) (items : List Served) (seen : Seen) (t : Traced) → Reached document events notes items seen t
+pub reached_walk : (document : Document) (events : List Event) (notes : List Note) (items : List Served) (seen : Seen) (t : Traced) → Reached document events notes items seen t
     → walk (setting_of document) (start_of document) events notes items ≡ Some (record { machine = t.machine; notes = []; items = [] })
 reached_walk document _ _ _ _ _ (Begins seen start history coupled) = refl
 reached_walk document _ _ _ _ _ (GoesOn events notes items more before after old new event note reached one) =
@@ -45,7 +45,7 @@ abbrev run_with : Document → List Note → List Served → Finished
 run_with document notes items =
     option_and_then (λ (walked : Walked). walk_finish (setting_of document) walked.machine AtServer walked.notes walked.items) (walk (setting_of document) (start_of document) document.schedule notes items)
 
-finishing_setting : (document : Document) (place : Place) (notes : List Note) (items : List Served) (seen : Seen) (t : Traced) → IsFinishing document place notes items seen t → t.setting ≡ setting_of document
+pub finishing_setting : (document : Document) (place : Place) (notes : List Note) (items : List Served) (seen : Seen) (t : Traced) → IsFinishing document place notes items seen t → t.setting ≡ setting_of document
 finishing_setting document _ _ _ _ _ (Scheduled notes items seen t reached) = reached_setting document document.schedule notes items seen t reached
 finishing_setting document _ _ _ _ _ (Finishes place later notes items more before after old new event note finishing next one) = one.setting ∙ finishing_setting document place notes items before old finishing
 

@@ -1,7 +1,7 @@
 -- What a run's service did, for its judgement: the plain items of a report, one for each frame that was served, each call that was run
 -- outside and each identifier that was asked, in the order of events. Each frame is the one that stands first on its connection, where the
 -- walk over the events has come.
-use Rattle.std.specs.Prelude.{◌+◌, Bool, true, false, not, List, [], ◌∷◌, ◌++◌, map, Option, Some, None, if◌then◌else◌}
+use Rattle.std.specs.Prelude.{◌+◌, Bool, true, false, not, List, [], ◌∷◌, ◌++◌, map, Option, Some, if◌then◌else◌}
 use Rattle.std.specs.List.{list_all}
 use Rattle.std.specs.Option.{option_map_or}
 use Rattle.svc_values.specs.declared.call.Call.{Call}

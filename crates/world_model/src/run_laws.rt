@@ -1,0 +1,16 @@
+//! What holds of a whole run that a report tells. Each law is the clause of a function with nothing to run.
+ghost use Rattle.world_model.specs.Reported.{RunsAreFreshNew, RunsAreLegal};
+
+/// What a run served is legal, as a walk over its items judges that knows them, the entries and the alerts alone.
+pub fn runs_are_legal()
+    ensures { RunsAreLegal }
+{
+    server_model::laws::runs_legal();
+}
+
+/// What a run drew anew was drawn once, over all openings, as long as identifiers can be spelled.
+pub fn runs_are_fresh_new()
+    ensures { RunsAreFreshNew }
+{
+    server_model::laws::runs_fresh_new();
+}
