@@ -20,7 +20,7 @@ plain (AskStopped event x) = AskStopped 0 x
 abbrev pub plain_items : List Item → List Item
 plain_items items = map plain items
 
--- ---- a history
+-- A HISTORY ---------------------------------------------------------------------------------------
 
 -- what happened, without a place
 abbrev pub plain_of : Happened → Item
@@ -40,7 +40,7 @@ history_plain event (Asked x told ∷ more) =
     ap (λ (item : Item). item ∷ plain_items (items_from (event + 1) more)) (asked_plain event x told)
     ∙ ap (λ (items : List Item). plain_of (Asked x told) ∷ items) (history_plain (event + 1) more)
 
--- ---- what is legal
+-- WHAT IS LEGAL -----------------------------------------------------------------------------------
 
 hold_plain : (base : Base) (walk : Walk) (items : List Item) → items_hold base walk (plain_items items) ≡ items_hold base walk items
 hold_plain base walk [] = refl
@@ -62,7 +62,7 @@ legal_plain base items entries alerts =
     ap (λ (held : Bool). held && lines_stand (lines_of (plain_items items)) alerts) (hold_plain base (walk_of base entries) items)
     ∙ ap (λ (lines : List Line). items_hold base (walk_of base entries) items && lines_stand lines alerts) (lines_plain items)
 
--- ---- what is fresh
+-- WHAT IS FRESH -----------------------------------------------------------------------------------
 
 drawn_plain : (base : Base) (walk : Walk) (items : List Item) → drawn_anew base walk (plain_items items) ≡ drawn_anew base walk items
 drawn_plain base walk [] = refl

@@ -29,7 +29,7 @@ use Rattle.world_model.proofs.Happened.{at_event}
 use Rattle.world_model.proofs.Items.{reaches_if, mapped}
 use Rattle.world_model.proofs.JudgedAlike.{plain_items, plain_of, asked_plain}
 
--- ---- the items that it takes
+-- THE ITEMS THAT IT TAKES -------------------------------------------------------------------------
 
 served_takes : (m n : Machine) (number : ℕ) (frame : Option FrameName) (items left new : List Served) (front : Option Front) → serves m number frame items front ≡ Some (n, left)
     → front_items m front (items ++ new) ≡ front_items m front items
@@ -57,7 +57,7 @@ crash_takes m n number after failover true false items left new e = falls_takes 
 crash_takes m n number after failover false down items left new e = refl
 
 -- the note is one of this event
-noted_kind : (setting : Setting) (m n : Machine) (items left : List Served) (test : Bool) (kind : Noted) → option_and_then (by_kind setting m items) (only_if test kind) ≡ Some (n, left) → by_kind setting m items kind ≡ Some (n, left)
+pub noted_kind : (setting : Setting) (m n : Machine) (items left : List Served) (test : Bool) (kind : Noted) → option_and_then (by_kind setting m items) (only_if test kind) ≡ Some (n, left) → by_kind setting m items kind ≡ Some (n, left)
 noted_kind setting m n items left true kind e = e
 noted_kind setting m n items left false kind e = absurd (let none : ⊥ = cc in none)
 
@@ -80,7 +80,7 @@ event_takes setting m n event.Tick note items left new e = refl
 event_takes setting m n event.Drain note items left new e = refl
 event_takes setting m n event note items left new e = absurd (let never : ⊥ = cc in never)
 
--- ---- what the service did
+-- WHAT THE SERVICE DID ----------------------------------------------------------------------------
 
 front_did : (m : Machine) (front : Option Front) (items : List Served) → plain_items (front_items m front items) ≡ map plain_of (front_served m.tick front items)
 front_did m None items = refl

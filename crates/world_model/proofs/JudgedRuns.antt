@@ -31,7 +31,7 @@ use Rattle.world_model.proofs.JudgedEvents.{event_takes, event_did}
 use Rattle.world_model.proofs.RunStarts.{finishing_start, finishing_coupled}
 use Rattle.world_model.proofs.RunsFollowed.{reached_setting, reached_walk, finishing_setting}
 
--- ---- events one after the other
+-- EVENTS ONE AFTER THE OTHER ----------------------------------------------------------------------
 
 -- behind an event
 abbrev goes_on : Setting → List Event → List Note → After → List Item
@@ -76,7 +76,7 @@ finish_more setting m next place later event note notes new items is e =
     ∙ ap (λ (front : List Item). front ++ option_map_or (λ n. finish_items setting n.0 later notes n.1) (follow setting m event note (new ++ items)) []) (event_takes setting m next event note new [] items e)
     ∙ ap (λ (after : After). next_items m event note new ++ option_map_or (λ n. finish_items setting n.0 later notes n.1) after []) (follow_local setting m event note new items [] next e)
 
--- ---- the history
+-- THE HISTORY -------------------------------------------------------------------------------------
 
 -- the items so far are those of the history, but for their numbers
 abbrev AreOf : List Item → Seen → Type 0
@@ -139,16 +139,19 @@ finishing_items document _ _ _ _ _ (Finishes place later notes items more before
           ∙ sym (append_assoc so.front (next_items old.machine event note more) (finish_items setting new.machine later others left));
     }
 
--- ---- the report
+-- THE REPORT --------------------------------------------------------------------------------------
 
 module _ (document : Document) (report : Report) (seen : Seen) (t : Traced) (server : Server) (is : IsReported document report seen t server) where
-  pub judged_plain : plain_items (judged_items document report) ≡ plain_items (items_of seen.history)
-  judged_plain =
+  pub judged_history : plain_items (judged_items document report) ≡ map plain_of seen.history
+  judged_history =
       let so = finishing_items document is.run.place report.notes report.served seen t is.run.finishing [] [] in
       ap plain_items
       (ap (λ (notes : List Note). items_with document notes report.served) (sym (append-nil report.notes)) ∙ ap (items_with document (report.notes ++ [])) (sym (append-nil report.served))
       ∙ so.whole ∙ append-nil so.front)
-      ∙ so.are ∙ sym (history_plain 0 seen.history)
+      ∙ so.are
+
+  judged_plain : plain_items (judged_items document report) ≡ plain_items (items_of seen.history)
+  judged_plain = judged_history ∙ sym (history_plain 0 seen.history)
 
   sound : IsSound (service_base document)
   sound = subst IsSound (finishing_start document is.run.place report.notes report.served seen t is.run.finishing) (finishing_coupled document is.run.place report.notes report.served seen t is.run.finishing).sound

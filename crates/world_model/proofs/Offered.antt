@@ -18,3 +18,5 @@ pub use Rattle.world_model.proofs.Beside.{ticks_once}
 pub use Rattle.world_model.proofs.Awaiting.{AreOpenOnce, idle_open_once}
 -- which of some is the first that meets a test
 pub use Rattle.world_model.proofs.FirstBehind.{IsFirst, NoneBehind, counted, position_cons, first_there, none_there}
+-- where a run began
+pub use Rattle.world_model.proofs.RunStarts.{finishing_start}
