@@ -46,3 +46,4 @@ pub mod FinishEnds
 pub mod FinishShort
 pub mod Judged
 pub mod Reported
+pub mod StoredLaws

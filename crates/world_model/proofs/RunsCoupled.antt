@@ -1,0 +1,29 @@
+-- Wherever a run has come to, machine and service are coupled, and what the service began with is sound.
+use Rattle.std.proofs.Common.{subst, List}
+use Rattle.outage_schedule.specs.declared.document.Document.{Document}
+use Rattle.outage_schedule.specs.declared.event.Event.{Event}
+use Rattle.outage_schedule.specs.declared.item.Served.{Served}
+use Rattle.outage_schedule.specs.declared.note.Note.{Note}
+use Rattle.run_clauses.specs.ServiceBase.{service_base}
+use Rattle.server_model.specs.Base.{IsSound}
+use Rattle.server_model.specs.Seen.{Seen}
+use Rattle.world_model.specs.Coupled.{Coupled}
+use Rattle.world_model.specs.Finishing.{Place}
+use Rattle.world_model.specs.Reached.{Reached, Begins, GoesOn, IsFinishing, Scheduled, Finishes}
+use Rattle.world_model.specs.Traced.{Traced}
+
+reached_coupled : (document : Document) (events : List Event) (notes : List Note) (items : List Served) (seen : Seen) (t : Traced) → Reached document events notes items seen t → Coupled seen t
+reached_coupled document _ _ _ _ _ (Begins seen start history coupled) = coupled
+reached_coupled document _ _ _ _ _ (GoesOn events notes items more before after old new event note reached one) = one.coupled_after
+
+pub finishing_coupled : (document : Document) (place : Place) (notes : List Note) (items : List Served) (seen : Seen) (t : Traced) → IsFinishing document place notes items seen t → Coupled seen t
+finishing_coupled document _ _ _ _ _ (Scheduled notes items seen t reached) = reached_coupled document document.schedule notes items seen t reached
+finishing_coupled document _ _ _ _ _ (Finishes place later notes items more before after old new event note finishing next one) = one.coupled_after
+
+reached_sound : (document : Document) (events : List Event) (notes : List Note) (items : List Served) (seen : Seen) (t : Traced) → Reached document events notes items seen t → IsSound (service_base document)
+reached_sound document _ _ _ _ _ (Begins seen start history coupled) = subst IsSound start coupled.sound
+reached_sound document _ _ _ _ _ (GoesOn events notes items more before after old new event note reached one) = reached_sound document events notes items before old reached
+
+pub finishing_sound : (document : Document) (place : Place) (notes : List Note) (items : List Served) (seen : Seen) (t : Traced) → IsFinishing document place notes items seen t → IsSound (service_base document)
+finishing_sound document _ _ _ _ _ (Scheduled notes items seen t reached) = reached_sound document document.schedule notes items seen t reached
+finishing_sound document _ _ _ _ _ (Finishes place later notes items more before after old new event note finishing next one) = finishing_sound document place notes items before old finishing
