@@ -57,9 +57,9 @@ runs_answer session now (called ∷ calls) (run ∷ runs) history is = ap answer
 
 event_answers : (m : Machine) (moments : List HappenedAt) (happened : List Happened) → EventTells m moments happened → answered_in moments ≡ answered_of happened
 event_answers m _ _ TellsNothing = refl
-event_answers m _ _ (TellsItem front served of_front its) = ap (λ (all : List Answered). all ++ []) (item_answers served.session (commits_after front.link served.item) front.first.frame served.item its)
+event_answers m _ _ (TellsItem number front served at_front of_front its) = ap (λ (all : List Answered). all ++ []) (item_answers served.session (commits_after front.link served.item) front.first.frame served.item its)
 event_answers m _ _ (TellsRun ran calls runs same are) = sym (runs_answer (next_session m.server) m.tick calls (runs_of ran) runs are)
-event_answers m _ _ (TellsAnswer x told) = ap (λ (all : List Answered). all ++ []) (result_answers x told)
+event_answers m _ _ (TellsAnswer x told up) = ap (λ (all : List Answered). all ++ []) (result_answers x told)
 
 -- ALL EVENTS --------------------------------------------------------------------------------------
 

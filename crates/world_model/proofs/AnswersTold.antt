@@ -77,7 +77,7 @@ says_same a b is = cc
 asks_same : (a b : Ltxid) → up.Outcome a ≡ up.Outcome b → a ≡ b
 asks_same a b is = cc
 
-outcomes_answer : (core : Core) (y : Ltxid) (after : Core) (said : Telling) → Outcomes core y after said → (x : Ltxid) (frame : Down) → y ≡ x → said ≡ Says frame → IsAnswer core after x frame
+pub outcomes_answer : (core : Core) (y : Ltxid) (after : Core) (said : Telling) → Outcomes core y after said → (x : Ltxid) (frame : Down) → y ≡ x → said ≡ Says frame → IsAnswer core after x frame
 outcomes_answer core y _ _ (IsTold judged is) x frame same says =
     let told : down_of judged ≡ frame = says_same (down_of judged) frame says in
     inr (sym told ∙ (ap down_of (sym is) ∙ ap (λ (z : Ltxid). down_of (verdict_on core z)) same), blocks_none judged core y)

@@ -61,7 +61,7 @@ abbrev BlocksIn : Core → Core → List Answered → Type 0
 BlocksIn core after answers = Blocks core.base.blocked core.blocked after.blocked answers
 
 -- an identifier that is to be blocked is not
-pub free_to_block : (core : Core) (x : Ltxid) → verdict_on core x ≡ verdict.BlockIt → is_blocked (all_blocked core) x ≡ false
+free_to_block : (core : Core) (x : Ltxid) → verdict_on core x ≡ verdict.BlockIt → is_blocked (all_blocked core) x ≡ false
 free_to_block core x is =
     let commits : List Committed = map committed_of (all_entries core) in
     let may = (may_known core.horizon (state_of commits (all_blocked core)) x (blocks-IsNext core x is)).1 in

@@ -1,7 +1,7 @@
 -- No identifier of a report's journal is both blocked and an entry's: a blocked one is its session's next, and the entries are numbered.
-use Rattle.std.proofs.Common.{◌≡◌, refl, sym, ap, subst, ◌∙◌, Bool, true, false, ◌<◌, cond, List, [], ◌∷◌, ◌++◌, map, Some, arith}
+use Rattle.std.proofs.Common.{◌≡◌, refl, sym, ap, subst, ◌∙◌, Bool, true, false, ◌<◌, ◌||◌, cond, List, [], ◌∷◌, ◌++◌, map, Some, arith}
 use Rattle.std.specs.Prelude.{◌==◌, nat_lt, find, is_none, option_map}
-use Rattle.std.specs.List.{list_all}
+use Rattle.std.specs.List.{list_all, list_any}
 use Rattle.std.proofs.lemmas.Bool.{and_parts, and_from}
 use Rattle.std.proofs.lemmas.List.{append-nil}
 use Rattle.svc_values.specs.declared.entry.Entry.{Entry}
@@ -31,21 +31,30 @@ use Rattle.world_model.proofs.Numbered.{numbered_on, all_below}
 use Rattle.world_model.proofs.RunsCoupled.{finishing_sound}
 use Rattle.world_model.proofs.Tests.{eq_from, lt_from}
 
--- no entry is found with the next identifier of a session
-none_found : (all entries : List Entry) (x : Ltxid) → x.number ≡ entries_of all (session_of x) → list_all (λ entry. nat_lt entry.ltxid.number (entries_of all (session_of entry.ltxid))) entries ≡ true
-    → is_none (completed_of entries x) ≡ true
-none_found all [] x next below = refl
-none_found all (entry ∷ entries) x next below =
+-- no entry has the next identifier of a session
+pub none_alike : (all entries : List Entry) (x : Ltxid) → x.number ≡ entries_of all (session_of x) → list_all (λ entry. nat_lt entry.ltxid.number (entries_of all (session_of entry.ltxid))) entries ≡ true
+    → list_any (λ entry. same_ltxid entry.ltxid x) entries ≡ false
+none_alike all [] x next below = refl
+none_alike all (entry ∷ entries) x next below =
     let parts = and_parts (nat_lt entry.ltxid.number (entries_of all (session_of entry.ltxid))) (list_all (λ one. nat_lt one.ltxid.number (entries_of all (session_of one.ltxid))) entries) below in
-    by (same_ltxid entry.ltxid x) refl (lt_from entry.ltxid.number (entries_of all (session_of entry.ltxid)) parts.0) (none_found all entries x next parts.1)
+    by (same_ltxid entry.ltxid x) refl (lt_from entry.ltxid.number (entries_of all (session_of entry.ltxid)) parts.0) (none_alike all entries x next parts.1)
   where
-    by : (same : Bool) → same_ltxid entry.ltxid x ≡ same → entry.ltxid.number < entries_of all (session_of entry.ltxid) → is_none (completed_of entries x) ≡ true
-        → is_none (option_map (λ (one : Entry). one.completed) (cond same (Some entry) (find (λ (one : Entry). same_ltxid one.ltxid x) entries))) ≡ true
+    by : (same : Bool) → same_ltxid entry.ltxid x ≡ same → entry.ltxid.number < entries_of all (session_of entry.ltxid) → list_any (λ (one : Entry). same_ltxid one.ltxid x) entries ≡ false
+        → (same || list_any (λ (one : Entry). same_ltxid one.ltxid x) entries) ≡ false
     by false is under later = later
     by true is under later =
         let one : entry.ltxid ≡ x = (same_ltxid_decides entry.ltxid x).0 is in
         let below : x.number < entries_of all (session_of x) = subst (λ (y : Ltxid). y.number < entries_of all (session_of y)) one under in
         absurd (let never : ⊥ = omega (arith, next, below) in never)
+
+none_found : (entries : List Entry) (x : Ltxid) → list_any (λ entry. same_ltxid entry.ltxid x) entries ≡ false → is_none (completed_of entries x) ≡ true
+none_found [] x none = refl
+none_found (entry ∷ entries) x none = by (same_ltxid entry.ltxid x) (none_found entries x) none
+  where
+    by : (same : Bool) → (list_any (λ (one : Entry). same_ltxid one.ltxid x) entries ≡ false → is_none (completed_of entries x) ≡ true) → (same || list_any (λ (one : Entry). same_ltxid one.ltxid x) entries) ≡ false
+        → is_none (option_map (λ (one : Entry). one.completed) (cond same (Some entry) (find (λ (one : Entry). same_ltxid one.ltxid x) entries))) ≡ true
+    by false again later = again later
+    by true again later = absurd (let never : ⊥ = cc in never)
 
 none_in_all : (entries : List Entry) (blocked : List Ltxid) → list_all (λ entry. nat_lt entry.ltxid.number (entries_of entries (session_of entry.ltxid))) entries ≡ true
     → list_all (λ x. x.number == entries_of entries (session_of x)) blocked ≡ true → list_all (λ x. is_none (completed_of entries x)) blocked ≡ true
@@ -53,7 +62,7 @@ none_in_all entries [] below next = refl
 none_in_all entries (x ∷ blocked) below next =
     let parts = and_parts (x.number == entries_of entries (session_of x)) (list_all (λ y. y.number == entries_of entries (session_of y)) blocked) next in
     and_from (is_none (completed_of entries x)) (list_all (λ y. is_none (completed_of entries y)) blocked)
-    (none_found entries entries x (eq_from x.number (entries_of entries (session_of x)) parts.0) below) (none_in_all entries blocked below parts.1)
+    (none_found entries x (none_alike entries entries x (eq_from x.number (entries_of entries (session_of x)) parts.0) below)) (none_in_all entries blocked below parts.1)
 
 -- the entries of the image and those of the run are numbered
 pub report_numbered : EachKeeps → EntryNumbers → (document : Document) (report : Report) (seen : Seen) (t : Traced) (server : Server) → IsReported document report seen t server

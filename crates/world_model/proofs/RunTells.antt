@@ -1,5 +1,5 @@
 -- What a report of a run tells, event by event, beside the history of the service.
-use Rattle.std.proofs.Common.{◌≡◌, refl, sym, ap, subst, ◌∙◌, true, ℕ, ◌+◌, ◌<◌, length, List, [], ◌∷◌, ◌++◌, arith}
+use Rattle.std.proofs.Common.{◌≡◌, refl, sym, ap, subst, ◌∙◌, true, ℕ, ◌+◌, ◌<◌, ◌||◌, length, List, [], ◌∷◌, ◌++◌, arith}
 use Rattle.std.specs.Prelude.{◌==◌, nat_lt}
 use Rattle.std.specs.List.{list_all}
 use Rattle.std.proofs.lemmas.List.{length-append}
@@ -16,8 +16,11 @@ use Rattle.world_model.specs.OneEvent.{OneEvent}
 use Rattle.world_model.specs.Reached.{Reached, Begins, GoesOn, IsFinishing, Scheduled, Finishes}
 use Rattle.world_model.specs.Traced.{Traced}
 use Rattle.world_model.proofs.AllLists.{append_all, weaker_all}
+use Rattle.world_model.proofs.BasicLinks.{down_kept}
 use Rattle.world_model.proofs.Beside.{opens_once}
 use Rattle.world_model.proofs.EventsTell.{EventTells, HasTold, event_tells}
+use Rattle.world_model.proofs.Happened.{Followed, follow_happens}
+use Rattle.world_model.proofs.LinkNow.{is_down_link}
 use Rattle.world_model.proofs.MomentsGrow.{moments_of, event_moments, moments_more}
 use Rattle.world_model.proofs.Tests.{eq_from, lt_from, lt_to}
 
@@ -26,13 +29,16 @@ pub data RunTells : ℕ → List HappenedAt → List Happened → Type 0 where
   NothingYet : RunTells 0 [] []
   TellsMore : (m : Machine) (moments more : List HappenedAt) (history happened : List Happened) → RunTells m.event moments history → EventTells m more happened → RunTells (m.event + 1) (moments ++ more) (history ++ happened)
 
-record HasCome (notes : List Note) (items : List Served) (seen : Seen) (m : Machine) : Type 0 where
-  count : m.event ≡ length notes
-  before : list_all (λ one. nat_lt one.event (length notes + 1)) items ≡ true
-  tells : RunTells m.event (moments_of notes items) seen.history
+-- as many events as notes, whose items they are, and what they tell
+pub record HasCome (notes : List Note) (items : List Served) (seen : Seen) (m : Machine) : Type 0 where
+  pub count : m.event ≡ length notes
+  pub before : list_all (λ one. nat_lt one.event (length notes + 1)) items ≡ true
+  pub tells : RunTells m.event (moments_of notes items) seen.history
+  -- while the server is down no session lives
+  pub down : (m.server.is_up || list_all is_down_link m.links) ≡ true
 
 module _ (before after : Seen) (old new : Traced) (event : Event) (note : Note) (notes : List Note) (items more : List Served) (one : OneEvent before old event note more [] after new) (was : HasCome notes items before old.machine) where
-  told : HasTold old.machine note more one.happened
+  pub told : HasTold old.machine note more one.happened
   told = event_tells old.setting old.machine new.machine event note more one.happened one.follows one.did
 
   number : old.machine.event + 1 ≡ length notes + 1
@@ -49,7 +55,7 @@ module _ (before after : Seen) (old new : Traced) (event : Event) (note : Note) 
       (weaker_all (λ (one : Served). one.event == old.machine.event + 1) (λ (one : Served). nat_lt one.event (all + 1)) more
       (λ one is. let at : one.event ≡ old.machine.event + 1 = eq_from one.event (old.machine.event + 1) is in lt_to one.event (all + 1) (omega (arith, at, number, same))) told.now)
 
-  moments_now : moments_of (notes ++ note ∷ []) (items ++ more) ≡ moments_of notes items ++ event_moments (old.machine.event + 1) note more
+  pub moments_now : moments_of (notes ++ note ∷ []) (items ++ more) ≡ moments_of notes items ++ event_moments (old.machine.event + 1) note more
   moments_now =
       moments_more notes note items more was.before (subst (λ (n : ℕ). list_all (λ (one : Served). one.event == n) more ≡ true) number told.now)
       ∙ ap (λ (n : ℕ). moments_of notes items ++ event_moments n note more) (sym number)
@@ -65,13 +71,16 @@ module _ (before after : Seen) (old new : Traced) (event : Event) (note : Note) 
             (subst (λ (moments : List HappenedAt). RunTells (old.machine.event + 1) moments after.history) (sym moments_now)
             (subst (RunTells (old.machine.event + 1) (moments_of notes items ++ event_moments (old.machine.event + 1) note more)) (sym one.history)
             (TellsMore old.machine (moments_of notes items) (event_moments (old.machine.event + 1) note more) before.history one.happened was.tells told.tells)));
+        down =
+            let by : Followed old.setting old.machine event note more [] new.machine = follow_happens old.setting old.machine event note more [] new.machine one.follows in
+            down_kept old.setting old.machine more [] by.kind new.machine by.happens was.down;
       }
 
-reached_come : (document : Document) (events : List Event) (notes : List Note) (items : List Served) (seen : Seen) (t : Traced) → Reached document events notes items seen t → HasCome notes items seen t.machine
-reached_come document _ _ _ _ _ (Begins seen start history coupled) = record { count = refl; before = refl; tells = subst (RunTells 0 []) (sym history) NothingYet }
+pub reached_come : (document : Document) (events : List Event) (notes : List Note) (items : List Served) (seen : Seen) (t : Traced) → Reached document events notes items seen t → HasCome notes items seen t.machine
+reached_come document _ _ _ _ _ (Begins seen start history coupled) = record { count = refl; before = refl; tells = subst (RunTells 0 []) (sym history) NothingYet; down = refl }
 reached_come document _ _ _ _ _ (GoesOn events notes items more before after old new event note reached one) = come_on before after old new event note notes items more one (reached_come document events notes items before old reached)
 
-finishing_come : (document : Document) (place : Place) (notes : List Note) (items : List Served) (seen : Seen) (t : Traced) → IsFinishing document place notes items seen t → HasCome notes items seen t.machine
+pub finishing_come : (document : Document) (place : Place) (notes : List Note) (items : List Served) (seen : Seen) (t : Traced) → IsFinishing document place notes items seen t → HasCome notes items seen t.machine
 finishing_come document _ _ _ _ _ (Scheduled notes items seen t reached) = reached_come document document.schedule notes items seen t reached
 finishing_come document _ _ _ _ _ (Finishes place later notes items more before after old new event note finishing next one) =
     come_on before after old new event note notes items more one (finishing_come document place notes items before old finishing)
