@@ -40,8 +40,8 @@ one_longer : (events : List Event) (event : Event) → length (events ++ event �
 one_longer events event = length-append events (event ∷ [])
 
 reached_small : (document : Document) (events : List Event) (notes : List Note) (items : List Served) (seen : Seen) (t : Traced) → Reached document events notes items seen t → length events ≤ 100000 → IsSmall document (length events) t.machine
-reached_small document _ _ _ _ _ (Begins seen start history coupled) few = record { clients = length-map document.clients _; idle = omega arith; work = omega arith }
-reached_small document _ _ _ _ _ (GoesOn events notes items more before after old new event note reached one) few =
+reached_small document _ _ _ _ _ (Begins seen start history horizon coupled) few = record { clients = length-map document.clients _; idle = omega arith; work = omega arith }
+reached_small document _ _ _ _ _ (GoesOn events notes items more before after old new event note reached one forgets) few =
     let long : length (events ++ event ∷ []) ≡ length events + 1 = one_longer events event in
     let earlier : IsSmall document (length events) old.machine = reached_small document events notes items before old reached (omega (arith, few, long)) in
     let followed : Followed old.setting old.machine event note more [] new.machine = follow_happens old.setting old.machine event note more [] new.machine one.follows in

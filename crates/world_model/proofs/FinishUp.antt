@@ -66,10 +66,10 @@ quiet_kind one noted quiet = refl
 
 -- THE SERVER --------------------------------------------------------------------------------------
 
-abbrev up_of : Server → Bool
+abbrev pub up_of : Server → Bool
 up_of server = server.is_up
 
-served_up : (server : Server) (one : Item) → up_of (server_after server one) ≡ server.is_up
+pub served_up : (server : Server) (one : Item) → up_of (server_after server one) ≡ server.is_up
 served_up server (item.Outcome asked result) = by (is_uncommitted result)
   where
     by : (test : Bool) → up_of (if test then record server { blocked = asked ∷ server.blocked } else server) ≡ server.is_up
@@ -77,7 +77,7 @@ served_up server (item.Outcome asked result) = by (is_uncommitted result)
     by false = refl
 served_up server one = refl
 
-asked_up : (server : Server) (ltxid : Ltxid) (result : AskResult) → up_of (after_asked server ltxid result) ≡ server.is_up
+pub asked_up : (server : Server) (ltxid : Ltxid) (result : AskResult) → up_of (after_asked server ltxid result) ≡ server.is_up
 asked_up server ltxid result = by (is_uncommitted result)
   where
     by : (test : Bool) → up_of (if test then record server { blocked = ltxid ∷ server.blocked } else server) ≡ server.is_up
@@ -158,22 +158,36 @@ opened_up setting m n items left one noted next down is e =
     let opens = up_is setting m items left n noted down (subst (λ (kind : Event). follow setting m kind noted items ≡ Some (n, left)) (sym same) e) in
     ap (λ (a : Machine). a.server.is_up) (sym opens.1)
 
+-- the server is up behind the next event of the finish, if it was up from the first one on
+pub finish_up : (setting : Setting) (m n : Machine) (items left : List Served) (one : Event) (noted : Note) (place next : Place) → (is_at_server place ≡ false → m.server.is_up ≡ true) → next_finish m place ≡ Some (one, next)
+    → follow setting m one noted items ≡ Some (n, left) → n.server.is_up ≡ true
+finish_up setting m n items left one noted place next up is e = by place up is
+  where
+    quiet : (at : Place) → next_finish m at ≡ Some (one, next) → is_crash one ≡ false
+    quiet at is = sym (ap makes_crash is) ∙ finish_quiet m at
+
+    server : (up : Bool) → m.server.is_up ≡ up → next_finish m AtServer ≡ Some (one, next) → n.server.is_up ≡ true
+    server true up is = follows_up setting m one noted items left n e (quiet AtServer is) up
+    server false up is = opened_up setting m n items left one noted next up is e
+
+    by : (at : Place) → (is_at_server at ≡ false → m.server.is_up ≡ true) → next_finish m at ≡ Some (one, next) → n.server.is_up ≡ true
+    by AtServer up is = server m.server.is_up refl is
+    by at up is = follows_up setting m one noted items left n e (quiet at is) (up refl)
+
+-- where no further event is made, it is up
+pub over_up : (m : Machine) (place : Place) → (is_at_server place ≡ false → m.server.is_up ≡ true) → next_finish m place ≡ None → m.server.is_up ≡ true
+over_up m AtServer up over = by m.server.is_up over
+  where
+    by : (is : Bool) → (if is then reaps_or_goes m else Some (event.Up, AtOrphans)) ≡ None → is ≡ true
+    by true over = refl
+    by false over = absurd (let none : ⊥ = cc in none)
+over_up m place up over = up refl
+
 pub finish_goes_on : EachKeeps → EntryNumbers → FinishGoesOn
 finish_goes_on keeps numbers before after old new one note items left place next event can is = record {
   orderly = (orderly_is_kept keeps numbers).at_event before after old new one note items left event can.orderly;
-  up = λ behind. by place can.up is;
+  up = λ behind. finish_up old.setting old.machine new.machine items left one note place next can.up is event.follows;
 }
-  where
-    quiet : (at : Place) → next_finish old.machine at ≡ Some (one, next) → is_crash one ≡ false
-    quiet at is = sym (ap makes_crash is) ∙ finish_quiet old.machine at
-
-    server : (up : Bool) → old.machine.server.is_up ≡ up → next_finish old.machine AtServer ≡ Some (one, next) → new.machine.server.is_up ≡ true
-    server true up is = follows_up old.setting old.machine one note items left new.machine event.follows (quiet AtServer is) up
-    server false up is = opened_up old.setting old.machine new.machine items left one note next up is event.follows
-
-    by : (at : Place) → (is_at_server at ≡ false → old.machine.server.is_up ≡ true) → next_finish old.machine at ≡ Some (one, next) → new.machine.server.is_up ≡ true
-    by AtServer up is = server old.machine.server.is_up refl is
-    by at up is = follows_up old.setting old.machine one note items left new.machine event.follows (quiet at is) (up refl)
 
 pub finish_begins : FinishBegins
 finish_begins t inv = record { orderly = inv; up = λ never. absurd (let none : ⊥ = cc in none) }

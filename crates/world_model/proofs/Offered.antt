@@ -20,3 +20,5 @@ pub use Rattle.world_model.proofs.Awaiting.{AreOpenOnce, idle_open_once}
 pub use Rattle.world_model.proofs.FirstBehind.{IsFirst, NoneBehind, counted, position_cons, first_there, none_there}
 -- where a run began
 pub use Rattle.world_model.proofs.RunStarts.{finishing_start}
+-- the horizon that incarnations that ended ask for, and the openings behind one note more
+pub use Rattle.world_model.proofs.WantedHorizons.{horizon_of, share, horizon_more, horizon_both, openings_more}

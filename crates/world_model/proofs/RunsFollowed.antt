@@ -29,13 +29,13 @@ use Rattle.world_model.proofs.Tests.{session_self}
 
 -- its setting is that of the document
 pub reached_setting : (document : Document) (events : List Event) (notes : List Note) (items : List Served) (seen : Seen) (t : Traced) → Reached document events notes items seen t → t.setting ≡ setting_of document
-reached_setting document _ _ _ _ _ (Begins seen start history coupled) = refl
-reached_setting document _ _ _ _ _ (GoesOn events notes items more before after old new event note reached one) = one.setting ∙ reached_setting document events notes items before old reached
+reached_setting document _ _ _ _ _ (Begins seen start history horizon coupled) = refl
+reached_setting document _ _ _ _ _ (GoesOn events notes items more before after old new event note reached one forgets) = one.setting ∙ reached_setting document events notes items before old reached
 
 pub reached_walk : (document : Document) (events : List Event) (notes : List Note) (items : List Served) (seen : Seen) (t : Traced) → Reached document events notes items seen t
     → walk (setting_of document) (start_of document) events notes items ≡ Some (record { machine = t.machine; notes = []; items = [] })
-reached_walk document _ _ _ _ _ (Begins seen start history coupled) = refl
-reached_walk document _ _ _ _ _ (GoesOn events notes items more before after old new event note reached one) =
+reached_walk document _ _ _ _ _ (Begins seen start history horizon coupled) = refl
+reached_walk document _ _ _ _ _ (GoesOn events notes items more before after old new event note reached one forgets) =
     walk_more (setting_of document) (start_of document) old.machine events (event ∷ []) notes (note ∷ []) items more (reached_walk document events notes items before old reached)
     ∙ ap (option_and_then (λ next. walk (setting_of document) next.0 [] [] next.1)) (subst (λ (setting : Setting). follow setting old.machine event note more ≡ Some (new.machine, [])) (reached_setting document events notes items before old reached) one.follows)
 
@@ -47,7 +47,7 @@ run_with document notes items =
 
 pub finishing_setting : (document : Document) (place : Place) (notes : List Note) (items : List Served) (seen : Seen) (t : Traced) → IsFinishing document place notes items seen t → t.setting ≡ setting_of document
 finishing_setting document _ _ _ _ _ (Scheduled notes items seen t reached) = reached_setting document document.schedule notes items seen t reached
-finishing_setting document _ _ _ _ _ (Finishes place later notes items more before after old new event note finishing next one) = one.setting ∙ finishing_setting document place notes items before old finishing
+finishing_setting document _ _ _ _ _ (Finishes place later notes items more before after old new event note finishing next one forgets) = one.setting ∙ finishing_setting document place notes items before old finishing
 
 finishing_walk : (document : Document) (place : Place) (notes : List Note) (items : List Served) (seen : Seen) (t : Traced) → IsFinishing document place notes items seen t
     → (others : List Note) (left : List Served) → run_with document (notes ++ others) (items ++ left) ≡ walk_finish (setting_of document) t.machine place others left
@@ -55,7 +55,7 @@ finishing_walk document _ _ _ _ _ (Scheduled notes items seen t reached) others 
     ap (option_and_then (λ (walked : Walked). walk_finish (setting_of document) walked.machine AtServer walked.notes walked.items))
     (ap (λ events. walk (setting_of document) (start_of document) events (notes ++ others) (items ++ left)) (sym (append-nil document.schedule))
     ∙ walk_more (setting_of document) (start_of document) t.machine document.schedule [] notes others items left (reached_walk document document.schedule notes items seen t reached))
-finishing_walk document _ _ _ _ _ (Finishes place later notes items more before after old new event note finishing next one) others left =
+finishing_walk document _ _ _ _ _ (Finishes place later notes items more before after old new event note finishing next one forgets) others left =
     ap (λ all. run_with document all ((items ++ more) ++ left)) (append_assoc notes (note ∷ []) others)
     ∙ ap (run_with document (notes ++ note ∷ others)) (append_assoc items more left)
     ∙ finishing_walk document place notes items before old finishing (note ∷ others) (more ++ left)
@@ -85,6 +85,6 @@ runs_followed document report seen t run shown =
         ∙ ap (λ (next : Option (Event × Place)). if is_none next then Some (t.machine, []) else None) run.over
 
 pub runs_orderly : OrderlyIsKept → RunsAreOrderly
-runs_orderly kept document _ _ _ _ _ calls (Begins seen start history coupled) = kept.at_start document calls
-runs_orderly kept document _ _ _ _ _ calls (GoesOn events notes items more before after old new event note reached one) =
+runs_orderly kept document _ _ _ _ _ calls (Begins seen start history horizon coupled) = kept.at_start document calls
+runs_orderly kept document _ _ _ _ _ calls (GoesOn events notes items more before after old new event note reached one forgets) =
     kept.at_event before after old new event note more [] one (runs_orderly kept document events notes items before old calls reached)

@@ -3,10 +3,12 @@ pub mod Basic
 pub mod Clients
 pub mod Conversing
 pub mod Coupled
+pub mod CrashCount
 pub mod Crashing
 pub mod Cutting
 pub mod Finishing
 pub mod Followed
+pub mod Forgets
 pub mod Frames
 pub mod Going
 pub mod Hold

@@ -16,6 +16,7 @@ use Rattle.world_model.specs.Traced.{Traced}
 use Rattle.world_model.specs.Walking.{follow}
 use Rattle.world_model.specs.ServiceDid.{ServiceDid}
 use Rattle.world_model.specs.Coupled.{Coupled}
+use Rattle.world_model.specs.CrashCount.{CountsCrash}
 
 -- the session of a run outside, if one was made
 abbrev pub session_outside : Traced → Note → List SessionId
@@ -28,6 +29,7 @@ drawn_outside (note.Outside (Some ran)) = flat_map (λ run. run.draws) ran.runs
 drawn_outside _ = []
 
 -- The incarnation of the store never falls. What the journal gained in the event stands behind what it held: entries come from what happened, and blocks were asked for in it.
+-- The crashes that the service counts are those of the events, each with its pick and its stop.
 pub record OneEvent (before : Seen) (old : Traced) (event : Event) (note : Note) (items left : List Served) (after : Seen) (new : Traced) : Type 0 where
   pub follows : follow old.setting old.machine event note items ≡ Some (new.machine, left)
   pub happened : List Happened
@@ -35,6 +37,7 @@ pub record OneEvent (before : Seen) (old : Traced) (event : Event) (note : Note)
   pub history : after.history ≡ before.history ++ happened
   pub start : after.start ≡ before.start
   pub rises : before.state.store.incarnation ≤ after.state.store.incarnation
+  pub crashes : CountsCrash event note items before.state after.state
   pub coupled_before : Coupled before old
   pub coupled_after : Coupled after new
   pub more_entries : List Entry

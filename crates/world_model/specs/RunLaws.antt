@@ -5,6 +5,7 @@ use Rattle.outage_schedule.specs.declared.event.Event.{Event}
 use Rattle.outage_schedule.specs.declared.item.Served.{Served}
 use Rattle.outage_schedule.specs.declared.note.Note.{Note}
 use Rattle.outage_schedule.specs.declared.report.Report.{Report}
+use Rattle.run_clauses.specs.Horizons.{last_horizon}
 use Rattle.server_model.specs.Seen.{Seen}
 use Rattle.world_model.specs.Followed.{transcripts_of, followed}
 use Rattle.world_model.specs.Invariant.{Orderly}
@@ -22,3 +23,7 @@ abbrev pub RunsAreOrderly : Type 0
 RunsAreOrderly =
     (document : Document) (events : List Event) (notes : List Note) (items : List Served) (seen : Seen) (t : Traced)
     → IsTrue (all_have_calls document) → Reached document events notes items seen t → Orderly t
+
+-- At the end of a run the store has the horizon that the openings of its report ask for.
+abbrev pub HorizonsAreStored : Type 0
+HorizonsAreStored = (document : Document) (report : Report) (seen : Seen) (t : Traced) → IsRun document report.notes report.served seen t → seen.state.store.horizon ≡ last_horizon document report

@@ -1,0 +1,100 @@
+-- The horizon that a store holds in a run: what the openings so far raised it to, or more by one that was stopped and asked for no more
+-- than the next one will.
+use Rattle.std.proofs.Common.{◌≡◌, refl, sym, ap, subst, ◌∙◌, arith, inl, inr, ℕ, ◌≤◌, Bool, true, false, List, [], ◌∷◌, ◌++◌, Some, None}
+use Rattle.std.specs.Prelude.{◌⊎◌, max}
+use Rattle.outage_schedule.specs.declared.document.Document.{Document}
+use Rattle.outage_schedule.specs.declared.event.Event.{Event}
+use Rattle.outage_schedule.specs.declared.item.Served.{Served}
+use Rattle.outage_schedule.specs.declared.note.Note.{Note}
+use Rattle.outage_schedule.specs.declared.note.Note.TheVariants as notes
+use Rattle.run_clauses.specs.Horizons.{after_note, wanted_horizon}
+use Rattle.server_model.specs.Seen.{Store, Seen}
+use Rattle.world_model.specs.FinishEnds.{is_at_server}
+use Rattle.world_model.specs.Finishing.{Place}
+use Rattle.world_model.specs.Forgets.{Forgets, openings_of, first_of, wanted_behind}
+use Rattle.world_model.specs.Machines.{Machine}
+use Rattle.world_model.specs.OneEvent.{OneEvent}
+use Rattle.world_model.specs.Reached.{Reached, Begins, GoesOn, IsFinishing, Scheduled, Finishes}
+use Rattle.world_model.specs.RunLaws.{HorizonsAreStored}
+use Rattle.world_model.specs.Settings.{Setting}
+use Rattle.world_model.specs.Traced.{Traced}
+use Rattle.world_model.specs.Walking.{follow}
+use Rattle.world_model.proofs.FinishUp.{finish_up, over_up}
+use Rattle.world_model.proofs.RaisedHorizons.{raised_by, raised_at, raised_more, last_raised}
+use Rattle.world_model.proofs.WantedHorizons.{openings_more, wanted_rises}
+use Rattle.world_model.proofs.WasUp.{was_up, stopped_down}
+
+-- between what was raised and what is wanted, and what was raised while the server is up
+record Holds (up : Bool) (raised wanted horizon : ℕ) : Type 0 where
+  low : raised ≤ horizon
+  high : horizon ≤ max raised wanted
+  exact : up ≡ true → horizon ≡ raised
+
+holds_first : (up : Bool) (raised wanted horizon : ℕ) → horizon ≡ raised → Holds up raised wanted horizon
+holds_first up raised wanted horizon is = record { low = omega (arith, is); high = omega (arith, is); exact = λ same. is }
+
+-- by an opening
+holds_opened : (up later : Bool) (raised wanted next horizon stored : ℕ) → Holds up raised wanted horizon → stored ≡ max horizon wanted → Holds later (max raised wanted) next stored
+holds_opened up later raised wanted next horizon stored holds is =
+    let low = holds.low in
+    let high = holds.high in
+    let same : stored ≡ max raised wanted = omega (arith, low, high, is) in
+    holds_first later (max raised wanted) next stored same
+
+-- by one that was stopped
+holds_stopped : (up later : Bool) (raised wanted next horizon stored : ℕ) → Holds up raised wanted horizon → (stored ≡ horizon) ⊎ (stored ≡ max horizon wanted) → wanted ≤ next → later ≡ false → Holds later raised next stored
+holds_stopped up later raised wanted next horizon stored holds is rises down = record { low = (both is).0; high = (both is).1; exact = λ never. absurd (let clash : true ≡ false = sym never ∙ down in let none : ⊥ = cc in none) }
+  where
+    both : (stored ≡ horizon) ⊎ (stored ≡ max horizon wanted) → (raised ≤ stored) × (stored ≤ max raised next)
+    both (inl same) = let low = holds.low in let high = holds.high in (omega (arith, low, same), omega (arith, high, same, rises))
+    both (inr raises) = let low = holds.low in let high = holds.high in (omega (arith, low, raises), omega (arith, high, raises, rises))
+
+-- by any other event
+holds_still : (up later : Bool) (raised wanted next horizon stored : ℕ) → Holds up raised wanted horizon → stored ≡ horizon → wanted ≤ next → (later ≡ true → up ≡ true) → Holds later raised next stored
+holds_still up later raised wanted next horizon stored holds same rises was = record {
+  low = let low = holds.low in omega (arith, low, same);
+  high = let high = holds.high in omega (arith, high, same, rises);
+  exact = λ is. same ∙ holds.exact (was is);
+}
+
+-- NOTE BY NOTE ------------------------------------------------------------------------------------
+
+holds_noted : (raised wanted next : ℕ) (setting : Setting) (m n : Machine) (event : Event) (note : Note) (items left : List Served) (old new : Store) → follow setting m event note items ≡ Some (n, left) → wanted ≤ next → Forgets wanted note old new
+    → Holds m.server.is_up raised wanted old.horizon → Holds n.server.is_up (raised_at raised wanted note) next new.horizon
+holds_noted raised wanted next setting m n event (notes.Up (Some incarnation)) items left old new follows rises forgets holds = holds_opened m.server.is_up n.server.is_up raised wanted next old.horizon new.horizon holds forgets
+holds_noted raised wanted next setting m n event (notes.UpCrash true) items left old new follows rises forgets holds =
+    holds_stopped m.server.is_up n.server.is_up raised wanted next old.horizon new.horizon holds forgets rises (stopped_down setting m n event items left follows)
+holds_noted raised wanted next setting m n event (notes.Up None) items left old new follows rises forgets holds = holds_still m.server.is_up n.server.is_up raised wanted next old.horizon new.horizon holds forgets rises (was_up setting m n event (notes.Up None) items left follows refl)
+holds_noted raised wanted next setting m n event (notes.UpCrash false) items left old new follows rises forgets holds =
+    holds_still m.server.is_up n.server.is_up raised wanted next old.horizon new.horizon holds forgets rises (was_up setting m n event (notes.UpCrash false) items left follows refl)
+holds_noted raised wanted next setting m n event note items left old new follows rises forgets holds = holds_still m.server.is_up n.server.is_up raised wanted next old.horizon new.horizon holds forgets rises (was_up setting m n event note items left follows refl)
+
+module _ (document : Document) where
+  abbrev HoldsAt : List Note → Seen → Traced → Type 0
+  HoldsAt before seen t = Holds t.machine.server.is_up (raised_by document before) (wanted_behind document before) seen.state.store.horizon
+
+  holds_next : (before : List Note) (seen later : Seen) (old new : Traced) (event : Event) (note : Note) (items left : List Served) → OneEvent seen old event note items left later new → Forgets (wanted_behind document before) note seen.state.store later.state.store
+      → HoldsAt before seen old → HoldsAt (before ++ note ∷ []) later new
+  holds_next before seen later old new event note items left one forgets holds =
+      let wants : wanted_behind document (before ++ note ∷ []) ≡ wanted_horizon document.service.retention (after_note (openings_of (first_of document) before) note) = ap (wanted_horizon document.service.retention) (openings_more (first_of document) before note) in
+      let more = wanted_rises document.service.retention (openings_of (first_of document) before) note in
+      let rises : wanted_behind document before ≤ wanted_behind document (before ++ note ∷ []) = omega (arith, wants, more) in
+      subst (λ (raised : ℕ). Holds new.machine.server.is_up raised (wanted_behind document (before ++ note ∷ [])) later.state.store.horizon) (sym (raised_more document before note))
+      (holds_noted (raised_by document before) (wanted_behind document before) (wanted_behind document (before ++ note ∷ [])) old.setting old.machine new.machine event note items left seen.state.store later.state.store one.follows rises forgets holds)
+
+  reached_holds : (events : List Event) (all : List Note) (items : List Served) (seen : Seen) (t : Traced) → Reached document events all items seen t → HoldsAt all seen t
+  reached_holds _ _ _ _ _ (Begins seen start history horizon coupled) = holds_first true (raised_by document []) (wanted_behind document []) seen.state.store.horizon horizon
+  reached_holds _ _ _ _ _ (GoesOn events all items more before after old new event note reached one forgets) = holds_next all before after old new event note more [] one forgets (reached_holds events all items before old reached)
+
+  finishing_holds : (place : Place) (all : List Note) (items : List Served) (seen : Seen) (t : Traced) → IsFinishing document place all items seen t → HoldsAt all seen t × (is_at_server place ≡ false → t.machine.server.is_up ≡ true)
+  finishing_holds _ _ _ _ _ (Scheduled all items seen t reached) = (reached_holds document.schedule all items seen t reached, λ never. absurd (let none : ⊥ = cc in none))
+  finishing_holds _ _ _ _ _ (Finishes place later all items more before after old new event note finishing next one forgets) =
+      let earlier = finishing_holds place all items before old finishing in (
+        holds_next all before after old new event note more [] one forgets earlier.0,
+        λ behind. finish_up old.setting old.machine new.machine more [] event note place later earlier.1 next one.follows,
+      )
+
+pub horizons_stored : HorizonsAreStored
+horizons_stored document report seen t run =
+    let end = finishing_holds document run.place report.notes report.served seen t run.finishing in
+    end.0.exact (over_up t.machine run.place end.1 run.over) ∙ sym (last_raised document report)
