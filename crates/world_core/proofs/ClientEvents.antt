@@ -125,12 +125,13 @@ module _ (R : Type 0) (rules : R → Rules) (sees : Seen → Type 0) (script : L
       }
 
       step_made : OrderlyIsKept → (sees_later : Seen → Type 0) (later : Seen) → sees_later later → IsReady later.state → later.state.calls ≤ seen.state.calls + 4 → OneEvent seen t (event.Go number) (note.Go number did) [] [] later (moved t went.after)
-          → StepMade R rules sees_later script number after new seen t (note.Go number did)
-      step_made kept sees_later later seen_so ready few one = record {
+          → later.state.store.horizon ≡ seen.state.store.horizon → StepMade R rules sees_later script number after new seen t (note.Go number did)
+      step_made kept sees_later later seen_so ready few one horizon = record {
         seen_later = later;
         later = moved t went.after;
         client = went.client;
         made = one;
+        forgets = λ below. horizon;
         place = record {
           seen_so = seen_so;
           ready = ready;
@@ -148,7 +149,7 @@ module _ (R : Type 0) (rules : R → Rules) (sees : Seen → Type 0) (script : L
       -- no connection was opened
       alone : opened_in did ≡ None → OneEvent seen t (event.Go number) (note.Go number did) [] [] seen (moved t went.after)
       alone none =
-          one_alone seen t (event.Go number) (note.Go number did) went.after is.coupled follows refl refl refl went.same.2
+          one_alone seen t (event.Go number) (note.Go number did) went.after is.coupled follows refl refl refl refl went.same.2
           (subst (λ (opened : Option ℕ). Leaves t.machine.links t.machine.server.is_up opened went.after.links) none leaves)
 
       -- one was
@@ -170,6 +171,7 @@ module _ (R : Type 0) (rules : R → Rules) (sees : Seen → Type 0) (script : L
           history = connected.keeps_store.history ∙ sym (append-nil seen.history);
           start = connected.keeps.start;
           rises = let same = ap (λ (store : Store). store.incarnation) connected.keeps_store.store in omega (arith, same);
+          crashes = connected.keeps.crashes.0;
           coupled_before = is.coupled;
           coupled_after = kept_coupled seen later t went.after is.coupled history connected.keeps connected.keeps_store went.same.2
               (opened_living seen t is.coupled went.after.links leaves_new.2 later connection answer connected (connected.answered ∙ sym is.coupled.server.is_up ∙ leaves_new.1) leaves_new.0)
@@ -188,7 +190,7 @@ module _ (R : Type 0) (rules : R → Rules) (sees : Seen → Type 0) (script : L
         }
 
     pub makes_alone : OrderlyIsKept → opened_in did ≡ None → MakesStep R rules sees before sees after script number old new (note.Go number did)
-    makes_alone kept none seen t client is stands = step_made seen t client is stands kept sees seen is.seen_so is.ready (same_calls seen.state.calls) (alone seen t client is stands none)
+    makes_alone kept none seen t client is stands = step_made seen t client is stands kept sees seen is.seen_so is.ready (same_calls seen.state.calls) (alone seen t client is stands none) refl
 
     pub may_connect : (connection : ℕ) → opened_in did ≡ Some connection → SomeBeside R rules sees script number before old → (seen : Seen) × (sees seen × (seen.state.living connection ≡ None))
     may_connect connection opens some = (some.seen, (some.place.seen_so, none_there some.seen some.traced some.client some.place some.stands connection opens))
@@ -198,4 +200,4 @@ module _ (R : Type 0) (rules : R → Rules) (sees : Seen → Type 0) (script : L
     makes_opening kept sees_later connection answer opens honest connects seen t client is stands =
         let gone = connects seen is.seen_so in
         step_made seen t client is stands kept sees_later gone.0 gone.1.0 (store_ready seen gone.0 gone.1.1.keeps gone.1.1.keeps_store is.ready) (one_call seen.state.calls gone.0.state.calls gone.1.1.keeps.calls)
-        (opening seen t client is stands connection opens gone.0 answer (honest gone.0 gone.1.0) gone.1.1)
+        (opening seen t client is stands connection opens gone.0 answer (honest gone.0 gone.1.0) gone.1.1) (ap (λ (store : Store). store.horizon) gone.1.1.keeps_store.store)

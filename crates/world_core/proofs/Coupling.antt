@@ -15,6 +15,8 @@ use Rattle.server_model.specs.Runs.{Happened}
 use Rattle.server_model.specs.Seen.{Seen}
 use Rattle.server_model.specs.Sessions.{Life}
 use Rattle.server_model.specs.ServiceCalls.{CameFrom, WasAsked}
+use Rattle.world_model.specs.CrashCount.{CountsCrash}
+use Rattle.world_model.specs.Forgets.{Forgets}
 use Rattle.world_model.specs.Links.{Link, link_at, with_link}
 use Rattle.world_model.specs.Machines.{Machine}
 use Rattle.world_model.specs.Traced.{Traced}
@@ -124,15 +126,16 @@ none_came happened = All-nil (CameFrom happened)
 pub none_asked : (happened : List Happened) → All (WasAsked happened) []
 none_asked happened = All-nil (WasAsked happened)
 
-pub one_alone : (seen : Seen) (t : Traced) (event : Event) (note : Note) (m : Machine) → Coupled seen t → follow t.setting t.machine event note [] ≡ Some (m, []) → ServiceDid t.machine event note [] [] → session_outside t note ≡ [] → drawn_outside note ≡ []
+pub one_alone : (seen : Seen) (t : Traced) (event : Event) (note : Note) (m : Machine) → Coupled seen t → follow t.setting t.machine event note [] ≡ Some (m, []) → ServiceDid t.machine event note [] [] → CountsCrash event note [] seen.state seen.state → session_outside t note ≡ [] → drawn_outside note ≡ []
     → m.server ≡ t.machine.server → views m.links ≡ views t.machine.links → OneEvent seen t event note [] [] seen (moved t m)
-one_alone seen t event note m coupled follows did none_outside none_drawn server same = record {
+one_alone seen t event note m coupled follows did counts none_outside none_drawn server same = record {
   follows = follows;
   happened = [];
   did = did;
   history = sym (append-nil seen.history);
   start = refl;
   rises = omega arith;
+  crashes = counts;
   coupled_before = coupled;
   coupled_after = stays_coupled seen t m coupled server same;
   more_entries = [];
@@ -164,40 +167,39 @@ pub one_call : (old new : ℕ) → new ≡ old + 1 → new ≤ old + 4
 one_call old new is = omega (arith, is)
 
 -- the event was made, and what was orderly still is
-pub made : OrderlyIsKept → (sees sees_later : Seen → Type 0) (before after : Traffic) (event : Event) (note : Note) (items : List Served) (seen new : Seen) (t later : Traced) → IsAt sees before seen t
-    → OneEvent seen t event note items [] new later → sees_later new → IsReady new.state → new.state.calls ≤ seen.state.calls + 4 → IsUnderway after later.machine → Made seen t sees_later after event note items
-made kept sees sees_later before after event note items seen new t later is one seen_so ready few underway =
+pub made : OrderlyIsKept → (sees sees_later : Seen → Type 0) (before after : Traffic) (below : ℕ) (event : Event) (note : Note) (items : List Served) (seen new : Seen) (t later : Traced) → IsAt sees before seen t
+    → OneEvent seen t event note items [] new later → Forgets below note seen.state.store new.state.store → sees_later new → IsReady new.state → new.state.calls ≤ seen.state.calls + 4 → IsUnderway after later.machine
+    → Made below seen t sees_later after event note items
+made kept sees sees_later before after below event note items seen new t later is one forgets seen_so ready few underway =
     let next = (opens_once t.setting t.machine later.machine event note items [] one.follows).0 in
-    let clock = ticks_once t.setting t.machine later.machine event note items [] one.follows in (
-      new,
-      (
-        later,
-        (
-          one,
-          record {
-            seen_so = seen_so;
-            ready = ready;
-            coupled = one.coupled_after;
-            underway = underway;
-            orderly = kept.at_event seen new t later event note items [] one is.orderly;
-            calls = most_calls seen.state.calls new.state.calls t.machine.event later.machine.event is.calls few next;
-            ticks = most_ticks t.machine.tick later.machine.tick t.machine.event later.machine.event is.ticks clock next;
-          },
-        ),
-      ),
-    )
+    let clock = ticks_once t.setting t.machine later.machine event note items [] one.follows in
+    record {
+      seen_later = new;
+      later = later;
+      made = one;
+      forgets = forgets;
+      place = record {
+        seen_so = seen_so;
+        ready = ready;
+        coupled = one.coupled_after;
+        underway = underway;
+        orderly = kept.at_event seen new t later event note items [] one is.orderly;
+        calls = most_calls seen.state.calls new.state.calls t.machine.event later.machine.event is.calls few next;
+        ticks = most_ticks t.machine.tick later.machine.tick t.machine.event later.machine.event is.ticks clock next;
+      };
+    }
 
 -- the same, where the service had no part in it
-pub made_alone : OrderlyIsKept → (sees : Seen → Type 0) (before after : Traffic) (event : Event) (note : Note) (seen : Seen) (t : Traced) (m : Machine) → IsAt sees before seen t
-    → OneEvent seen t event note [] [] seen (moved t m) → IsUnderway after m → Made seen t sees after event note []
-made_alone kept sees before after event note seen t m is one underway = made kept sees sees before after event note [] seen seen t (moved t m) is one is.seen_so is.ready (same_calls seen.state.calls) underway
+pub made_alone : OrderlyIsKept → (sees : Seen → Type 0) (before after : Traffic) (below : ℕ) (event : Event) (note : Note) (seen : Seen) (t : Traced) (m : Machine) → IsAt sees before seen t
+    → OneEvent seen t event note [] [] seen (moved t m) → Forgets below note seen.state.store seen.state.store → IsUnderway after m → Made below seen t sees after event note []
+made_alone kept sees before after below event note seen t m is one forgets underway = made kept sees sees before after below event note [] seen seen t (moved t m) is one forgets is.seen_so is.ready (same_calls seen.state.calls) underway
 
 -- TICKS -------------------------------------------------------------------------------------------
 
 pub ticks : OrderlyIsKept → (sees : Seen → Type 0) (before after : Traffic) → ((m : Machine) → IsUnderway before m → IsUnderway after (ticked (begun m))) → Makes sees before sees after event.Tick note.Tick []
-ticks kept sees before after goes seen t is =
+ticks kept sees before after goes below seen t is =
     let m = ticked (begun t.machine) in
-    made_alone kept sees before after event.Tick note.Tick seen t m is (one_alone seen t event.Tick note.Tick m is.coupled refl refl refl refl refl refl) (goes t.machine is.underway)
+    made_alone kept sees before after below event.Tick note.Tick seen t m is (one_alone seen t event.Tick note.Tick m is.coupled refl refl refl refl refl refl refl) refl (goes t.machine is.underway)
 
 -- CUTS --------------------------------------------------------------------------------------------
 
@@ -245,8 +247,8 @@ cut_alike m after number up down (Some reached) (Some link) there e =
 
 pub cut_makes : OrderlyIsKept → (sees : Seen → Type 0) (before after : Traffic) (number up down : ℕ) (reached : Option Reached) → ((m : Machine) → IsUnderway before m → Leads (follow_cut (begun m) number up down reached) after)
     → Makes sees before sees after (event.Cut number up down) (note.Cut number reached) []
-cut_makes kept sees before after number up down reached goes seen t is =
+cut_makes kept sees before after number up down reached goes below seen t is =
     let led = goes t.machine is.underway in
     let alike = cut_alike (begun t.machine) led.0 number up down reached (open_at t.machine.links number) refl led.1.0 in
     let follows : follow t.setting t.machine (event.Cut number up down) (note.Cut number reached) [] ≡ Some (led.0, []) = rw (eq-eqb number number refl, led.1.0) refl in
-    made_alone kept sees before after (event.Cut number up down) (note.Cut number reached) seen t led.0 is (one_alone seen t (event.Cut number up down) (note.Cut number reached) led.0 is.coupled follows refl refl refl alike.0 alike.1) led.1.1
+    made_alone kept sees before after below (event.Cut number up down) (note.Cut number reached) seen t led.0 is (one_alone seen t (event.Cut number up down) (note.Cut number reached) led.0 is.coupled follows refl refl refl refl alike.0 alike.1) refl led.1.1

@@ -36,11 +36,11 @@ use Rattle.world_core.proofs.Readiness.{up_not_opened}
 -- the server is down
 pub crashes_none : OrderlyIsKept → (sees : Seen → Type 0) (before after : Traffic) (number calls pick : ℕ) → ((seen : Seen) → sees seen → seen.state.is_up ≡ false) → ((m : Machine) → IsUnderway before m → IsUnderway after (begun m))
     → Makes sees before sees after (event.Crash number calls pick) (note.Crash number true) []
-crashes_none kept sees before after number calls pick down goes seen t is =
+crashes_none kept sees before after number calls pick down goes below seen t is =
     let server_down : t.machine.server.is_up ≡ false = is.coupled.server.is_up ∙ down seen is.seen_so in
     let follows : follow t.setting t.machine (event.Crash number calls pick) (note.Crash number true) [] ≡ Some (begun t.machine, []) = rw (eq-eqb number number refl, server_down) refl in
-    made_alone kept sees before after (event.Crash number calls pick) (note.Crash number true) seen t (begun t.machine) is
-    (one_alone seen t (event.Crash number calls pick) (note.Crash number true) (begun t.machine) is.coupled follows (rw server_down refl) refl refl refl refl) (goes t.machine is.underway)
+    made_alone kept sees before after below (event.Crash number calls pick) (note.Crash number true) seen t (begun t.machine) is
+    (one_alone seen t (event.Crash number calls pick) (note.Crash number true) (begun t.machine) is.coupled follows (rw server_down refl) refl refl refl refl refl) refl (goes t.machine is.underway)
 
 -- NOTHING LIVES -----------------------------------------------------------------------------------
 
@@ -139,7 +139,8 @@ module _ (seen between new : Seen) (t : Traced) (number calls pick : ℕ) (items
     did = rw (coupled.server.is_up ∙ up) refl;
     history = crashed.history ∙ last.history;
     start = crashed.start ∙ last.start;
-    rises = let same = (last.left new.state.store remains (λ up. crashed.store (inl up))).incarnation in omega (arith, same);
+    rises = let same = gains.incarnation in omega (arith, same);
+    crashes = (record { crashes = crashed.crashes.0 ∙ ap (λ (n : ℕ). n + 1) last.crashes; pick_is = crashed.crashes.1 }, last.kept new.state crashed.crashes.2);
     coupled_before = coupled;
     coupled_after = crash_coupled;
     more_entries = gains.more_entries;
@@ -165,7 +166,7 @@ pub crashes_served : OrderlyIsKept → (sees sees_between sees_later : Seen → 
     → Goes sees_between sees_later (λ old new. Crashed old pick new)
     → ((m : Machine) → IsUnderway between m → IsUnderway after (record m { links = map (fallen_link m.event) m.links; pool = fold after_gone m.pool (open_from 1 m.links) }))
     → Makes sees before sees_later after (event.Crash number calls pick) (note.Crash number false) items
-crashes_served kept sees sees_between sees_later leaves before between after number calls pick items up honest remains leads falls_so goes seen t is =
+crashes_served kept sees sees_between sees_later leaves before between after number calls pick items up honest remains leads falls_so goes below seen t is =
     let led = leads seen t is in
     let m = led.1.0 in
     let last = led.1.1.1.0 in
@@ -173,8 +174,8 @@ crashes_served kept sees sees_between sees_later leaves before between after num
     let new = fell.0 in
     let crashed : Crashed led.0 pick new = fell.1.1 in
     let fallen = falls (is_failover pick) m in
-    made kept sees sees_later before after (event.Crash number calls pick) (note.Crash number false) items seen new t (traced_behind t fallen new) is
-    (crash_event seen led.0 new t number calls pick items leaves m is.coupled (up seen is.seen_so) (honest new fell.1.0) last crashed (remains new fell.1.0)) fell.1.0
+    made kept sees sees_later before after below (event.Crash number calls pick) (note.Crash number false) items seen new t (traced_behind t fallen new) is
+    (crash_event seen led.0 new t number calls pick items leaves m is.coupled (up seen is.seen_so) (honest new fell.1.0) last crashed (remains new fell.1.0)) (last.left new.state.store (remains new fell.1.0) (λ up. crashed.store (inl up))).horizon fell.1.0
     (record { live = crashed.is_spent; quiet = crashed.is_quiet ∙ last.ready.1 ∙ is.ready.quiet; unstopped = crashed.stop.0; opened = up_not_opened new.state crashed.down.0; settled = λ down. crashed.down.1 }) (more_calls seen.state.calls led.0.state.calls new.state.calls last.ready.3 crashed.calls)
     (any_server after (record m { links = map (fallen_link m.event) m.links; pool = fold after_gone m.pool (open_from 1 m.links) }) fallen.server (goes m led.1.1.1.1))
 

@@ -97,10 +97,10 @@ some_machine true a b e = let same : a ≡ b = cc in sym same
 some_machine false a b e = absurd (let nothing : ⊥ = cc in nothing)
 
 pub drains : OrderlyIsKept → (sees : Seen → Type 0) (before after : Traffic) (closed : ℕ) → ((m : Machine) → IsUnderway before m → Leads (follow_drain (begun m) closed) after) → Makes sees before sees after event.Drain (note.Drain closed) []
-drains kept sees before after closed goes seen t is =
+drains kept sees before after closed goes below seen t is =
     let led = goes t.machine is.underway in
     let same : led.0 ≡ drained (begun t.machine) = some_machine (closed == length t.machine.pool.idle) (drained (begun t.machine)) led.0 led.1.0 in
     let server : led.0.server ≡ t.machine.server = ap (λ m. m.server) same in
     let alike : views led.0.links ≡ views t.machine.links = ap (λ m. views m.links) same ∙ closed_alike (t.machine.event + 1) t.machine.links t.machine.pool.idle in
     let follows : follow t.setting t.machine event.Drain (note.Drain closed) [] ≡ Some (led.0, []) = rw led.1.0 refl in
-    made_alone kept sees before after event.Drain (note.Drain closed) seen t led.0 is (one_alone seen t event.Drain (note.Drain closed) led.0 is.coupled follows refl refl refl server alike) led.1.1
+    made_alone kept sees before after below event.Drain (note.Drain closed) seen t led.0 is (one_alone seen t event.Drain (note.Drain closed) led.0 is.coupled follows refl refl refl refl server alike) refl led.1.1

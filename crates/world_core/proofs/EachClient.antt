@@ -95,6 +95,7 @@ module _ (R : Type 0) (rules : R → Rules) where
       seen_later = step.seen_later;
       later = step.later;
       made = step.made;
+      forgets = step.forgets;
       place = step.place;
       stand = record {
         many = set_length held index new ∙ stand.many ∙ ap (λ (s : Setting). length s.scripts) (sym step.made.setting);

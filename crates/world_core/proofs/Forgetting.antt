@@ -1,40 +1,17 @@
 -- Which incarnations may be forgotten, tick by tick.
 use Rattle.std.proofs.Common.{◌≡◌, ◌≢◌, refl, sym, ap, subst, ◌∙◌, arith, ℕ, ◌==◌, append-nil, length-append, ◌+◌, ◌≤◌, ◌<◌, ◌^◌, Bool, true, false, fold, List, [], ◌∷◌, ◌++◌, map, drop, length, Option, Some, None, Result, Ok, Err, OnOk, if◌then◌else◌}
-use Rattle.std.specs.Prelude.{⊤, max, nat_lt, nat_le, filter, zero, suc}
+use Rattle.std.specs.Prelude.{⊤, max, nat_lt, nat_le, zero, suc}
 use Rattle.std.specs.Option.{option_map_or}
 use Rattle.std.proofs.lemmas.Bool.Decides.{nat_tests}
 use Rattle.std.proofs.lemmas.List.{map-append}
 use Rattle.outage_schedule.specs.declared.note.Note.{Note}
 use Rattle.outage_schedule.specs.declared.note.Note.TheVariants as notes
 use Rattle.run_clauses.specs.Horizons.{Ended, Openings, end_at, after_note, wanted_horizon}
+use Rattle.world_model.proofs.Offered.{horizon_of, share, horizon_more, horizon_both}
 use Rattle.world_core.specs.declared.openings.Ended.{Ended as EndedAt}
 use Rattle.world_core.specs.Forgetting.{Held, ended_at, ended_now, settled, passed_first, FirstFits, MayTick, ticked, ends, ends_unless, waiting, ended_of, horizon_by, Wait, Tracks}
 
--- THE HORIZON OF A LIST ---------------------------------------------------------------------------
-
-fold_from : (a : ℕ) (xs : List ℕ) → fold max a xs ≡ max a (fold max 0 xs)
-fold_from a [] = omega arith
-fold_from a (x ∷ xs) = fold_from (max a x) xs ∙ (let again : fold max (max 0 x) xs ≡ max (max 0 x) (fold max 0 xs) = fold_from (max 0 x) xs in omega (arith, again))
-
--- of incarnations that ended, the newest first or last
-abbrev pub horizon_of : ℕ → ℕ → List Ended → ℕ
-horizon_of retention tick ended = wanted_horizon retention (record { tick = tick; running = None; ended = ended })
-
-abbrev pub share : ℕ → ℕ → Ended → ℕ
-share retention tick one = if nat_lt (one.tick + retention) tick then one.incarnation + 1 else 0
-
-pub horizon_more : (retention tick : ℕ) (one : Ended) (ended : List Ended) → horizon_of retention tick (one ∷ ended) ≡ max (share retention tick one) (horizon_of retention tick ended)
-horizon_more retention tick one ended = by (nat_lt (one.tick + retention) tick)
-  where
-    by : (is : Bool) → fold max 0 (map (λ e. e.incarnation + 1) (if is then one ∷ filter (λ e. nat_lt (e.tick + retention) tick) ended else filter (λ e. nat_lt (e.tick + retention) tick) ended)) ≡ max (if is then one.incarnation + 1 else 0) (horizon_of retention tick ended)
-    by true = fold_from (max 0 (one.incarnation + 1)) (map (λ e. e.incarnation + 1) (filter (λ e. nat_lt (e.tick + retention) tick) ended)) ∙ (let zero_less : max 0 (one.incarnation + 1) ≡ one.incarnation + 1 = omega arith in ap (λ n. max n (horizon_of retention tick ended)) zero_less)
-    by false = omega arith
-
-pub horizon_both : (retention tick : ℕ) (first second : List Ended) → horizon_of retention tick (first ++ second) ≡ max (horizon_of retention tick first) (horizon_of retention tick second)
-horizon_both retention tick [] second = omega arith
-horizon_both retention tick (one ∷ first) second =
-    horizon_more retention tick one (first ++ second)
-    ∙ (let again = horizon_both retention tick first second in let more = horizon_more retention tick one first in omega (arith, again, more))
+-- WHAT ONE ASKS FOR -------------------------------------------------------------------------------
 
 -- in the tick in which it ended, and for as long as it is kept, one asks for nothing
 pub share_none : (retention tick : ℕ) (one : Ended) → tick ≤ one.tick + retention → share retention tick one ≡ 0

@@ -102,6 +102,8 @@ last_none seen t number after leaves coupled up live there = record {
   lasts = coupled.stops;
   later = λ session above. refl;
   per_record = refl;
+  crashes = refl;
+  kept = λ fallen is. tt;
   ready = (live, refl, refl, omega arith);
   left = λ store leaves_it same. subst (λ s. Gains (front_served t.machine.tick (front_at t.machine.links number) []) seen.state.store s) (sym (same up)) (gains_none (front_served t.machine.tick (front_at t.machine.links number) []) seen.state.store);
   blocks = λ store leaves_it same. subst (λ s. AreKnown t.machine.server s.blocked) (sym (same up)) (known_blocks seen t coupled);
@@ -208,6 +210,8 @@ module _ (seen new : Seen) (t : Traced) (number after : ℕ) (front : Front) (le
         lasts = lasts_with session (telling_of reply) did.history (answered_last session t.machine.tick frame reply) (session_from stopped_seen t number front session new.state.sessions coupled_stopped up ordered.now there did.of_connection);
         later = later_behind exact seen new t number front session (telling_of reply) new.state.sessions coupled up ordered.now there did.of_connection did.history;
         per_record = did.keeps.per_record;
+        crashes = did.keeps.crashes.0;
+        kept = λ fallen is. is ∙ did.kept;
         ready = (did.keeps.is_spent, did.keeps.is_quiet, did.keeps.is_opened, few_calls seen.state.calls new.state.calls did.keeps.calls);
         left = λ store leaves_it same. subst (λ s. Gains (front_served t.machine.tick (front_at t.machine.links number) (served ∷ [])) seen.state.store s) (sym (same (did.is_up ∙ read.is_up)))
             (subst (λ h. Gains h seen.state.store new.state.store) happened did.adds.gains);
@@ -294,6 +298,8 @@ last_stopped seen new t number after front leaves exact coupled up quiet there o
         lasts = ap stops_last did.history ∙ stops_behind seen (ServedFrame session t.machine.tick frame Stopped ∷ []) coupled.sound coupled.history up coupled.stops refl (from, tt);
         later = later_behind exact seen new t number front session Stopped new.state.sessions coupled up ordered.now there did.of_connection did.history;
         per_record = did.keeps.per_record;
+        crashes = did.keeps.crashes.0;
+        kept = λ fallen is. is ∙ did.kept;
         ready = (did.keeps.is_spent, did.keeps.is_quiet, did.keeps.is_opened, few_calls seen.state.calls new.state.calls did.keeps.calls);
         left = λ store leaves_it same. subst (λ h. Gains h seen.state.store store) happened (did.left store leaves_it).gains;
         blocks = λ store leaves_it same. known_stopped exact session frame t.machine.server t.machine.tick seen.state.store store may (did.left store leaves_it).gains (known_blocks seen t coupled);

@@ -45,4 +45,5 @@ pub mod StoppedUps
 pub mod LastFrames
 pub mod Lasting
 pub mod Crashes
+pub mod FirstBytes
 pub mod Offered

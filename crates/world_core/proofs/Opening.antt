@@ -17,7 +17,7 @@ use Rattle.world_model.specs.KeptLaws.{OrderlyIsKept}
 use Rattle.world_model.specs.OneEvent.{OneEvent}
 use Rattle.world_core.specs.declared.traffic.Traffic.{Traffic}
 use Rattle.world_core.specs.Underway.{IsUnderway}
-use Rattle.world_core.specs.Making.{Makes}
+use Rattle.world_core.specs.Making.{Makes, MakesBelow}
 use Rattle.world_core.proofs.Readiness.{opened_ready}
 use Rattle.world_core.proofs.Living.{same_lived}
 use Rattle.world_core.proofs.Coupling.{moved, begun, one_alone, one_call, made, made_alone, none_came, none_asked}
@@ -29,10 +29,10 @@ any_server held m server is = record { event = is.event; tick = is.tick; links =
 -- it was up
 pub ups_none : OrderlyIsKept → (sees : Seen → Type 0) (before after : Traffic) → ((seen : Seen) → sees seen → seen.state.is_up ≡ true) → ((m : Machine) → IsUnderway before m → IsUnderway after (begun m))
     → Makes sees before sees after event.Up (note.Up None) []
-ups_none kept sees before after up goes seen t is =
+ups_none kept sees before after up goes below seen t is =
     let server_up : t.machine.server.is_up ≡ true = is.coupled.server.is_up ∙ up seen is.seen_so in
     let follows : follow t.setting t.machine event.Up (note.Up None) [] ≡ Some (begun t.machine, []) = rw server_up refl in
-    made_alone kept sees before after event.Up (note.Up None) seen t (begun t.machine) is (one_alone seen t event.Up (note.Up None) (begun t.machine) is.coupled follows refl refl refl refl refl) (goes t.machine is.underway)
+    made_alone kept sees before after below event.Up (note.Up None) seen t (begun t.machine) is (one_alone seen t event.Up (note.Up None) (begun t.machine) is.coupled follows refl refl refl refl refl refl) refl (goes t.machine is.underway)
 
 -- the next incarnation is one that may open
 may_open_next : (server : Server) (store incarnation : ℕ) → server.incarnation ≤ store → store ≤ server.incarnation + server.stopped → incarnation ≡ store + 1 → may_open server incarnation ≡ true
@@ -82,7 +82,7 @@ pub ups_some : OrderlyIsKept → (sees sees_later : Seen → Type 0) (before aft
     → ((seen : Seen) → sees_later seen → seen.state.is_up ≡ true → incarnation ≡ seen.state.store.incarnation)
     → Goes sees sees_later (λ old new. Opened old horizon new)
     → ((m : Machine) → IsUnderway before m → IsUnderway after (begun m))
-    → Makes sees before sees_later after event.Up (note.Up (Some incarnation)) []
+    → MakesBelow horizon sees before sees_later after event.Up (note.Up (Some incarnation)) []
 ups_some kept sees sees_later before after horizon incarnation down honest told goes leads seen t is =
     let gone = goes seen is.seen_so in
     let new = gone.0 in
@@ -103,6 +103,7 @@ ups_some kept sees sees_later before after horizon incarnation down honest told 
       history = did.keeps.history ∙ sym (append-nil seen.history);
       start = did.keeps.start;
       rises = let one_more = did.incarnation in omega (arith, one_more);
+      crashes = did.keeps.crashes.0;
       coupled_before = is.coupled;
       coupled_after = coupled;
       more_entries = [];
@@ -116,5 +117,5 @@ ups_some kept sees sees_later before after horizon incarnation down honest told 
       outside = sym (append-nil t.outside);
       outside_draws = sym (append-nil t.outside_draws);
     } in
-    made kept sees sees_later before after event.Up (note.Up (Some incarnation)) [] seen new t (moved t m) is one gone.1.0 (opened_ready seen new did.keeps is.ready did.is_up) (one_call seen.state.calls new.state.calls did.keeps.calls)
+    made kept sees sees_later before after horizon event.Up (note.Up (Some incarnation)) [] seen new t (moved t m) is one did.horizon gone.1.0 (opened_ready seen new did.keeps is.ready did.is_up) (one_call seen.state.calls new.state.calls did.keeps.calls)
     (any_server after (begun t.machine) (opened t.machine.server incarnation) (leads t.machine is.underway))

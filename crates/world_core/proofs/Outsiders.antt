@@ -47,10 +47,10 @@ use Rattle.world_core.proofs.Storing.{others_counted, came_of, next_apart}
 -- the server is down
 pub outsides_none : OrderlyIsKept → (sees : Seen → Type 0) (before after : Traffic) (calls : List Call) → ((seen : Seen) → sees seen → seen.state.is_up ≡ false) → ((m : Machine) → IsUnderway before m → IsUnderway after (begun m))
     → Makes sees before sees after (event.Outside calls) (note.Outside None) []
-outsides_none kept sees before after calls down goes seen t is =
+outsides_none kept sees before after calls down goes below seen t is =
     let server_down : t.machine.server.is_up ≡ false = is.coupled.server.is_up ∙ down seen is.seen_so in
     let follows : follow t.setting t.machine (event.Outside calls) (note.Outside None) [] ≡ Some (begun t.machine, []) = rw server_down refl in
-    made_alone kept sees before after (event.Outside calls) (note.Outside None) seen t (begun t.machine) is (one_alone seen t (event.Outside calls) (note.Outside None) (begun t.machine) is.coupled follows refl refl refl refl refl) (goes t.machine is.underway)
+    made_alone kept sees before after below (event.Outside calls) (note.Outside None) seen t (begun t.machine) is (one_alone seen t (event.Outside calls) (note.Outside None) (begun t.machine) is.coupled follows refl refl refl refl refl refl) refl (goes t.machine is.underway)
 
 -- WHAT RAN ----------------------------------------------------------------------------------------
 
@@ -237,6 +237,7 @@ module _ (old new : Seen) (t : Traced) (calls : List Call) (ran : OutsideNote) (
     history = added;
     start = did.keeps.start;
     rises = let same = did.gains.incarnation in omega (arith, same);
+    crashes = did.keeps.crashes.0;
     coupled_before = coupled;
     coupled_after = outside_coupled (drawn_outside (note.Outside (Some ran)));
     more_entries = did.gains.more_entries;
@@ -257,14 +258,14 @@ pub outsides_some : OrderlyIsKept → (sees sees_later : Seen → Type 0) (befor
     → Goes sees sees_later (λ old new. RanOutside old calls after.tick ran.ltxid (runs_of ran) new)
     → ((m : Machine) → IsUnderway before m → IsUnderway after (begun m))
     → Makes sees before sees_later after (event.Outside calls) (note.Outside (Some ran)) []
-outsides_some kept sees sees_later before after calls ran exact up honest goes leads seen t is =
+outsides_some kept sees sees_later before after calls ran exact up honest goes leads below seen t is =
     let gone = goes seen is.seen_so in
     let new = gone.0 in
     let is_up = up seen is.seen_so in
     let later = leads t.machine is.underway in
     let did : RanOutside seen calls t.machine.tick ran.ltxid (runs_of ran) new = subst (λ now. RanOutside seen calls now ran.ltxid (runs_of ran) new) (sym later.tick) gone.1.1 in
     let draws = drawn_outside (note.Outside (Some ran)) in
-    made kept sees sees_later before after (event.Outside calls) (note.Outside (Some ran)) [] seen new t (traced_behind t new draws) is
-    (outside_event seen new t calls ran exact is.coupled is_up is.orderly.basic.made (honest new gone.1.0) did) gone.1.0 (stays_ready seen new did.keeps is.ready (λ up. is_up) (up_not_down new.state did.others.1))
+    made kept sees sees_later before after below (event.Outside calls) (note.Outside (Some ran)) [] seen new t (traced_behind t new draws) is
+    (outside_event seen new t calls ran exact is.coupled is_up is.orderly.basic.made (honest new gone.1.0) did) did.gains.horizon gone.1.0 (stays_ready seen new did.keeps is.ready (λ up. is_up) (up_not_down new.state did.others.1))
     (one_call seen.state.calls new.state.calls did.keeps.calls)
     (any_server after (begun t.machine) (outside_server t.machine.server) later)

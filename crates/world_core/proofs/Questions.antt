@@ -39,10 +39,10 @@ use Rattle.world_core.proofs.Stops.{stops_behind}
 -- the server is down
 pub asks_none : OrderlyIsKept → (sees : Seen → Type 0) (before after : Traffic) (x : Ltxid) → AreExact → ((seen : Seen) → sees seen → seen.state.is_up ≡ false) → ((m : Machine) → IsUnderway before m → IsUnderway after (begun m))
     → Makes sees before sees after (event.Ask x) (note.Ask x None) []
-asks_none kept sees before after x exact down goes seen t is =
+asks_none kept sees before after x exact down goes below seen t is =
     let server_down : t.machine.server.is_up ≡ false = is.coupled.server.is_up ∙ down seen is.seen_so in
     let follows : follow t.setting t.machine (event.Ask x) (note.Ask x None) [] ≡ Some (begun t.machine, []) = rw ((exact.identifiers x x).1 refl, server_down) refl in
-    made_alone kept sees before after (event.Ask x) (note.Ask x None) seen t (begun t.machine) is (one_alone seen t (event.Ask x) (note.Ask x None) (begun t.machine) is.coupled follows refl refl refl refl refl) (goes t.machine is.underway)
+    made_alone kept sees before after below (event.Ask x) (note.Ask x None) seen t (begun t.machine) is (one_alone seen t (event.Ask x) (note.Ask x None) (begun t.machine) is.coupled follows refl refl refl refl refl refl) refl (goes t.machine is.underway)
 
 blocked_one : (server : Server) (x : Ltxid) (seen : Seen) → SameServer server seen → SameServer (record server { blocked = x ∷ server.blocked }) seen
 blocked_one server x seen same = record { is_up = same.is_up; per_record = same.per_record; opened = same.opened; closed = same.closed }
@@ -112,7 +112,7 @@ pub asks_some : OrderlyIsKept → (sees sees_later : Seen → Type 0) (before af
     → Goes sees sees_later (λ old new. AskedOne old x told new)
     → ((m : Machine) → IsUnderway before m → IsUnderway after (begun m))
     → Makes sees before sees_later after (event.Ask x) (note.Ask x (Some (result_of told))) []
-asks_some kept sees sees_later before after x told exact up honest goes leads seen t is =
+asks_some kept sees sees_later before after x told exact up honest goes leads below seen t is =
     let gone = goes seen is.seen_so in
     let new = gone.0 in
     let did : AskedOne seen x told new = gone.1.1 in
@@ -129,6 +129,7 @@ asks_some kept sees sees_later before after x told exact up honest goes leads se
       history = did.history;
       start = did.keeps.start;
       rises = let same_opening = did.adds.opening.0 in omega (arith, same_opening);
+      crashes = did.keeps.crashes.0;
       coupled_before = is.coupled;
       coupled_after = coupled;
       more_entries = [];
@@ -142,6 +143,6 @@ asks_some kept sees sees_later before after x told exact up honest goes leads se
       outside = sym (append-nil t.outside);
       outside_draws = sym (append-nil t.outside_draws);
     } in
-    made kept sees sees_later before after (event.Ask x) (note.Ask x (Some (result_of told))) [] seen new t (traced_behind t m new) is one gone.1.0 (stays_ready seen new did.keeps is.ready (λ up. is_up) (up_not_down new.state did.others.1))
+    made kept sees sees_later before after below (event.Ask x) (note.Ask x (Some (result_of told))) [] seen new t (traced_behind t m new) is one did.adds.opening.1 gone.1.0 (stays_ready seen new did.keeps is.ready (λ up. is_up) (up_not_down new.state did.others.1))
     (one_call seen.state.calls new.state.calls did.keeps.calls)
     (any_server after (begun t.machine) (after_asked t.machine.server x (result_of told)) (leads t.machine is.underway))

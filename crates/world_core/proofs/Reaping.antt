@@ -96,13 +96,13 @@ reaped_at links number link there = ap (λ found. option_map_or (λ one. with_li
 -- none was there
 pub reaps_none : OrderlyIsKept → (sees : Seen → Type 0) (before after : Traffic) (number : ℕ) → ((m : Machine) → IsUnderway before m → Leads (follow_reap (begun m) number false) after)
     → Makes sees before sees after (event.Reap number) (note.Reap number false) []
-reaps_none kept sees before after number goes seen t is =
+reaps_none kept sees before after number goes below seen t is =
     let led = goes t.machine is.underway in
     let same = only_true (same_bool false (has_orphan t.machine.links number)) (begun t.machine) led.0 led.1.0 in
     let follows : follow t.setting t.machine (event.Reap number) (note.Reap number false) [] ≡ Some (led.0, []) = rw (eq-eqb number number refl, led.1.0) refl in
     let server : led.0.server ≡ t.machine.server = ap (λ m. m.server) same.1 in
     let alike = ap (λ m. m.links) same.1 in
-    made_alone kept sees before after (event.Reap number) (note.Reap number false) seen t led.0 is (one_alone seen t (event.Reap number) (note.Reap number false) led.0 is.coupled follows refl refl refl server (rw alike refl)) led.1.1
+    made_alone kept sees before after below (event.Reap number) (note.Reap number false) seen t led.0 is (one_alone seen t (event.Reap number) (note.Reap number false) led.0 is.coupled follows refl refl refl refl server (rw alike refl)) refl led.1.1
 
 -- one was
 living_apart : (old new : Seen) (t : Traced) (number other : ℕ) (link : Link) → Coupled old t → Reaped old number new → link_at t.machine.links number ≡ Some link
@@ -142,7 +142,7 @@ reaped_machine m number link = record (begun m) { links = with_link m.links numb
 
 pub reaps_one : OrderlyIsKept → (sees sees_later : Seen → Type 0) (before after : Traffic) (number : ℕ) → ((seen : Seen) → sees_later seen → IsHistory seen) → Goes sees sees_later (λ old new. Reaped old number new)
     → ((m : Machine) → IsUnderway before m → Leads (follow_reap (begun m) number true) after) → Makes sees before sees_later after (event.Reap number) (note.Reap number true) []
-reaps_one kept sees sees_later before after number honest goes leads seen t is =
+reaps_one kept sees sees_later before after number honest goes leads below seen t is =
     let led = leads t.machine is.underway in
     let followed = only_true (same_bool true (has_orphan t.machine.links number)) (record (begun t.machine) { links = changed reaped_link t.machine.links number }) led.0 led.1.0 in
     let found = found_orphan (link_at t.machine.links number) (true_same (has_orphan t.machine.links number) followed.0) in
@@ -165,6 +165,7 @@ reaps_one kept sees sees_later before after number honest goes leads seen t is =
       history = reaped.keeps_store.history ∙ sym (append-nil seen.history);
       start = reaped.keeps.start;
       rises = let same = ap (λ (store : Store). store.incarnation) reaped.keeps_store.store in omega (arith, same);
+      crashes = reaped.keeps.crashes.0;
       coupled_before = is.coupled;
       coupled_after = coupled;
       more_entries = [];
@@ -178,4 +179,4 @@ reaps_one kept sees sees_later before after number honest goes leads seen t is =
       outside = sym (append-nil t.outside);
       outside_draws = sym (append-nil t.outside_draws);
     } in
-    made kept sees sees_later before after (event.Reap number) (note.Reap number true) [] seen new t (moved t m) is event_made gone.1.0 (store_ready seen new reaped.keeps reaped.keeps_store is.ready) (one_call seen.state.calls new.state.calls reaped.keeps.calls) there.0
+    made kept sees sees_later before after below (event.Reap number) (note.Reap number true) [] seen new t (moved t m) is event_made (ap (λ (store : Store). store.horizon) reaped.keeps_store.store) gone.1.0 (store_ready seen new reaped.keeps reaped.keeps_store is.ready) (one_call seen.state.calls new.state.calls reaped.keeps.calls) there.0

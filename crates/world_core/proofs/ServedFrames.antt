@@ -83,12 +83,12 @@ served_with old new number now frame reply leaves did = record {
 
 pub serves_none : OrderlyIsKept → (sees : Seen → Type 0) (before after : Traffic) (number : ℕ) → ((m : Machine) → IsUnderway before m → FrontOf (begun m) number (front_at m.links number) None after)
     → Makes sees before sees after (event.Serve number) (note.Serve number None) []
-serves_none kept sees before after number goes seen t is = by (front_at t.machine.links number) refl (goes t.machine is.underway)
+serves_none kept sees before after number goes below seen t is = by (front_at t.machine.links number) refl (goes t.machine is.underway)
   where
-    by : (found : Option Front) → front_at t.machine.links number ≡ found → FrontOf (begun t.machine) number found None after → Made seen t sees after (event.Serve number) (note.Serve number None) []
+    by : (found : Option Front) → front_at t.machine.links number ≡ found → FrontOf (begun t.machine) number found None after → Made below seen t sees after (event.Serve number) (note.Serve number None) []
     by None there gives =
-        made_alone kept sees before after (event.Serve number) (note.Serve number None) seen t (begun t.machine) is
-        (one_alone seen t (event.Serve number) (note.Serve number None) (begun t.machine) is.coupled (rw (eq-eqb number number refl, there) refl) (rw there refl) refl refl refl refl) gives.1
+        made_alone kept sees before after below (event.Serve number) (note.Serve number None) seen t (begun t.machine) is
+        (one_alone seen t (event.Serve number) (note.Serve number None) (begun t.machine) is.coupled (rw (eq-eqb number number refl, there) refl) (rw there refl) refl refl refl refl refl) refl gives.1
     by (Some front) there gives = no_frame front.first.frame gives.0
 
 abbrev pub taken_off : Machine → ℕ → Front → Machine
@@ -100,9 +100,9 @@ pub serves_some : OrderlyIsKept → (sees sees_later : Seen → Type 0) (leaves 
     → ((m : Machine) → IsUnderway before m → FrontOf (begun m) number (front_at m.links number) (Some frame) between)
     → ((m : Machine) (front : Front) → link_at m.links number ≡ Some (record front.link { up = front.later }) → IsUnderway between m → IsWritten between m number front frame reply served after)
     → Makes sees before sees_later after (event.Serve number) (note.Serve number (Some (name_of frame))) (served ∷ [])
-serves_some kept sees sees_later leaves before between after number frame reply served exact honest goes takes writes seen t is = by (front_at t.machine.links number) refl (takes t.machine is.underway)
+serves_some kept sees sees_later leaves before between after number frame reply served exact honest goes takes writes below seen t is = by (front_at t.machine.links number) refl (takes t.machine is.underway)
   where
-    by : (found : Option Front) → front_at t.machine.links number ≡ found → FrontOf (begun t.machine) number found (Some frame) between → GoesTo sees_later seen t number frame served after
+    by : (found : Option Front) → front_at t.machine.links number ≡ found → FrontOf (begun t.machine) number found (Some frame) between → GoesTo below sees_later seen t number frame served after
     by None there gives = no_frame frame (sym gives.0)
     by (Some front) there gives =
         let m = begun t.machine in
@@ -122,8 +122,8 @@ serves_some kept sees sees_later leaves before between after number frame reply 
         let once = subst (λ links. IsUnderway after (record m { links = links; pool = pool_after t.machine.pool number served.item }))
         (with_twice t.machine.links number (record front.link { up = front.later }) (answered_link m.event front served reply)) written.links in
         let stands = subst (λ s. IsUnderway after (record m { links = with_link t.machine.links number (answered_link m.event front s reply); pool = pool_after t.machine.pool number s.item })) is_one once in
-        let result = serves_front kept sees sees_later seen new t number front reply before after exact is there order history gone.1.0 ready did stands in
-        subst (λ s. GoesTo sees_later seen t number frame s after) (sym is_one) (subst (λ f. GoesTo sees_later seen t number f one after) (sym same) result)
+        let result = serves_front kept sees sees_later below seen new t number front reply before after exact is there order history gone.1.0 ready did stands in
+        subst (λ s. GoesTo below sees_later seen t number frame s after) (sym is_one) (subst (λ f. GoesTo below sees_later seen t number f one after) (sym same) result)
 
 -- WHAT THE CALLS ASK FOR --------------------------------------------------------------------------
 

@@ -216,8 +216,8 @@ traced_behind t m new = record t { machine = m; entries = new.state.store.entrie
 
 -- SERVED ------------------------------------------------------------------------------------------
 
-abbrev pub GoesTo : (Seen → Type 0) → Seen → Traced → ℕ → Up → Served → Traffic → Type 0
-GoesTo sees_later seen t number frame served after = Made seen t sees_later after (event.Serve number) (note.Serve number (Some (name_of frame))) (served ∷ [])
+abbrev pub GoesTo : ℕ → (Seen → Type 0) → Seen → Traced → ℕ → Up → Served → Traffic → Type 0
+GoesTo below sees_later seen t number frame served after = Made below seen t sees_later after (event.Serve number) (note.Serve number (Some (name_of frame))) (served ∷ [])
 
 all_true : (a b c d : Bool) → a ≡ true → b ≡ true → c ≡ true → d ≡ true → (a && ((b && c) && d)) ≡ true
 all_true a b c d p q r s = rw (p, q, r, s) refl
@@ -261,11 +261,11 @@ served_so exact seen new t number front reply coupled there ordered history did 
     let known = which t.machine.server seen front.link.session did.session number new.state.sessions coupled.server up living did.of_connection in
     served_by exact t.machine.server front.link front.link.commits did.session front.first.frame reply answered new.state.sessions known ordered.is_first
 
-pub serves_front : OrderlyIsKept → (sees sees_later : Seen → Type 0) (seen new : Seen) (t : Traced) (number : ℕ) (front : Front) (reply : Option Down) (before after : Traffic) → AreExact → IsAt sees before seen t → front_at t.machine.links number ≡ Some front → ServesInOrder seen t number front
+pub serves_front : OrderlyIsKept → (sees sees_later : Seen → Type 0) (below : ℕ) (seen new : Seen) (t : Traced) (number : ℕ) (front : Front) (reply : Option Down) (before after : Traffic) → AreExact → IsAt sees before seen t → front_at t.machine.links number ≡ Some front → ServesInOrder seen t number front
     → IsHistory new → sees_later new → IsReady new.state → (did : ServedWith seen number t.machine.tick front.first.frame reply new)
     → IsUnderway after (record (begun t.machine) { links = with_link t.machine.links number (answered_link (t.machine.event + 1) front (item_now t.machine front did.session reply) reply); pool = pool_after t.machine.pool number (served_item front.first.frame reply) })
-    → GoesTo sees_later seen t number front.first.frame (item_now t.machine front did.session reply) after
-serves_front kept sees sees_later seen new t number front reply before after exact is there ordered history sees_new ready did underway =
+    → GoesTo below sees_later seen t number front.first.frame (item_now t.machine front did.session reply) after
+serves_front kept sees sees_later below seen new t number front reply before after exact is there ordered history sees_new ready did underway =
     let coupled = is.coupled in
     let m = begun t.machine in
     let session = did.session in
@@ -316,6 +316,7 @@ serves_front kept sees sees_later seen new t number front reply before after exa
       history = did.history;
       start = did.keeps.start;
       rises = let same_opening = did.adds.gains.incarnation in omega (arith, same_opening);
+      crashes = did.keeps.crashes.0;
       coupled_before = coupled;
       coupled_after = coupled_later;
       more_entries = did.adds.gains.more_entries;
@@ -329,6 +330,6 @@ serves_front kept sees sees_later seen new t number front reply before after exa
       outside = sym (append-nil t.outside);
       outside_draws = sym (append-nil t.outside_draws);
     } in
-    made kept sees sees_later before after (event.Serve number) (note.Serve number (Some (name_of frame))) (served ∷ []) seen new t later is one sees_new ready (one_call seen.state.calls new.state.calls did.keeps.calls)
+    made kept sees sees_later before after below (event.Serve number) (note.Serve number (Some (name_of frame))) (served ∷ []) seen new t later is one did.adds.gains.horizon sees_new ready (one_call seen.state.calls new.state.calls did.keeps.calls)
     (any_server after (record m { links = with_link t.machine.links number link; pool = pool_after t.machine.pool number served.item }) (server_after t.machine.server served.item)
     (subst (λ (l : Link). IsUnderway after (record m { links = with_link t.machine.links number l; pool = pool_after t.machine.pool number served.item })) same_handled underway))

@@ -1,6 +1,6 @@
 -- An opening that is stopped, or not, and the crash behind it.
 use Rattle.std.proofs.Common.{◌≡◌, ◌≤◌, ℕ, zero, suc, ◌+◌, Bool, true, false, List, [], Option, Some, None, refl, sym, ap, ◌∙◌, subst, arith, inl, inr}
-use Rattle.std.specs.Prelude.{◌&&◌, ◌||◌, not, if◌then◌else◌}
+use Rattle.std.specs.Prelude.{◌&&◌, ◌||◌, ◌⊎◌, max, not, if◌then◌else◌}
 use Rattle.std.specs.List.{list_all}
 use Rattle.std.proofs.lemmas.List.{append-nil}
 use Rattle.outage_schedule.specs.declared.event.Event.TheVariants as event
@@ -9,6 +9,7 @@ use Rattle.server_model.specs.Seen.{Store, Seen, IsHistory}
 use Rattle.server_model.specs.ServiceCalls.{is_failover, Crashed, SameLists, HasSoFar, Neither, Forgets, Both}
 use Rattle.service_calls.specs.Kept.{Goes}
 use Rattle.world_model.specs.Basic.{is_down}
+use Rattle.world_model.specs.CrashCount.{Counted}
 use Rattle.world_model.specs.Coupled.{living_of, life_by, life_of, SameServer, Coupled}
 use Rattle.world_model.specs.KeptLaws.{OrderlyIsKept}
 use Rattle.world_model.specs.OneEvent.{OneEvent}
@@ -18,7 +19,7 @@ use Rattle.world_model.specs.Traced.{Traced}
 use Rattle.world_model.specs.Walking.{follow}
 use Rattle.world_core.specs.declared.traffic.Traffic.{Traffic}
 use Rattle.world_core.specs.Underway.{IsUnderway}
-use Rattle.world_core.specs.Making.{Makes}
+use Rattle.world_core.specs.Making.{Makes, MakesBelow}
 use Rattle.world_core.specs.Stopping.{BegunOpening}
 use Rattle.world_core.proofs.Living.{same_lived}
 use Rattle.world_core.proofs.Blocking.{known_blocks, known_same}
@@ -30,10 +31,10 @@ use Rattle.world_core.proofs.Storing.{both, all_at}
 -- the server is up
 pub crashes_no_opening : OrderlyIsKept → (sees : Seen → Type 0) (before after : Traffic) (calls pick : ℕ) → ((seen : Seen) → sees seen → seen.state.is_up ≡ true) → ((m : Machine) → IsUnderway before m → IsUnderway after (begun m))
     → Makes sees before sees after (event.UpCrash calls pick) (note.UpCrash false) []
-crashes_no_opening kept sees before after calls pick up goes seen t is =
+crashes_no_opening kept sees before after calls pick up goes below seen t is =
     let server_up : t.machine.server.is_up ≡ true = is.coupled.server.is_up ∙ up seen is.seen_so in
     let follows : follow t.setting t.machine (event.UpCrash calls pick) (note.UpCrash false) [] ≡ Some (begun t.machine, []) = rw server_up refl in
-    made_alone kept sees before after (event.UpCrash calls pick) (note.UpCrash false) seen t (begun t.machine) is (one_alone seen t (event.UpCrash calls pick) (note.UpCrash false) (begun t.machine) is.coupled follows refl refl refl refl refl) (goes t.machine is.underway)
+    made_alone kept sees before after below (event.UpCrash calls pick) (note.UpCrash false) seen t (begun t.machine) is (one_alone seen t (event.UpCrash calls pick) (note.UpCrash false) (begun t.machine) is.coupled follows refl refl refl refl refl refl) refl (goes t.machine is.underway)
 
 -- NO SESSION LIVES --------------------------------------------------------------------------------
 
@@ -53,7 +54,7 @@ are_down false none down e = e
 -- WHAT IS LEFT ------------------------------------------------------------------------------------
 
 -- behind the crash, whether the stop was reached or not
-record Left (old new : Seen) : Type 0 where
+record Left (old new : Seen) (below after pick : ℕ) : Type 0 where
   start : new.start ≡ old.start
   history : new.history ≡ old.history
   lists : SameLists old.state.store new.state.store
@@ -62,16 +63,27 @@ record Left (old new : Seen) : Type 0 where
   quiet : new.state.is_quiet ≡ old.state.is_quiet
   per_record : new.state.per_record ≡ old.state.per_record
   calls : new.state.calls ≡ old.state.calls + 1 + 1 + 1
+  horizon : (new.state.store.horizon ≡ old.state.store.horizon) ⊎ (new.state.store.horizon ≡ max old.state.store.horizon below)
+  counted : Counted pick old.state new.state × (new.state.last_stop ≡ Some after)
 
 so_far_near : (old new : Store) (below : ℕ) → HasSoFar old below new → (old.incarnation ≤ new.incarnation) × (new.incarnation ≤ old.incarnation + 1)
 so_far_near old new below (Neither same horizon) = (omega (arith, same), omega (arith, same))
 so_far_near old new below (Forgets same horizon) = (omega (arith, same), omega (arith, same))
 so_far_near old new below (Both next horizon) = (omega (arith, next), omega (arith, next))
 
+so_far_horizon : (old new : Store) (below : ℕ) → HasSoFar old below new → (new.horizon ≡ old.horizon) ⊎ (new.horizon ≡ max old.horizon below)
+so_far_horizon old new below (Neither same horizon) = inl horizon
+so_far_horizon old new below (Forgets same horizon) = inr horizon
+so_far_horizon old new below (Both next horizon) = inr horizon
+
+-- the crash is counted, and has the stop that was set
+counts_one : (old between new : Seen) (after pick : ℕ) → between.state.crashes ≡ old.state.crashes → between.state.kept ≡ Some after → Crashed between pick new → Counted pick old.state new.state × (new.state.last_stop ≡ Some after)
+counts_one old between new after pick same kept fell = (record { crashes = fell.crashes.0 ∙ ap (λ (n : ℕ). n + 1) same; pick_is = fell.crashes.1 }, fell.crashes.2 ∙ kept)
+
 same_records : (old between new : Seen) (pick : ℕ) → is_failover pick ≡ false → between.state.per_record ≡ old.state.per_record → Crashed between pick new → new.state.per_record ≡ old.state.per_record
 same_records old between new pick one kept fell = fell.per_record ∙ ap (λ b. if b then 4 else between.state.per_record) one ∙ kept
 
-left_by : (old between new : Seen) (below after pick : ℕ) (leaves : Store → Type 0) → is_failover pick ≡ false → BegunOpening old below after leaves between → leaves new.state.store → Crashed between pick new → Left old new
+left_by : (old between new : Seen) (below after pick : ℕ) (leaves : Store → Type 0) → is_failover pick ≡ false → BegunOpening old below after leaves between → leaves new.state.store → Crashed between pick new → Left old new below after pick
 left_by old between new below after pick leaves one (inl opened) left fell =
     let same = fell.store (inl opened.is_up.0) in
     record {
@@ -83,6 +95,8 @@ left_by old between new below after pick leaves one (inl opened) left fell =
       quiet = fell.is_quiet ∙ opened.keeps.is_quiet;
       per_record = same_records old between new pick one opened.keeps.per_record fell;
       calls = fell.calls ∙ ap (λ (n : ℕ). n + 1) opened.keeps.calls;
+      horizon = inr (ap (λ (s : Store). s.horizon) same ∙ opened.horizon);
+      counted = counts_one old between new after pick opened.keeps.crashes.0 opened.keeps.kept fell;
     }
 left_by old between new below after pick leaves one (inr stopped) left fell =
     let has = stopped.left new.state.store left in
@@ -96,6 +110,8 @@ left_by old between new below after pick leaves one (inr stopped) left fell =
       quiet = fell.is_quiet ∙ stopped.keeps.is_quiet;
       per_record = same_records old between new pick one stopped.keeps.per_record fell;
       calls = fell.calls ∙ ap (λ (n : ℕ). n + 1) stopped.keeps.calls;
+      horizon = so_far_horizon old.state.store new.state.store below has.so_far;
+      counted = counts_one old between new after pick stopped.keeps.crashes.0 stopped.keeps.kept fell;
     }
 
 three_calls : (old new : ℕ) → new ≡ old + 1 + 1 + 1 → new ≤ old + 4
@@ -112,8 +128,8 @@ stopped_machine m = record (begun m) { server = stopped_server m.server }
 abbrev traced_behind : Traced → Seen → Traced
 traced_behind t new = record t { machine = stopped_machine t.machine; entries = new.state.store.entries; blocked = new.state.store.blocked }
 
-server_behind : (server : Server) (old new : Seen) → SameServer server old → old.state.is_up ≡ false → Left old new → new.state.is_up ≡ false → SameServer (stopped_server server) new
-server_behind server old new same down left fell =
+server_behind : (server : Server) (old new : Seen) (below after pick : ℕ) → SameServer server old → old.state.is_up ≡ false → Left old new below after pick → new.state.is_up ≡ false → SameServer (stopped_server server) new
+server_behind server old new below after pick same down left fell =
     let near = same.closed down in
     let low = near.0 in
     let high = near.1 in
@@ -126,14 +142,14 @@ server_behind server old new same down left fell =
       closed = λ is. (omega (arith, low, more), omega (arith, high, most));
     }
 
-stopped_coupled : (old new : Seen) (t : Traced) → Coupled old t → old.state.is_up ≡ false → is_down t ≡ true → IsHistory new → Left old new → new.state.is_up ≡ false → ((number : ℕ) → new.state.living number ≡ None) → Coupled new (traced_behind t new)
-stopped_coupled old new t coupled down fallen history left fell living =
+stopped_coupled : (old new : Seen) (below after pick : ℕ) (t : Traced) → Coupled old t → old.state.is_up ≡ false → is_down t ≡ true → IsHistory new → Left old new below after pick → new.state.is_up ≡ false → ((number : ℕ) → new.state.living number ≡ None) → Coupled new (traced_behind t new)
+stopped_coupled old new below after pick t coupled down fallen history left fell living =
     let none = are_down t.machine.server.is_up (list_all (λ link. not link.is_open && not link.is_living) t.machine.links) (coupled.server.is_up ∙ down) fallen in
     record {
       history = history;
       sound = rw left.start coupled.sound;
       stops = rw left.history coupled.stops;
-      server = server_behind t.machine.server old new coupled.server down left fell;
+      server = server_behind t.machine.server old new below after pick coupled.server down left fell;
       living = λ number. living number ∙ sym (none_lives t.machine.links number (link_at t.machine.links number) none refl);
       stored = λ number link there. rw left.lists.entries (coupled.stored number link there);
       lives = λ number link there. same_lived old.history new.history (living_of (Some link)) (life_of link.served) left.history (coupled.lives number link there);
@@ -151,7 +167,7 @@ pub crashes_opening : OrderlyIsKept → (sees sees_between sees_later : Seen →
     → Goes sees sees_between (λ old new. BegunOpening old horizon calls leaves new)
     → Goes sees_between sees_later (λ old new. Crashed old pick new)
     → ((m : Machine) → IsUnderway before m → IsUnderway after (begun m))
-    → Makes sees before sees_later after (event.UpCrash calls pick) (note.UpCrash true) []
+    → MakesBelow horizon sees before sees_later after (event.UpCrash calls pick) (note.UpCrash true) []
 crashes_opening kept sees sees_between sees_later leaves before after horizon calls pick one down honest remains begins falls leads seen t is =
     let begun_so = begins seen is.seen_so in
     let between = begun_so.0 in
@@ -163,7 +179,7 @@ crashes_opening kept sees sees_between sees_later leaves before after horizon ca
     let left = left_by seen between new horizon calls pick leaves one begun_so.1.1 (remains new fell.1.0) crashed in
     let m = stopped_machine t.machine in
     let follows : follow t.setting t.machine (event.UpCrash calls pick) (note.UpCrash true) [] ≡ Some (m, []) = rw server_down refl in
-    let coupled : Coupled new (traced_behind t new) = stopped_coupled seen new t is.coupled closed is.orderly.basic.down (honest new fell.1.0) left crashed.down.0 crashed.living in
+    let coupled : Coupled new (traced_behind t new) = stopped_coupled seen new horizon calls pick t is.coupled closed is.orderly.basic.down (honest new fell.1.0) left crashed.down.0 crashed.living in
     let event_made : OneEvent seen t (event.UpCrash calls pick) (note.UpCrash true) [] [] new (traced_behind t new) = record {
       follows = follows;
       happened = [];
@@ -171,6 +187,7 @@ crashes_opening kept sees sees_between sees_later leaves before after horizon ca
       history = left.history ∙ sym (append-nil seen.history);
       start = left.start;
       rises = left.low;
+      crashes = left.counted;
       coupled_before = is.coupled;
       coupled_after = coupled;
       more_entries = [];
@@ -184,6 +201,6 @@ crashes_opening kept sees sees_between sees_later leaves before after horizon ca
       outside = sym (append-nil t.outside);
       outside_draws = sym (append-nil t.outside_draws);
     } in
-    made kept sees sees_later before after (event.UpCrash calls pick) (note.UpCrash true) [] seen new t (traced_behind t new) is event_made fell.1.0
+    made kept sees sees_later before after horizon (event.UpCrash calls pick) (note.UpCrash true) [] seen new t (traced_behind t new) is event_made left.horizon fell.1.0
     (record { live = crashed.is_spent; quiet = left.quiet ∙ is.ready.quiet; unstopped = crashed.stop.0; opened = up_not_opened new.state crashed.down.0; settled = λ falls. crashed.down.1 }) (three_calls seen.state.calls new.state.calls left.calls)
     (any_server after (begun t.machine) (stopped_server t.machine.server) (leads t.machine is.underway))

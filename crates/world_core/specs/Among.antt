@@ -12,6 +12,7 @@ use Rattle.outage_schedule.specs.declared.item.Served.{Served}
 use Rattle.outage_schedule.specs.declared.note.Note.{Note}
 use Rattle.server_model.specs.Seen.{Seen}
 use Rattle.world_model.specs.Clients.{Client, client_at, script_at}
+use Rattle.world_model.specs.Forgets.{Forgets}
 use Rattle.world_model.specs.Matching.{is_go}
 use Rattle.world_model.specs.OneEvent.{OneEvent}
 use Rattle.world_model.specs.Reached.{traced_start}
@@ -49,6 +50,7 @@ pub record StepAmong (R : Type 0) (rules : R → Rules) (sees_later : Seen → T
   pub seen_later : Seen
   pub later : Traced
   pub made : OneEvent seen t (event.Go number) note [] [] seen_later later
+  pub forgets : (below : ℕ) → Forgets below note seen.state.store seen_later.state.store
   pub place : IsAt sees_later after seen_later later
   pub stand : StandEach R rules held later
 

@@ -8,6 +8,7 @@ use Rattle.outage_schedule.specs.declared.note.GoNote.TheVariants as go
 use Rattle.outage_schedule.specs.declared.note.Note.{Note}
 use Rattle.server_model.specs.Seen.{Seen}
 use Rattle.world_model.specs.Clients.{Client, client_at, script_at}
+use Rattle.world_model.specs.Forgets.{Forgets}
 use Rattle.world_model.specs.OneEvent.{OneEvent}
 use Rattle.world_model.specs.Traced.{Traced}
 use Rattle.world_core.specs.declared.traffic.Traffic.{Traffic}
@@ -43,6 +44,7 @@ pub record StepMade (R : Type 0) (rules : R → Rules) (sees_later : Seen → Ty
   pub later : Traced
   pub client : Client
   pub made : OneEvent seen t (event.Go number) note [] [] seen_later later
+  pub forgets : (below : ℕ) → Forgets below note seen.state.store seen_later.state.store
   pub place : IsAt sees_later after seen_later later
   pub stands : StandsFor R rules script number held later client
   pub same : (other : ℕ) → (other ≡ number → ⊥) → client_at later.machine.clients other ≡ client_at t.machine.clients other

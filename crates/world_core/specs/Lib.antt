@@ -10,3 +10,4 @@ pub mod Among
 pub mod Answering
 pub mod Stopping
 pub mod Allowing
+pub mod CutBytes

@@ -1,11 +1,12 @@
 -- An event of a run without its clients: machine and service go on together.
-use Rattle.std.specs.Prelude.{◌≡◌, ◌+◌, ◌*◌, ◌≤◌, true, false, List, [], None}
+use Rattle.std.specs.Prelude.{◌≡◌, ℕ, ◌+◌, ◌*◌, ◌≤◌, true, false, List, [], None}
 use Rattle.outage_schedule.specs.declared.event.Event.{Event}
 use Rattle.outage_schedule.specs.declared.note.Note.{Note}
 use Rattle.outage_schedule.specs.declared.item.Served.{Served}
 use Rattle.server_model.specs.Seen.{ServiceState, Seen}
 use Rattle.world_model.specs.Traced.{Traced}
 use Rattle.world_model.specs.Coupled.{Coupled}
+use Rattle.world_model.specs.Forgets.{Forgets}
 use Rattle.world_model.specs.Invariant.{Orderly}
 use Rattle.world_model.specs.OneEvent.{OneEvent}
 use Rattle.world_core.specs.declared.traffic.Traffic.{Traffic}
@@ -35,10 +36,18 @@ pub record IsAt (sees : Seen → Type 0) (traffic : Traffic) (seen : Seen) (t : 
 abbrev pub IsSomewhere : (Seen → Type 0) → Traffic → Type 0
 IsSomewhere sees traffic = (seen : Seen) × ((t : Traced) × IsAt sees traffic seen t)
 
--- the event was made with this note and these items, and machine and service stand behind it
-abbrev pub Made : Seen → Traced → (Seen → Type 0) → Traffic → Event → Note → List Served → Type 0
-Made seen t sees_later after event note items = (seen_later : Seen) × ((later : Traced) × (OneEvent seen t event note items [] seen_later later × IsAt sees_later after seen_later later))
+-- The event was made with this note and these items, and machine and service stand behind it. An opening asked for this horizon.
+pub record Made (below : ℕ) (seen : Seen) (t : Traced) (sees_later : Seen → Type 0) (after : Traffic) (event : Event) (note : Note) (items : List Served) : Type 0 where
+  pub seen_later : Seen
+  pub later : Traced
+  pub made : OneEvent seen t event note items [] seen_later later
+  pub forgets : Forgets below note seen.state.store seen_later.state.store
+  pub place : IsAt sees_later after seen_later later
 
--- whatever was seen and wherever the machine stood, the event was made
+-- whatever was seen and wherever the machine stood, the event was made, and an opening asked for this horizon
+abbrev pub MakesBelow : ℕ → (Seen → Type 0) → Traffic → (Seen → Type 0) → Traffic → Event → Note → List Served → Type 0
+MakesBelow below sees before sees_later after event note items = (seen : Seen) (t : Traced) → IsAt sees before seen t → Made below seen t sees_later after event note items
+
+-- an event that opens nothing, whichever horizon is wanted
 abbrev pub Makes : (Seen → Type 0) → Traffic → (Seen → Type 0) → Traffic → Event → Note → List Served → Type 0
-Makes sees before sees_later after event note items = (seen : Seen) (t : Traced) → IsAt sees before seen t → Made seen t sees_later after event note items
+Makes sees before sees_later after event note items = (below : ℕ) → MakesBelow below sees before sees_later after event note items

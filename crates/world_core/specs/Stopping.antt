@@ -5,8 +5,9 @@ use Rattle.svc_values.specs.declared.entry.SessionId.{SessionId}
 use Rattle.ltxid_book.specs.Journal.{is_blocked}
 use Rattle.outage_schedule.specs.declared.item.Served.{Served}
 use Rattle.server_model.specs.Laws.{stops_last}
-use Rattle.server_model.specs.Seen.{Store, Seen}
+use Rattle.server_model.specs.Seen.{Store, ServiceState, Seen}
 use Rattle.server_model.specs.ServiceCalls.{with_stop, Gains, Opened, StoppedOpening}
+use Rattle.world_model.specs.CrashCount.{StoppedAt}
 use Rattle.world_model.specs.Crashing.{serves_last}
 use Rattle.world_model.specs.Machines.{Server, Machine}
 use Rattle.world_model.specs.ServiceDid.{front_served}
@@ -42,6 +43,9 @@ pub record ServedLast (seen : Seen) (t : Traced) (number after : ℕ) (items : L
   -- no session of an incarnation to come is in it
   pub later : (session : SessionId) → t.machine.server.incarnation < session.incarnation → life_by new.history session ≡ life_by seen.history session
   pub per_record : new.state.per_record ≡ seen.state.per_record
+  -- a crash behind it is counted as the next one, with the stop of the frame
+  pub crashes : new.state.crashes ≡ seen.state.crashes
+  pub kept : (fallen : ServiceState) → fallen.last_stop ≡ new.state.kept → StoppedAt after items fallen
   pub ready : (new.state.is_spent ≡ false) × (new.state.is_quiet ≡ seen.state.is_quiet) × (new.state.is_opened ≡ seen.state.is_opened) × (new.state.calls ≤ seen.state.calls + 2)
   pub left : (store : Store) → leaves store → (new.state.is_up ≡ true → store ≡ new.state.store) → Gains (front_served t.machine.tick (front_at t.machine.links number) items) seen.state.store store
   pub blocks : (store : Store) → leaves store → (new.state.is_up ≡ true → store ≡ new.state.store) → AreKnown m.server store.blocked

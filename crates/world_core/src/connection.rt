@@ -13,6 +13,7 @@ ghost use Rattle.world_model.specs.Links.{Link, new_link, ends, is_close as is_c
 ghost use Rattle.world_model.specs.Serving.{Front, is_last as is_last_def, front_of, after_front};
 ghost use Rattle.world_model.specs.Cutting.{reached_of, cut_link, reaped_link};
 ghost use Rattle.world_model.specs.Crashing.{fallen_link};
+ghost use Rattle.world_core.specs.CutBytes.{KeepsFirst};
 ghost use Rattle.world_core.specs.Linked.{up_frames, told_by_frame, lives_on, may_be_served, IsLink, GivesFront, GivesReply};
 
 use frame_wire::{DownFeed, UpFeed, any_cut, cut_leaves_whole_frames, encode_down, encode_up};
@@ -175,7 +176,8 @@ impl Connection {
     /// memory.
     pub(crate) fn cut(&mut self, event: u64, up: u64, down: u64) -> Reached
         requires { self.old.ended ≡ None }
-        ensures { (link : Link) → IsLink self.old link → (result ≡ reached_of link up down) × IsLink self.new (cut_link event up down link) }
+        ensures link { (link : Link) → IsLink self.old link → (result ≡ reached_of link up down) × IsLink self.new (cut_link event up down link) }
+        ensures bytes { KeepsFirst up down self.old self.new }
     {
         cut_leaves_whole_frames::<Up>();
         cut_leaves_whole_frames::<Down>();

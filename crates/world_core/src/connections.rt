@@ -13,6 +13,7 @@ ghost use Rattle.world_model.specs.Serving.{Front, is_last as is_last_def, front
 ghost use Rattle.world_model.specs.Finishing.{first_behind};
 ghost use Rattle.world_model.specs.Cutting.{open_at, has_orphan, reaped_link};
 ghost use Rattle.world_model.specs.Crashing.{fallen_link};
+ghost use Rattle.world_core.specs.CutBytes.{KeepsFirstAt};
 ghost use Rattle.world_core.specs.Linked.{up_frames, lives_on, may_be_served, Stand, connection_at, MaySend, IsOpenAt, IsFound, GivesFrontAt, GivesReplyAt, CutsAt};
 
 use crate::connection::Connection;
@@ -177,7 +178,8 @@ impl Connections {
     /// Cuts one, if it is open: of the bytes on their way the first `up` still reach the server and
     /// the first `down` the client. Tells how many that are. It takes no memory.
     pub fn cut(&mut self, number: u64, event: u64, up: u64, down: u64) -> Option<Reached>
-        ensures { (links : List Link) → Stand self.old links → CutsAt links number event up down (open_at links number) result self.new }
+        ensures links { (links : List Link) → Stand self.old links → CutsAt links number event up down (open_at links number) result self.new }
+        ensures bytes { KeepsFirstAt number up down self.old.all.items self.new.all.items }
     {
         let at = self.place(number)?;
         if self.all[at].ended.is_some() {

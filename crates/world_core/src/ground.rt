@@ -8,7 +8,8 @@ ghost use Rattle.world_model.specs.Machines.{Machine};
 ghost use Rattle.world_model.specs.Serving.{front_of};
 ghost use Rattle.world_model.specs.Traced.{Traced};
 ghost use Rattle.world_core.specs.Underway.{IsUnderway};
-ghost use Rattle.world_core.specs.Making.{IsAt, Makes, IsSomewhere};
+ghost use Rattle.world_core.specs.CutBytes.{CutsFirst};
+ghost use Rattle.world_core.specs.Making.{IsAt, Makes, MakesBelow, IsSomewhere};
 
 use crate::answering::frame_name;
 use crate::traffic::Traffic;
@@ -122,7 +123,8 @@ impl<S: Service + Drop> Ground<S> {
     /// server and the first `down` the client.
     pub fn cut(&mut self, connection: u64, up: u64, down: u64) -> Note
         requires events { self.old.traffic.event < 2 ^ 45 }
-        ensures { Makes (S.sees self.old.service) self.old.traffic (S.sees self.new.service) self.new.traffic (Event.Cut connection up down) result [] }
+        ensures made { Makes (S.sees self.old.service) self.old.traffic (S.sees self.new.service) self.new.traffic (Event.Cut connection up down) result [] }
+        ensures bytes { CutsFirst (Event.Cut connection up down) self.old.traffic self.new.traffic }
     {
         orderly_is_kept();
         self.traffic.begin();
@@ -159,7 +161,7 @@ impl<S: Service + Drop> Ground<S> {
         requires events { self.old.traffic.event < 2 ^ 45 }
         requires there { IsSomewhere (S.sees self.old.service) self.old.traffic }
         requires may { MayForget (S.state self.old.service) horizon }
-        ensures { IfOk result (λ note. Makes (S.sees self.old.service) self.old.traffic (S.sees self.new.service) self.new.traffic Event.Up note []) }
+        ensures { IfOk result (λ note. MakesBelow horizon (S.sees self.old.service) self.old.traffic (S.sees self.new.service) self.new.traffic Event.Up note []) }
     {
         orderly_is_kept();
         self.traffic.begin();

@@ -1,9 +1,10 @@
 //! Events that no client makes.
-ghost use Rattle.std.specs.Prelude.{◌≡◌, ◌<◌, ◌+◌, ◌^◌, ℕ, false, IfOk, option_to_list};
+ghost use Rattle.std.specs.Prelude.{◌≡◌, ◌<◌, ◌+◌, ◌^◌, ℕ, false, IfOk, OnOk, option_to_list};
 ghost use Rattle.server_model.specs.ServiceCalls.{MayForget};
 ghost use Rattle.world_model.specs.Matching.{is_go};
 ghost use Rattle.world_core.specs.Allowing.{IsAllowed};
-ghost use Rattle.world_core.specs.Making.{Makes, IsSomewhere};
+ghost use Rattle.world_core.specs.CutBytes.{CutsFirst};
+ghost use Rattle.world_core.specs.Making.{MakesBelow, IsSomewhere};
 
 use crate::ground::Ground;
 use outage_schedule::{Event, Note, Served};
@@ -13,7 +14,7 @@ use svc_values::NoMemory;
 
 impl<S: Service + Drop> Ground<S> {
     /// Makes an event that is no step of a client, with its note and the item of the frame that it served. An opening forgets the
-    /// outcomes of all incarnations below the horizon.
+    /// outcomes of all incarnations below the horizon, and a cut leaves the first of the bytes on their way.
     pub fn make(
         &mut self,
         alloc: Global,
@@ -25,7 +26,8 @@ impl<S: Service + Drop> Ground<S> {
         requires may { MayForget (S.state self.old.service) horizon }
         requires allowed { (clients : ℕ) × IsAllowed clients event.now }
         requires other { is_go event.now ≡ false }
-        ensures { IfOk result (λ made. Makes (S.sees self.old.service) self.old.traffic (S.sees self.new.service) self.new.traffic event.now made.0 (option_to_list made.1)) }
+        ensures made { IfOk result (λ made. MakesBelow horizon (S.sees self.old.service) self.old.traffic (S.sees self.new.service) self.new.traffic event.now made.0 (option_to_list made.1)) }
+        ensures bytes { OnOk result (CutsFirst event.now self.old.traffic self.new.traffic) }
     {
         match event {
             Event::Go { .. } => unreachable!(),

@@ -2,7 +2,7 @@
 ghost use Rattle.std.specs.Prelude.{◌≡◌, ◌+◌, ◌<◌, ◌^◌, false, true, [], OnOk, IfOk};
 ghost use Rattle.server_model.specs.ServiceCalls.{MayForget, is_failover};
 ghost use Rattle.service_calls.specs.Kept.{Goes};
-ghost use Rattle.world_core.specs.Making.{Makes, IsSomewhere};
+ghost use Rattle.world_core.specs.Making.{MakesBelow, IsSomewhere};
 ghost use Rattle.world_core.specs.Stopping.{BegunOpening, IsSeen};
 
 use crate::ground::Ground;
@@ -27,7 +27,7 @@ impl<S: Service + Drop> Ground<S> {
         requires there { IsSomewhere (S.sees self.old.service) self.old.traffic }
         requires may { MayForget (S.state self.old.service) horizon }
         requires one_store { is_failover pick ≡ false }
-        ensures { IfOk result (λ note. Makes (S.sees self.old.service) self.old.traffic (S.sees self.new.service) self.new.traffic (Event.UpCrash after pick) note []) }
+        ensures { IfOk result (λ note. MakesBelow horizon (S.sees self.old.service) self.old.traffic (S.sees self.new.service) self.new.traffic (Event.UpCrash after pick) note []) }
     {
         orderly_is_kept();
         self.traffic.begin();

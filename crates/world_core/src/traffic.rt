@@ -14,6 +14,7 @@ ghost use Rattle.world_model.specs.Acting.{closing};
 ghost use Rattle.world_model.specs.Cutting.{follow_cut, follow_reap};
 ghost use Rattle.world_model.specs.Crashing.{fallen_link};
 ghost use Rattle.world_model.specs.Outside.{ticked, follow_drain};
+ghost use Rattle.world_core.specs.CutBytes.{KeepsFirstAt};
 ghost use Rattle.world_core.specs.Linked.{up_frames, connection_at, MaySend, IsOpenAt};
 ghost use Rattle.world_core.specs.Underway.{AreClosable, all_closed, IsUnderway, Leads, GivesFrontOf, GivesReplyOf, MayRelease, closes_with, IsWritten, IsStopped};
 
@@ -82,7 +83,8 @@ impl Traffic {
     /// Cuts a connection, if it is open, and tells how many of the bytes on their way still arrive.
     /// One that is idle leaves the pool. Linear in the idle connections, and takes no memory.
     pub fn cut(&mut self, number: u64, up: u64, down: u64) -> Option<Reached>
-        ensures { (m : Machine) → IsUnderway self.old m → Leads (follow_cut m number up down result) self.new }
+        ensures machine { (m : Machine) → IsUnderway self.old m → Leads (follow_cut m number up down result) self.new }
+        ensures bytes { KeepsFirstAt number up down self.old.connections.all.items self.new.connections.all.items }
     {
         let reached = self.connections.cut(number, self.event, up, down);
         if reached.is_some() {

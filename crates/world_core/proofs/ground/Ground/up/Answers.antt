@@ -12,7 +12,7 @@ use Rattle.world_core.proofs.ground.Ground.up.Goals as goal
 pub returns-then-is_up : goal.returns-then-is_up
 returns-then-is_up g c = ups_none c.orderly_is_kept.ensures (g.S.Service.sees c.args.self.now.service) c.args.self.now.traffic c.begin.new.self
     (λ seen sees. ap (λ (s : ServiceState). s.is_up) (g.met.S.Service.honest c.args.self.now.service seen sees).state_is ∙ sym c.if-is_up.ensures)
-    c.begin.ensures.begun
+    c.begin.ensures.begun c.args.horizon
 
 pub returns : goal.returns
 returns g c = ups_some c.orderly_is_kept.ensures (g.S.Service.sees c.args.self.now.service) (g.S.Service.sees c.up.new.self) c.args.self.now.traffic c.begin.new.self c.args.horizon c.incarnation-incarnation.result

@@ -8,7 +8,7 @@ use Rattle.world_core.proofs.ground.Ground.up_crash.Goals as goal
 pub returns-then-is_up : goal.returns-then-is_up
 returns-then-is_up g c = crashes_no_opening c.orderly_is_kept.ensures (g.S.Service.sees c.args.self.now.service) c.args.self.now.traffic c.begin.new.self c.args.after c.args.pick
     (λ seen sees. ap (λ (s : ServiceState). s.is_up) (g.met.S.Service.honest c.args.self.now.service seen sees).state_is ∙ sym c.if-is_up.ensures)
-    c.begin.ensures.begun
+    c.begin.ensures.begun c.args.horizon
 
 pub returns : goal.returns
 returns g c = crashes_opening c.orderly_is_kept.ensures (g.S.Service.sees c.args.self.now.service) (g.S.Service.sees c.begin_opening.new.self.service) (g.S.Service.sees c.crash.new.self) (g.S.Service.leaves c.begin_opening.new.self.service) c.args.self.now.traffic c.begin_opening.new.self.traffic c.args.horizon c.args.after c.args.pick
