@@ -6,13 +6,14 @@ use Rattle.ltxid_book.specs.Journal.{is_blocked}
 use Rattle.outage_schedule.specs.declared.document.Client.{Client as Script}
 use Rattle.outage_schedule.specs.declared.document.Document.{Document}
 use Rattle.run_clauses.specs.Before.{journal_before, was_opened}
-use Rattle.run_clauses.specs.Horizons.{Openings, first_opening, ended_before}
+use Rattle.run_clauses.specs.Horizons.{ended_before}
 use Rattle.run_clauses.specs.ServiceBase.{service_base}
 use Rattle.server_model.specs.Base.{Base, IsSound}
 use Rattle.server_model.specs.Seen.{Store, Seen, IsHistory, IsNew}
 use Rattle.server_model.specs.ServiceCalls.{Opened, StoppedOpening}
 use Rattle.service_calls.specs.Kept.{Goes}
 use Rattle.world_model.specs.Coupled.{Coupled, living_of}
+use Rattle.world_model.specs.Forgets.{first_of}
 use Rattle.world_model.specs.Invariant.{Orderly}
 use Rattle.world_model.specs.Links.{Link, link_at}
 use Rattle.world_model.specs.Machines.{per_record_of, start_of}
@@ -86,8 +87,15 @@ module _ (document : Document) (old new : Seen) (fresh : IsNew old) (quiet : old
     blocks = λ x is. or_left (is_blocked (journal_before document).blocked x) false is;
   }
 
+  -- it forgets nothing
+  horizon_first : new.state.store.horizon ≡ (journal_before document).horizon
+  horizon_first =
+      let same : old.state.store.horizon ≡ (journal_before document).horizon = fresh.horizon ∙ ap (λ (base : Base). base.horizon) start in
+      let is = opened.horizon in
+      omega (arith, same, is)
+
   pub reached_first : Reached document [] [] [] new (traced_start document)
-  reached_first = Begins new starts no_history coupled_first
+  reached_first = Begins new starts no_history horizon_first coupled_first
 
   ready_first : IsReady new.state
   ready_first = record {
@@ -111,11 +119,8 @@ module _ (document : Document) (old new : Seen) (fresh : IsNew old) (quiet : old
     }
 
   module _ (S R : Type 0) (sees : S → Seen → Type 0) (rules : R → Rules) (parts : Parts S R) (seen_so : sees parts.service new) (underway : IsUnderway parts.traffic (start_of document)) (orderly : Orderly (traced_start document))
-      (stand : StandEach R rules parts.clients (traced_start document)) (tracks : Tracks document.service.retention parts.openings (first_opening (was_opened document) (journal_before document).incarnation))
+      (stand : StandEach R rules parts.clients (traced_start document)) (tracks : Tracks document.service.retention parts.openings (first_of document))
       (none : (parts.notes ≡ []) × (parts.served ≡ [])) (room : (journal_before document).incarnation ≤ 2 ^ 62) where
-    abbrev first : Openings
-    first = first_opening (was_opened document) (journal_before document).incarnation
-
     pub stands_first : StandsAtStart S R sees rules document.clients document parts
     stands_first = record {
       seen = new;

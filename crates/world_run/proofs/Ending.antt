@@ -1,5 +1,5 @@
 -- The finish of a run: event by event, and how it ends.
-use Rattle.std.proofs.Common.{◌≡◌, sym, ap, subst, ◌∙◌, arith, ℕ, ◌+◌, ◌≤◌, ◌<◌, ◌^◌, List, [], ◌∷◌, ◌++◌, length, Some, None}
+use Rattle.std.proofs.Common.{◌≡◌, refl, sym, ap, subst, ◌∙◌, arith, ℕ, ◌+◌, ◌≤◌, ◌<◌, ◌^◌, List, [], ◌∷◌, ◌++◌, length, Some, None}
 use Rattle.std.proofs.lemmas.List.{length-append, length-map}
 use Rattle.request_bounds.specs.Rules.{Rules}
 use Rattle.outage_schedule.specs.declared.document.Client.{Client as Script}
@@ -8,10 +8,11 @@ use Rattle.outage_schedule.specs.declared.document.Request.{Request}
 use Rattle.outage_schedule.specs.declared.event.Event.{Event}
 use Rattle.outage_schedule.specs.declared.item.Served.{Served}
 use Rattle.outage_schedule.specs.declared.note.Note.{Note}
-use Rattle.run_clauses.specs.Horizons.{Openings}
+use Rattle.run_clauses.specs.Horizons.{Openings, wanted_horizon}
 use Rattle.server_model.specs.Seen.{Seen}
 use Rattle.world_model.specs.FinishEnds.{CanFinish, FinishBegins, FinishFalls, FinishGoesOn}
 use Rattle.world_model.specs.Finishing.{Place, AtServer, next_finish}
+use Rattle.world_model.specs.Forgets.{Forgets, openings_of, first_of}
 use Rattle.world_model.specs.Reached.{IsFinishing, Finishes as FinishesBy}
 use Rattle.world_model.specs.Remaining.{remaining}
 use Rattle.world_model.specs.Traced.{Traced}
@@ -27,7 +28,7 @@ module _ (S R : Type 0) (sees : S → Seen → Type 0) (rules : R → Rules) (sc
     pub can : CanFinish traced place
     pub left : remaining traced.setting traced.machine place + steps ≤ remaining start.setting start.machine AtServer
     pub few : length now.notes ≤ 100000 + steps
-    pub finishing : (document : Document) → IsFinishing document AtServer before.notes before.served seen_before start → IsFinishing document place now.notes now.served seen traced
+    pub finishing : (document : Document) → retention ≡ document.service.retention → first ≡ first_of document → IsFinishing document AtServer before.notes before.served seen_before start → IsFinishing document place now.notes now.served seen traced
 
   -- wherever it began
   abbrev pub Comes : Place → ℕ → Parts S R → Parts S R → Type 0
@@ -41,7 +42,7 @@ module _ (S R : Type 0) (sees : S → Seen → Type 0) (rules : R → Rules) (sc
     can = begins t stands.beside.place.orderly;
     left = omega arith;
     few = omega (arith, few);
-    finishing = λ document is. is;
+    finishing = λ document kept began is. is;
   }
 
   module _ (place : Place) (steps : ℕ) (before now : Parts S R) (comes : Comes place steps before now) where
@@ -66,10 +67,12 @@ module _ (S R : Type 0) (sees : S → Seen → Type 0) (rules : R → Rules) (sc
                 let many : length after.notes ≡ length now.notes + 1 = ap (λ (notes : List Note). length notes) step.notes ∙ length-append now.notes (step.note ∷ []) in
                 let few = come.few in
                 omega (arith, many, few);
-            finishing = λ document so.
+            finishing = λ document kept began so.
                 subst (λ (notes : List Note). IsFinishing document next notes after.served step.seen_later step.later) (sym step.notes)
                 (subst (λ (served : List Served). IsFinishing document next (now.notes ++ step.note ∷ []) served step.seen_later step.later) (sym step.served)
-                (FinishesBy place next now.notes now.served step.items come.seen step.seen_later come.traced step.later event step.note (come.finishing document so) is step.made));
+                (FinishesBy place next now.notes now.served step.items come.seen step.seen_later come.traced step.later event step.note (come.finishing document kept began so) is step.made
+                (subst (λ (first : Openings). Forgets (wanted_horizon document.service.retention (openings_of first now.notes)) step.note come.seen.state.store step.seen_later.state.store) began
+                (subst (λ (retention : ℕ). Forgets (wanted_horizon retention (openings_of first now.notes)) step.note come.seen.state.store step.seen_later.state.store) kept step.forgets))));
           }
 
       pub comes_further : Comes next (steps + 1) before after
@@ -80,13 +83,13 @@ module _ (S R : Type 0) (sees : S → Seen → Type 0) (rules : R → Rules) (sc
     -- THE END -------------------------------------------------------------------------------------
 
     pub comes_to_end : ((seen : Seen) (t : Traced) → StandBeside S R sees rules scripts now seen t → None ≡ next_finish t.machine place) → Finishes S R sees rules scripts before now
-    comes_to_end is_last retention first document seen t stands so =
-        let come = comes retention first seen t stands in
+    comes_to_end is_last document seen t stands so =
+        let come = comes document.service.retention (first_of document) seen t stands in
         record {
           seen = come.seen;
           traced = come.traced;
           stands = come.stands;
-          run = record { place = place; finishing = come.finishing document so; over = sym (is_last come.seen come.traced come.stands.beside) };
+          run = record { place = place; finishing = come.finishing document refl refl so; over = sym (is_last come.seen come.traced come.stands.beside) };
         }
 
     -- WHEREVER IT IS ------------------------------------------------------------------------------

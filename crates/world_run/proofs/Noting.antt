@@ -4,15 +4,10 @@ use Rattle.std.specs.Prelude.{nat_lt, Bool, true, false, if◌then◌else◌}
 use Rattle.outage_schedule.specs.declared.note.Note.{Note}
 use Rattle.outage_schedule.specs.declared.note.Note.TheVariants as notes
 use Rattle.run_clauses.specs.Horizons.{Ended, Openings, end_at, after_note, wanted_horizon}
+use Rattle.world_model.specs.Forgets.{openings_of}
+use Rattle.world_model.proofs.Offered.{horizon_of, horizon_more, share}
 use Rattle.world_core.specs.Forgetting.{NotesOpening}
-use Rattle.world_run.specs.Running.{AllBy, AreKnown, openings_of}
-use Rattle.world_core.proofs.Offered.{horizon_of, horizon_more, share}
-
--- ONE NOTE MORE -----------------------------------------------------------------------------------
-
-pub openings_more : (first : Openings) (before : List Note) (note : Note) → openings_of first (before ++ note ∷ []) ≡ after_note (openings_of first before) note
-openings_more first [] note = refl
-openings_more first (one ∷ before) note = openings_more (after_note first one) before note
+use Rattle.world_run.specs.Running.{AllBy, AreKnown}
 
 -- TICKS -------------------------------------------------------------------------------------------
 

@@ -16,14 +16,16 @@ use Rattle.world_model.specs.Settings.{Setting}
 use Rattle.world_model.specs.Matching.{is_go}
 use Rattle.world_model.specs.Traced.{Traced}
 use Rattle.world_model.specs.Walking.{follow}
-use Rattle.world_model.proofs.Offered.{opens_once, opens_noted}
+use Rattle.world_model.specs.Forgets.{Forgets, openings_of}
+use Rattle.world_model.proofs.Offered.{opens_once, opens_noted, openings_more}
 use Rattle.world_core.specs.declared.traffic.Traffic.{Traffic}
 use Rattle.world_core.specs.Among.{StandEach, StayEach, SomeAmong, MakesAmong}
 use Rattle.world_core.specs.Coursing.{Held}
+use Rattle.world_core.specs.CutBytes.{CutsFirst}
 use Rattle.world_core.specs.Forgetting.{Held as Tracked, Tracks, IsTracked, NotesOpening}
-use Rattle.world_core.specs.Making.{IsAt, IsSomewhere, Makes}
-use Rattle.world_run.specs.Running.{AreKnown, Parts, Notes, StandBeside, Stands, StandsSomewhere, IsLed, Leads, GoesOn, MakesOne, openings_of, last_incarnation}
-use Rattle.world_run.proofs.Noting.{few_ticks, known_more, known_wants, openings_more}
+use Rattle.world_core.specs.Making.{IsAt, IsSomewhere, MakesBelow}
+use Rattle.world_run.specs.Running.{AreKnown, Parts, Notes, StandBeside, Stands, StandsSomewhere, IsLed, Leads, GoesOn, MakesOne, last_incarnation}
+use Rattle.world_run.proofs.Noting.{few_ticks, known_more, known_wants}
 
 -- a fact on the incarnation of an opening that is noted
 notes_so : (Holds : ℕ → Type 0) (note : Note) → ((incarnation : ℕ) → note ≡ notes.Up (Some incarnation) → Holds incarnation) → NotesOpening Holds note
@@ -80,6 +82,7 @@ module _ (S R : Type 0) (sees : S → Seen → Type 0) (rules : R → Rules) (sc
         seen_later = step.seen_later;
         later = step.later;
         made = step.made;
+        forgets = λ retention told tracks. step.forgets (wanted_horizon retention told);
         beside = record { place = step.place; scripted = ap (λ (s : Setting). s.scripts) step.made.setting ∙ beside.scripted; stand = step.stand };
         same = same;
       }
@@ -94,19 +97,24 @@ module _ (S R : Type 0) (sees : S → Seen → Type 0) (rules : R → Rules) (sc
   if_led inside before after number same (Ok note) makes keeps = subst (λ (parts : Parts S R). Leads S R sees rules scripts (events.Go number) note [] parts after) same (led_by_client number note inside after makes keeps)
   if_led inside before after number same (Err e) makes keeps = tt
 
+  -- the openings so far want this horizon
+  abbrev pub Wants : ℕ → Parts S R → Type 0
+  Wants below parts = (retention : ℕ) (told : Openings) → Tracks retention parts.openings told → below ≡ wanted_horizon retention told
+
   -- another event did
-  pub led_by_event : StayEach R rules → (event : Event) (note : Note) (items : List Served) (before after : Parts S R) → is_go event ≡ false → Makes (sees before.service) before.traffic (sees after.service) after.traffic event note items
+  pub led_by_event : StayEach R rules → (event : Event) (note : Note) (items : List Served) (below : ℕ) (before after : Parts S R) → is_go event ≡ false → Wants below before → MakesBelow below (sees before.service) before.traffic (sees after.service) after.traffic event note items
       → after.clients ≡ before.clients → KeepsRest before after → Leads S R sees rules scripts event note items before after
-  led_by_event stay event note items before after other makes clients same seen t beside =
+  led_by_event stay event note items below before after other wants makes clients same seen t beside =
       let made = makes seen t beside.place in
       record {
-        seen_later = made.0;
-        later = made.1.0;
-        made = made.1.1.0;
+        seen_later = made.seen_later;
+        later = made.later;
+        made = made.made;
+        forgets = λ retention told tracks. subst (λ (horizon : ℕ). Forgets horizon note seen.state.store made.seen_later.state.store) (wants retention told tracks) made.forgets;
         beside = record {
-          place = made.1.1.1;
-          scripted = ap (λ (s : Setting). s.scripts) made.1.1.0.setting ∙ beside.scripted;
-          stand = subst (λ (held : List (Held R)). StandEach R rules held made.1.0) (sym clients) (stay seen made.0 t made.1.0 event note items [] before.clients made.1.1.0 other beside.stand);
+          place = made.place;
+          scripted = ap (λ (s : Setting). s.scripts) made.made.setting ∙ beside.scripted;
+          stand = subst (λ (held : List (Held R)). StandEach R rules held made.later) (sym clients) (stay seen made.seen_later t made.later event note items [] before.clients made.made other beside.stand);
         };
         same = same;
       }
@@ -123,18 +131,18 @@ module _ (S R : Type 0) (sees : S → Seen → Type 0) (rules : R → Rules) (sc
 
   -- what is wanted may be forgotten
   pub may_forget : (parts : Parts S R) (state : ServiceState) (wanted : ℕ) → StandsSomewhere S R sees rules scripts parts → ((seen : Seen) → sees parts.service seen → seen.state ≡ state)
-      → ((retention : ℕ) (told : Openings) → Tracks retention parts.openings told → wanted ≡ wanted_horizon retention told) → MayForget state wanted
+      → Wants wanted parts → MayForget state wanted
   may_forget parts state wanted is honest wants =
       let same = wants is.retention (openings_of is.first parts.notes) is.stands.tracked in
       let known = known_wants is.retention is.seen.state.store.incarnation (openings_of is.first parts.notes) is.stands.known in
       subst (λ (s : ServiceState). MayForget s wanted) (honest is.seen is.stands.beside.place.seen_so) (omega (arith, same, known))
 
-  pub if_made : {E : Type 0} (inside before after : Parts S R) (event : Event) → inside ≡ before → StayEach R rules → is_go event ≡ false → (result : Result (Note × Option Served) E)
-      → IfOk result (λ made. Makes (sees inside.service) inside.traffic (sees after.service) after.traffic event made.0 (option_to_list made.1)) → after.clients ≡ inside.clients → KeepsRest inside after
+  pub if_made : {E : Type 0} (inside before after : Parts S R) (event : Event) (below : ℕ) → inside ≡ before → StayEach R rules → is_go event ≡ false → Wants below inside → (result : Result (Note × Option Served) E)
+      → IfOk result (λ made. MakesBelow below (sees inside.service) inside.traffic (sees after.service) after.traffic event made.0 (option_to_list made.1)) → after.clients ≡ inside.clients → KeepsRest inside after
       → IfOk result (λ made. Leads S R sees rules scripts event made.0 (option_to_list made.1) before after)
-  if_made inside before after event same stay other (Ok made) makes clients keeps =
-      subst (λ (parts : Parts S R). Leads S R sees rules scripts event made.0 (option_to_list made.1) parts after) same (led_by_event stay event made.0 (option_to_list made.1) inside after other makes clients keeps)
-  if_made inside before after event same stay other (Err e) makes clients keeps = tt
+  if_made inside before after event below same stay other wants (Ok made) makes clients keeps =
+      subst (λ (parts : Parts S R). Leads S R sees rules scripts event made.0 (option_to_list made.1) parts after) same (led_by_event stay event made.0 (option_to_list made.1) below inside after other wants makes clients keeps)
+  if_made inside before after event below same stay other wants (Err e) makes clients keeps = tt
 
   module _ (retention : ℕ) (first : Openings) (event : Event) (note : Note) (items : List Served) (before led : Parts S R) (seen : Seen) (t : Traced) (stands : Stands S R sees rules scripts retention first before seen t)
       (is_led : IsLed S R sees rules scripts event note items before led seen t) (few : length before.notes < 2 ^ 45) where
@@ -180,6 +188,7 @@ module _ (S R : Type 0) (sees : S → Seen → Type 0) (rules : R → Rules) (sc
         note = note;
         items = items;
         made = is_led.made;
+        forgets = is_led.forgets retention (openings_of first before.notes) stands.tracked;
         stands = record {
           beside = beside_same led after is_led.seen_later is_led.later noted.same is_led.beside;
           counted = once.0 ∙ ap (λ (n : ℕ). n + 1) stands.counted ∙ sym many;
@@ -201,3 +210,9 @@ module _ (S R : Type 0) (sees : S → Seen → Type 0) (rules : R → Rules) (sc
       let is_led = leads seen t stands.beside in
       goes_on retention first event note items before led seen t stands is_led few after noted is_led.made.rises
   if_onward event note items before led after (Err e) leads few noted = tt
+
+  -- what a cut left is so behind its note
+  pub if_cut : {A E : Type 0} (event : Event) (note : Note) (items : List Served) (before led after : Parts S R) (result : Result A E) → CutsFirst event before.traffic led.traffic → OnOk result (Notes note items led after)
+      → OnOk result (CutsFirst event before.traffic after.traffic)
+  if_cut event note items before led after (Ok done) cuts noted = subst (λ (traffic : Traffic). CutsFirst event before.traffic traffic) (sym noted.same.1) cuts
+  if_cut event note items before led after (Err e) cuts noted = tt

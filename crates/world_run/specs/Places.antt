@@ -6,6 +6,7 @@ use Rattle.outage_schedule.specs.declared.document.Document.{Document}
 use Rattle.outage_schedule.specs.declared.event.Event.{Event}
 use Rattle.run_clauses.specs.Horizons.{Openings}
 use Rattle.server_model.specs.Seen.{Seen}
+use Rattle.world_model.specs.Forgets.{first_of}
 use Rattle.world_model.specs.Finishing.{Place, AtServer, AtOrphans, AtRound, AtClients, AtLinks}
 use Rattle.world_model.specs.Reached.{IsFinishing, IsRun}
 use Rattle.world_model.specs.Remaining.{remaining}
@@ -36,14 +37,13 @@ module _ (S R : Type 0) (sees : S → Seen → Type 0) (rules : R → Rules) (sc
     pub short : remaining traced.setting traced.machine AtServer ≤ 2 ^ 44
 
   -- a whole run of the document
-  pub record IsOver (retention : ℕ) (first : Openings) (document : Document) (parts : Parts S R) : Type 0 where
+  pub record IsOver (document : Document) (parts : Parts S R) : Type 0 where
     pub seen : Seen
     pub traced : Traced
-    pub stands : Stands S R sees rules scripts retention first parts seen traced
+    pub stands : Stands S R sees rules scripts document.service.retention (first_of document) parts seen traced
     pub run : IsRun document parts.notes parts.served seen traced
 
   -- wherever the schedule of a document has led to, the finish leads on to the end of its run
   abbrev pub Finishes : Parts S R → Parts S R → Type 0
   Finishes before after =
-      (retention : ℕ) (first : Openings) (document : Document) (seen : Seen) (t : Traced) → Stands S R sees rules scripts retention first before seen t
-      → IsFinishing document AtServer before.notes before.served seen t → IsOver retention first document after
+      (document : Document) (seen : Seen) (t : Traced) → Stands S R sees rules scripts document.service.retention (first_of document) before seen t → IsFinishing document AtServer before.notes before.served seen t → IsOver document after

@@ -1,12 +1,13 @@
 -- How a run so far stands for where the machine of its document has come to.
-use Rattle.std.specs.Prelude.{◌≡◌, ◌+◌, ◌≤◌, ◌^◌, ℕ, List, [], ◌∷◌, ◌++◌, fold, length, Some}
+use Rattle.std.specs.Prelude.{◌≡◌, ◌+◌, ◌≤◌, ◌^◌, ℕ, List, [], ◌∷◌, ◌++◌, length, Some}
 use Rattle.request_bounds.specs.Rules.{Rules}
 use Rattle.outage_schedule.specs.declared.document.Client.{Client as Script}
 use Rattle.outage_schedule.specs.declared.event.Event.{Event}
 use Rattle.outage_schedule.specs.declared.item.Served.{Served}
 use Rattle.outage_schedule.specs.declared.note.Note.{Note}
-use Rattle.run_clauses.specs.Horizons.{Ended, Openings, after_note}
+use Rattle.run_clauses.specs.Horizons.{Ended, Openings, after_note, wanted_horizon}
 use Rattle.server_model.specs.Seen.{Seen}
+use Rattle.world_model.specs.Forgets.{Forgets, openings_of}
 use Rattle.world_model.specs.Machines.{Server}
 use Rattle.world_model.specs.OneEvent.{OneEvent}
 use Rattle.world_model.specs.Traced.{Traced}
@@ -36,10 +37,6 @@ pub record Parts (S R : Type 0) : Type 0 where
   pub openings : Tracked
   pub notes : List Note
   pub served : List Served
-
--- the openings that the notes of a run tell
-abbrev pub openings_of : Openings → List Note → Openings
-openings_of first notes = fold after_note first notes
 
 -- the last incarnation that the store may have
 abbrev pub last_incarnation : Server → ℕ
@@ -84,19 +81,23 @@ module _ (S R : Type 0) (sees : S → Seen → Type 0) (rules : R → Rules) (sc
     pub seen_later : Seen
     pub later : Traced
     pub made : OneEvent seen t event note items [] seen_later later
+    -- an opening asked for the horizon that the openings so far want
+    pub forgets : (retention : ℕ) (told : Openings) → Tracks retention before.openings told → Forgets (wanted_horizon retention told) note seen.state.store seen_later.state.store
     pub beside : StandBeside after seen_later later
     pub same : (after.openings ≡ before.openings) × (after.notes ≡ before.notes) × (after.served ≡ before.served)
 
   abbrev pub Leads : Event → Note → List Served → Parts S R → Parts S R → Type 0
   Leads event note items before after = (seen : Seen) (t : Traced) → StandBeside before seen t → IsLed event note items before after seen t
 
-  -- The event was made: machine and service went on by it, with one note more, and the items that it served.
+  -- The event was made: machine and service went on by it, with one note more, and the items that it served. An opening forgot what is
+  -- wanted then.
   pub record GoesOn (retention : ℕ) (first : Openings) (event : Event) (before after : Parts S R) (seen : Seen) (t : Traced) : Type 0 where
     pub seen_later : Seen
     pub later : Traced
     pub note : Note
     pub items : List Served
     pub made : OneEvent seen t event note items [] seen_later later
+    pub forgets : Forgets (wanted_horizon retention (openings_of first before.notes)) note seen.state.store seen_later.state.store
     pub stands : Stands retention first after seen_later later
     pub notes : after.notes ≡ before.notes ++ note ∷ []
     pub served : after.served ≡ before.served ++ items

@@ -5,10 +5,10 @@ use Rattle.outage_schedule.specs.declared.document.Client.{Client as Script}
 use Rattle.outage_schedule.specs.declared.document.Document.{Document}
 use Rattle.outage_schedule.specs.declared.document.ServiceOf.{ServiceOf}
 use Rattle.run_clauses.specs.Before.{journal_before, was_opened}
-use Rattle.run_clauses.specs.Horizons.{first_opening}
 use Rattle.run_clauses.specs.ServiceBase.{service_base}
 use Rattle.server_model.specs.Base.{IsSound}
 use Rattle.server_model.specs.Seen.{Seen, IsNew}
+use Rattle.world_model.specs.Forgets.{first_of}
 use Rattle.world_model.specs.Machines.{per_record_of}
 use Rattle.world_model.specs.Reached.{Reached, traced_start}
 use Rattle.world_model.specs.Ready.{all_have_calls}
@@ -44,5 +44,5 @@ pub record HasRoom (of : ServiceOf) : Type 0 where
 pub record StandsAtStart (S R : Type 0) (sees : S → Seen → Type 0) (rules : R → Rules) (scripts : List Script) (document : Document) (parts : Parts S R) : Type 0 where
   pub seen : Seen
   pub reached : Reached document [] [] [] seen (traced_start document)
-  pub stands : Stands S R sees rules scripts document.service.retention (first_opening (was_opened document) (journal_before document).incarnation) parts seen (traced_start document)
+  pub stands : Stands S R sees rules scripts document.service.retention (first_of document) parts seen (traced_start document)
   pub none : (parts.notes ≡ []) × (parts.served ≡ [])

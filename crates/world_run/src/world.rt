@@ -8,6 +8,7 @@ ghost use Rattle.world_core.specs.Among.{IsFitScript};
 ghost use Rattle.world_run.specs.Starting.{IsOf, IsOfSome, HasRoom, StandsAtStart};
 ghost use Rattle.world_core.specs.Forgetting.{IsTracked, NotesOpening};
 ghost use Rattle.world_core.specs.Allowing.{IsAllowed};
+ghost use Rattle.world_core.specs.CutBytes.{CutsFirst};
 ghost use Rattle.world_run.specs.Running.{StandsSomewhere, Leads, MakesOne, Notes};
 
 use outage_schedule::{
@@ -137,7 +138,8 @@ impl<S: Service + Drop, R: BoundRule + Copy> World<S, R> {
         requires there { StandsSomewhere S R S.sees (λ rule. R.rules rule) scripts.now self.old }
         requires fit { AllByRecursion IsFitScript scripts.now }
         requires allowed { IsAllowed (length scripts.now) event.now }
-        ensures { IfOk result (λ made. Leads S R S.sees (λ rule. R.rules rule) scripts.now event.now made.0 (option_to_list made.1) self.old self.new) }
+        ensures made { IfOk result (λ made. Leads S R S.sees (λ rule. R.rules rule) scripts.now event.now made.0 (option_to_list made.1) self.old self.new) }
+        ensures bytes { OnOk result (CutsFirst event.now self.old.traffic self.new.traffic) }
     {
         clients_stay::<R>();
         let Event::Go { client } = event else {
@@ -163,14 +165,16 @@ impl<S: Service + Drop, R: BoundRule + Copy> World<S, R> {
         Ok(())
     }
 
-    /// Makes one event. Beside what the service does it costs the logarithm of the connections and the bytes that are
-    /// moved.
+    /// Makes one event. An opening stores the horizon that is wanted then, each crash is counted with its pick and its stop, and a
+    /// cut leaves exactly the first bytes that it names. Beside what the service does it costs the logarithm of the connections
+    /// and the bytes that are moved.
     pub fn step(&mut self, alloc: Global, scripts: &[Script], event: &Event) -> Result<(), NoMemory>
         requires events { length self.old.notes < 2 ^ 45 }
         requires there { StandsSomewhere S R S.sees (λ rule. R.rules rule) scripts.now self.old }
         requires fit { AllByRecursion IsFitScript scripts.now }
         requires allowed { IsAllowed (length scripts.now) event.now }
-        ensures { OnOk result (MakesOne S R S.sees (λ rule. R.rules rule) scripts.now event.now self.old self.new) }
+        ensures made { OnOk result (MakesOne S R S.sees (λ rule. R.rules rule) scripts.now event.now self.old self.new) }
+        ensures bytes { OnOk result (CutsFirst event.now self.old.traffic self.new.traffic) }
     {
         let (note, served) = self.make(alloc, scripts, event)?;
         self.note(note, served)

@@ -20,7 +20,7 @@ pub step-requires-clause-there : goal.step-requires-clause-there
 step-requires-clause-there g c = somewhere _ _ g.S.Service.sees (λ rule. g.R.BoundRule.rules rule) c.args.scripts.now (place_of c.loop.place) c.loop.counter c.args.self.now c.loop.self c.loop.invariant c.requires.short
 
 pub loop-preserved : goal.loop-preserved
-loop-preserved g c = comes_further _ _ g.S.Service.sees (λ rule. g.R.BoundRule.rules rule) c.args.scripts.now (place_of c.loop.place) c.loop.counter c.args.self.now c.loop.self c.loop.invariant c.finish_falls.ensures c.finish_goes_on.ensures.event c.in-Some.event (place_of c.in-Some.next) c.step.new.self (λ seen t is. sym (ap (option_map led_to) c.in-Some.is) ∙ c.next_event.ensures.next seen t is) c.in_ok-step.ensures
+loop-preserved g c = comes_further _ _ g.S.Service.sees (λ rule. g.R.BoundRule.rules rule) c.args.scripts.now (place_of c.loop.place) c.loop.counter c.args.self.now c.loop.self c.loop.invariant c.finish_falls.ensures c.finish_goes_on.ensures.event c.in-Some.event (place_of c.in-Some.next) c.step.new.self (λ seen t is. sym (ap (option_map led_to) c.in-Some.is) ∙ c.next_event.ensures.next seen t is) c.in_ok-step.ensures.made
 
 pub unreachable-requires : goal.unreachable-requires
 unreachable-requires g c =

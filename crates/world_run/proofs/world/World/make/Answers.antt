@@ -1,6 +1,9 @@
-use Rattle.std.proofs.Common.{◌<◌, ◌^◌, refl, sym, subst, [], length}
+use Rattle.std.proofs.Common.{◌<◌, ◌^◌, refl, sym, ap, subst, [], length}
+use Rattle.std.specs.Prelude.{OnOk}
 use Rattle.outage_schedule.specs.declared.event.Event.{Event}
-use Rattle.world_run.specs.Running.{Leads}
+use Rattle.world_core.specs.CutBytes.{CutsFirst}
+use Rattle.world_core.proofs.Offered.{is_cut, never_cuts}
+use Rattle.world_run.specs.Running.{Leads, Parts}
 use Rattle.world_run.proofs.Onward.{few_events, if_made, is_somewhere, may_forget, not_go, standing_in}
 use Rattle.world_run.proofs.world.World.make.Goals as goal
 
@@ -15,9 +18,16 @@ make-requires g c =
       other = not_go c.args.event.now c.in_default.not-Go;
     }
 
-pub returns-in_default : goal.returns-in_default
-returns-in_default g c = if_made _ _ g.S.Service.sees (λ rule. g.R.BoundRule.rules rule) c.args.scripts.now _ _ _ c.args.event.now c.self.view_is c.clients_stay.ensures (not_go c.args.event.now c.in_default.not-Go) c.make.result c.make.ensures refl (refl, refl, refl)
+pub returns-in_default-clause-made : goal.returns-in_default-clause-made
+returns-in_default-clause-made g c = if_made _ _ g.S.Service.sees (λ rule. g.R.BoundRule.rules rule) c.args.scripts.now _ _ _ c.args.event.now c.wanted-horizon.result c.self.view_is c.clients_stay.ensures (not_go c.args.event.now c.in_default.not-Go) c.wanted-horizon.ensures c.make.result c.make.ensures.made refl (refl, refl, refl)
 
-pub returns : goal.returns
-returns g c =
+pub returns-clause-made : goal.returns-clause-made
+returns-clause-made g c =
     subst (λ (event : Event). Leads _ _ g.S.Service.sees (λ rule. g.R.BoundRule.rules rule) c.args.scripts.now event c.in_ok-note.note [] c.args.self.now c.go.new.self) (sym c.in-Go.is) c.in_ok-note.ensures
+
+pub returns-in_default-clause-bytes : goal.returns-in_default-clause-bytes
+returns-in_default-clause-bytes g c = subst (λ (parts : Parts g.row.S.Denot g.row.R.Denot). OnOk c.make.result (CutsFirst c.args.event.now parts.traffic c.make.new.self.traffic)) c.self.view_is c.make.ensures.bytes
+
+-- a step of a client is no cut
+pub returns-clause-bytes : goal.returns-clause-bytes
+returns-clause-bytes g c = never_cuts c.args.event.now _ _ (ap is_cut c.in-Go.is)
