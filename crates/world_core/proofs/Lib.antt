@@ -24,6 +24,7 @@ pub mod Forgetting
 pub mod Linking
 pub mod Standing
 pub mod Underway
+pub mod Bases
 pub mod Readiness
 pub mod Coupling
 pub mod Reaping

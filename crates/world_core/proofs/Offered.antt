@@ -4,3 +4,5 @@
 pub use Rattle.world_core.proofs.Readiness.{stops_only}
 -- an event that is no cut
 pub use Rattle.world_core.proofs.FirstBytes.{is_cut, never_cuts}
+-- one base over several calls of a service
+pub use Rattle.world_core.proofs.Bases.{one_base_kept, one_base_on}

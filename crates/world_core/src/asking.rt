@@ -1,6 +1,7 @@
 //! Questions from outside.
-ghost use Rattle.std.specs.Prelude.{◌<◌, ◌^◌, [], IfOk};
+ghost use Rattle.std.specs.Prelude.{◌<◌, ◌^◌, [], IfOk, OnOk};
 ghost use Rattle.svc_values.specs.Identifiers.{IsLtxid};
+ghost use Rattle.service_calls.specs.Kept.{HaveOneBase};
 ghost use Rattle.world_core.specs.Making.{Makes, IsSomewhere};
 
 use crate::answering::result_of;
@@ -19,7 +20,8 @@ impl<S: Service + Drop> Ground<S> {
         requires events { self.old.traffic.event < 2 ^ 45 }
         requires there { IsSomewhere (S.sees self.old.service) self.old.traffic }
         requires identifier { IsLtxid ltxid }
-        ensures { IfOk result (λ note. Makes (S.sees self.old.service) self.old.traffic (S.sees self.new.service) self.new.traffic (Event.Ask ltxid) note []) }
+        ensures made { IfOk result (λ note. Makes (S.sees self.old.service) self.old.traffic (S.sees self.new.service) self.new.traffic (Event.Ask ltxid) note []) }
+        ensures base { OnOk result (HaveOneBase (S.bytes self.old.service) (S.bytes self.new.service)) }
     {
         compares_exactly();
         orderly_is_kept();

@@ -1,7 +1,8 @@
 //! All clients of a run.
-ghost use Rattle.std.specs.Prelude.{◌<◌, ◌≤◌, ◌^◌, length, IfOk};
+ghost use Rattle.std.specs.Prelude.{◌<◌, ◌≤◌, ◌^◌, length, IfOk, OnOk};
 ghost use Rattle.std.specs.List.{AllByRecursion};
 ghost use Rattle.driver_core.specs.Driving.{terms_of};
+ghost use Rattle.service_calls.specs.Kept.{HaveOneBase};
 ghost use Rattle.world_core.specs.Among.{IsFitScript, SomeAmong, MakesAmong, StayEach, BeginEach};
 
 use crate::client::Client;
@@ -51,7 +52,8 @@ impl<S: Service + Drop> Ground<S> {
         requires there { SomeAmong R (λ rule. R.rules rule) (S.sees self.old.service) scripts.now self.old.traffic clients.old.items }
         requires fit { AllByRecursion IsFitScript scripts.now }
         requires numbered { (0 < number) × (number ≤ length scripts.now) }
-        ensures { IfOk result (λ note. MakesAmong R (λ rule. R.rules rule) (S.sees self.old.service) self.old.traffic (S.sees self.new.service) self.new.traffic scripts.now number clients.old.items clients.new.items note) }
+        ensures made { IfOk result (λ note. MakesAmong R (λ rule. R.rules rule) (S.sees self.old.service) self.old.traffic (S.sees self.new.service) self.new.traffic scripts.now number clients.old.items clients.new.items note) }
+        ensures base { OnOk result (HaveOneBase (S.bytes self.old.service) (S.bytes self.new.service)) }
     {
         let at = (number - 1) as usize;
         let script = &scripts[at];

@@ -1,5 +1,6 @@
 //! Crashes.
-ghost use Rattle.std.specs.Prelude.{◌≡◌, ◌<◌, ◌^◌, true, IfOk, option_to_list};
+ghost use Rattle.std.specs.Prelude.{◌≡◌, ◌<◌, ◌^◌, true, IfOk, OnOk, option_to_list};
+ghost use Rattle.service_calls.specs.Kept.{HaveOneBase};
 ghost use Rattle.world_core.specs.Making.{Makes, IsSomewhere};
 ghost use Rattle.world_core.specs.Stopping.{LeadsLast};
 
@@ -24,7 +25,8 @@ impl<S: Service + Drop> Ground<S> {
     ) -> Result<(Note, Option<Served>), NoMemory>
         requires events { self.old.traffic.event < 2 ^ 45 }
         requires there { IsSomewhere (S.sees self.old.service) self.old.traffic }
-        ensures { IfOk result (λ made. Makes (S.sees self.old.service) self.old.traffic (S.sees self.new.service) self.new.traffic (Event.Crash connection after pick) made.0 (option_to_list made.1)) }
+        ensures made { IfOk result (λ made. Makes (S.sees self.old.service) self.old.traffic (S.sees self.new.service) self.new.traffic (Event.Crash connection after pick) made.0 (option_to_list made.1)) }
+        ensures base { OnOk result (HaveOneBase (S.bytes self.old.service) (S.bytes self.new.service)) }
     {
         orderly_is_kept();
         if !self.service.is_up() {
@@ -56,7 +58,8 @@ impl<S: Service + Drop> Ground<S> {
         requires events { self.old.traffic.event < 2 ^ 45 }
         requires there { IsSomewhere (S.sees self.old.service) self.old.traffic }
         requires up { (S.state self.old.service).is_up ≡ true }
-        ensures { IfOk result (λ served. LeadsLast (S.sees self.old.service) self.old.traffic (S.sees self.new.service) (S.leaves self.new.service) self.new.traffic connection after (option_to_list served)) }
+        ensures led { IfOk result (λ served. LeadsLast (S.sees self.old.service) self.old.traffic (S.sees self.new.service) (S.leaves self.new.service) self.new.traffic connection after (option_to_list served)) }
+        ensures base { OnOk result (HaveOneBase (S.bytes self.old.service) (S.bytes self.new.service)) }
     {
         compares_exactly();
         self.traffic.begin();

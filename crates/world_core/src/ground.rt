@@ -1,7 +1,8 @@
 //! The service of a run, and the traffic to it.
-ghost use Rattle.std.specs.Prelude.{◌≡◌, ◌<◌, ◌^◌, [], IfOk, is_some, option_to_list};
+ghost use Rattle.std.specs.Prelude.{◌≡◌, ◌<◌, ◌^◌, [], IfOk, OnOk, is_some, option_to_list};
 ghost use Rattle.server_model.specs.Seen.{Seen};
 ghost use Rattle.server_model.specs.ServiceCalls.{MayForget};
+ghost use Rattle.service_calls.specs.Kept.{HaveOneBase};
 ghost use Rattle.world_model.specs.Finishing.{first_behind};
 ghost use Rattle.world_model.specs.Links.{is_orphan};
 ghost use Rattle.world_model.specs.Machines.{Machine};
@@ -72,7 +73,8 @@ impl<S: Service + Drop> Ground<S> {
     pub fn tick(&mut self) -> Note
         requires events { self.old.traffic.event < 2 ^ 45 }
         requires there { IsSomewhere (S.sees self.old.service) self.old.traffic }
-        ensures { Makes (S.sees self.old.service) self.old.traffic (S.sees self.new.service) self.new.traffic Event.Tick result [] }
+        ensures made { Makes (S.sees self.old.service) self.old.traffic (S.sees self.new.service) self.new.traffic Event.Tick result [] }
+        ensures base { HaveOneBase (S.bytes self.old.service) (S.bytes self.new.service) }
     {
         orderly_is_kept();
         self.traffic.begin();
@@ -89,7 +91,8 @@ impl<S: Service + Drop> Ground<S> {
     ) -> Result<(Note, Option<Served>), NoMemory>
         requires events { self.old.traffic.event < 2 ^ 45 }
         requires there { IsSomewhere (S.sees self.old.service) self.old.traffic }
-        ensures { IfOk result (λ made. Makes (S.sees self.old.service) self.old.traffic (S.sees self.new.service) self.new.traffic (Event.Serve connection) made.0 (option_to_list made.1)) }
+        ensures made { IfOk result (λ made. Makes (S.sees self.old.service) self.old.traffic (S.sees self.new.service) self.new.traffic (Event.Serve connection) made.0 (option_to_list made.1)) }
+        ensures base { OnOk result (HaveOneBase (S.bytes self.old.service) (S.bytes self.new.service)) }
     {
         compares_exactly();
         orderly_is_kept();
@@ -125,6 +128,7 @@ impl<S: Service + Drop> Ground<S> {
         requires events { self.old.traffic.event < 2 ^ 45 }
         ensures made { Makes (S.sees self.old.service) self.old.traffic (S.sees self.new.service) self.new.traffic (Event.Cut connection up down) result [] }
         ensures bytes { CutsFirst (Event.Cut connection up down) self.old.traffic self.new.traffic }
+        ensures base { HaveOneBase (S.bytes self.old.service) (S.bytes self.new.service) }
     {
         orderly_is_kept();
         self.traffic.begin();
@@ -138,7 +142,8 @@ impl<S: Service + Drop> Ground<S> {
     pub fn reap(&mut self, connection: u64) -> Note
         requires events { self.old.traffic.event < 2 ^ 45 }
         requires there { IsSomewhere (S.sees self.old.service) self.old.traffic }
-        ensures { Makes (S.sees self.old.service) self.old.traffic (S.sees self.new.service) self.new.traffic (Event.Reap connection) result [] }
+        ensures made { Makes (S.sees self.old.service) self.old.traffic (S.sees self.new.service) self.new.traffic (Event.Reap connection) result [] }
+        ensures base { HaveOneBase (S.bytes self.old.service) (S.bytes self.new.service) }
     {
         orderly_is_kept();
         self.traffic.begin();
@@ -161,7 +166,8 @@ impl<S: Service + Drop> Ground<S> {
         requires events { self.old.traffic.event < 2 ^ 45 }
         requires there { IsSomewhere (S.sees self.old.service) self.old.traffic }
         requires may { MayForget (S.state self.old.service) horizon }
-        ensures { IfOk result (λ note. MakesBelow horizon (S.sees self.old.service) self.old.traffic (S.sees self.new.service) self.new.traffic Event.Up note []) }
+        ensures made { IfOk result (λ note. MakesBelow horizon (S.sees self.old.service) self.old.traffic (S.sees self.new.service) self.new.traffic Event.Up note []) }
+        ensures base { OnOk result (HaveOneBase (S.bytes self.old.service) (S.bytes self.new.service)) }
     {
         orderly_is_kept();
         self.traffic.begin();
@@ -184,7 +190,8 @@ impl<S: Service + Drop> Ground<S> {
     pub fn drain(&mut self) -> Result<Note, NoMemory>
         requires events { self.old.traffic.event < 2 ^ 45 }
         requires there { IsSomewhere (S.sees self.old.service) self.old.traffic }
-        ensures { IfOk result (λ note. Makes (S.sees self.old.service) self.old.traffic (S.sees self.new.service) self.new.traffic Event.Drain note []) }
+        ensures made { IfOk result (λ note. Makes (S.sees self.old.service) self.old.traffic (S.sees self.new.service) self.new.traffic Event.Drain note []) }
+        ensures base { OnOk result (HaveOneBase (S.bytes self.old.service) (S.bytes self.new.service)) }
     {
         orderly_is_kept();
         self.traffic.begin();

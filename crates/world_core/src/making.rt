@@ -1,6 +1,7 @@
 //! Events that no client makes.
 ghost use Rattle.std.specs.Prelude.{◌≡◌, ◌<◌, ◌+◌, ◌^◌, ℕ, false, IfOk, OnOk, option_to_list};
 ghost use Rattle.server_model.specs.ServiceCalls.{MayForget};
+ghost use Rattle.service_calls.specs.Kept.{HaveOneBase};
 ghost use Rattle.world_model.specs.Matching.{is_go};
 ghost use Rattle.world_core.specs.Allowing.{IsAllowed};
 ghost use Rattle.world_core.specs.CutBytes.{CutsFirst};
@@ -28,6 +29,7 @@ impl<S: Service + Drop> Ground<S> {
         requires other { is_go event.now ≡ false }
         ensures made { IfOk result (λ made. MakesBelow horizon (S.sees self.old.service) self.old.traffic (S.sees self.new.service) self.new.traffic event.now made.0 (option_to_list made.1)) }
         ensures bytes { OnOk result (CutsFirst event.now self.old.traffic self.new.traffic) }
+        ensures base { OnOk result (HaveOneBase (S.bytes self.old.service) (S.bytes self.new.service)) }
     {
         match event {
             Event::Go { .. } => unreachable!(),

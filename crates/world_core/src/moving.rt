@@ -1,6 +1,7 @@
 //! The steps of clients, as events.
-ghost use Rattle.std.specs.Prelude.{◌≡◌, ◌<◌, ◌^◌, IfOk};
+ghost use Rattle.std.specs.Prelude.{◌≡◌, ◌<◌, ◌^◌, IfOk, OnOk};
 ghost use Rattle.std.specs.List.{AllByRecursion};
+ghost use Rattle.service_calls.specs.Kept.{HaveOneBase};
 ghost use Rattle.world_core.specs.Coursing.{IsFit};
 ghost use Rattle.world_core.specs.Beside.{opened_in, SomeBeside, MakesStep};
 
@@ -36,7 +37,8 @@ impl<S: Service + Drop> Ground<S> {
         requires events { self.old.traffic.event < 2 ^ 45 }
         requires there { SomeBeside R (λ rule. R.rules rule) (S.sees self.old.service) script.now number self.old.traffic client.old }
         requires fit { AllByRecursion IsFit script.now }
-        ensures { IfOk result (λ note. MakesStep R (λ rule. R.rules rule) (S.sees self.old.service) self.old.traffic (S.sees self.new.service) self.new.traffic script.now number client.old client.new note) }
+        ensures made { IfOk result (λ note. MakesStep R (λ rule. R.rules rule) (S.sees self.old.service) self.old.traffic (S.sees self.new.service) self.new.traffic script.now number client.old client.new note) }
+        ensures base { OnOk result (HaveOneBase (S.bytes self.old.service) (S.bytes self.new.service)) }
     {
         orderly_is_kept();
         self.traffic.begin();

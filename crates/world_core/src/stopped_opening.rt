@@ -1,7 +1,7 @@
 //! Openings that are stopped.
 ghost use Rattle.std.specs.Prelude.{◌≡◌, ◌+◌, ◌<◌, ◌^◌, false, true, [], OnOk, IfOk};
 ghost use Rattle.server_model.specs.ServiceCalls.{MayForget, is_failover};
-ghost use Rattle.service_calls.specs.Kept.{Goes};
+ghost use Rattle.service_calls.specs.Kept.{Goes, HaveOneBase};
 ghost use Rattle.world_core.specs.Making.{MakesBelow, IsSomewhere};
 ghost use Rattle.world_core.specs.Stopping.{BegunOpening, IsSeen};
 
@@ -27,7 +27,8 @@ impl<S: Service + Drop> Ground<S> {
         requires there { IsSomewhere (S.sees self.old.service) self.old.traffic }
         requires may { MayForget (S.state self.old.service) horizon }
         requires one_store { is_failover pick ≡ false }
-        ensures { IfOk result (λ note. MakesBelow horizon (S.sees self.old.service) self.old.traffic (S.sees self.new.service) self.new.traffic (Event.UpCrash after pick) note []) }
+        ensures made { IfOk result (λ note. MakesBelow horizon (S.sees self.old.service) self.old.traffic (S.sees self.new.service) self.new.traffic (Event.UpCrash after pick) note []) }
+        ensures base { OnOk result (HaveOneBase (S.bytes self.old.service) (S.bytes self.new.service)) }
     {
         orderly_is_kept();
         self.traffic.begin();
@@ -47,6 +48,7 @@ impl<S: Service + Drop> Ground<S> {
         requires may { MayForget (S.state self.old.service) horizon }
         ensures traffic { self.new.traffic ≡ self.old.traffic }
         ensures begun { OnOk result (Goes (S.sees self.old.service) (S.sees self.new.service) (λ old new. BegunOpening old horizon after (S.leaves self.new.service) new)) }
+        ensures base { OnOk result (HaveOneBase (S.bytes self.old.service) (S.bytes self.new.service)) }
     {
         self.service.stop_after(Some(after));
         match self.service.up(alloc, horizon) {

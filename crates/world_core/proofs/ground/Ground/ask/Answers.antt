@@ -7,15 +7,16 @@ use Rattle.server_model.specs.ServiceCalls.{AskedOne, StoppedAsk}
 use Rattle.service_calls.specs.Answers.{Ends}
 use Rattle.service_calls.specs.Kept.{Goes}
 use Rattle.world_core.proofs.Readiness.{may_call, one_more}
+use Rattle.world_core.proofs.Bases.{one_base_kept}
 use Rattle.world_core.proofs.ground.Ground.ask.Goals as goal
 
-pub returns-then-not-is_up : goal.returns-then-not-is_up
-returns-then-not-is_up g c = asks_none c.orderly_is_kept.ensures (g.S.Service.sees c.args.self.now.service) c.args.self.now.traffic c.begin.new.self c.args.ltxid c.compares_exactly.ensures.exact
+pub returns-then-not-is_up-clause-made : goal.returns-then-not-is_up-clause-made
+returns-then-not-is_up-clause-made g c = asks_none c.orderly_is_kept.ensures (g.S.Service.sees c.args.self.now.service) c.args.self.now.traffic c.begin.new.self c.args.ltxid c.compares_exactly.ensures.exact
     (λ seen sees. ap (λ (s : ServiceState). s.is_up) (g.met.S.Service.honest c.args.self.now.service seen sees).state_is ∙ sym c.if-not-is_up.ensures)
     c.begin.ensures.begun
 
-pub returns : goal.returns
-returns g c = rw c.result_of.ensures (asks_some c.orderly_is_kept.ensures (g.S.Service.sees c.args.self.now.service) (g.S.Service.sees c.ask.new.self) c.args.self.now.traffic c.begin.new.self c.args.ltxid c.in-Ok.verdict c.compares_exactly.ensures.exact
+pub returns-clause-made : goal.returns-clause-made
+returns-clause-made g c = rw c.result_of.ensures (asks_some c.orderly_is_kept.ensures (g.S.Service.sees c.args.self.now.service) (g.S.Service.sees c.ask.new.self) c.args.self.now.traffic c.begin.new.self c.args.ltxid c.in-Ok.verdict c.compares_exactly.ensures.exact
     (λ seen sees. ap (λ (s : ServiceState). s.is_up) (g.met.S.Service.honest c.args.self.now.service seen sees).state_is ∙ sym c.if-not-is_up.ensures)
     (λ seen sees. (g.met.S.Service.honest c.ask.new.self seen sees).history)
     c.in-Ok.ensures.asked
@@ -32,3 +33,6 @@ ask-requires-clause-live g c = (may_call (g.S.Service.sees c.args.self.now.servi
 
 pub ask-requires-clause-few : goal.ask-requires-clause-few
 ask-requires-clause-few g c = one_more (g.S.Service.state c.args.self.now.service) (may_call (g.S.Service.sees c.args.self.now.service) (g.S.Service.state c.args.self.now.service) c.args.self.now.traffic c.requires.there c.requires.events (λ seen sees. (g.met.S.Service.honest c.args.self.now.service seen sees).state_is))
+
+pub returns-then-not-is_up-clause-base : goal.returns-then-not-is_up-clause-base
+returns-then-not-is_up-clause-base g c = one_base_kept (g.S.Service.bytes c.args.self.now.service)

@@ -9,10 +9,11 @@ use Rattle.server_model.specs.ServiceCalls.{ServedOne}
 use Rattle.service_calls.specs.Answers.{IfTold}
 use Rattle.service_calls.specs.Kept.{Goes}
 use Rattle.world_core.proofs.Readiness.{may_call, one_more}
+use Rattle.world_core.proofs.Bases.{one_base_kept}
 use Rattle.world_core.proofs.ground.Ground.serve.Goals as goal
 
-pub returns-in_default : goal.returns-in_default
-returns-in_default g c = serves_none c.orderly_is_kept.ensures (g.S.Service.sees c.args.self.now.service) c.args.self.now.traffic c.first_up.new.self c.args.connection (λ m is. subst (λ frame. FrontOf (begun m) c.args.connection (front_at m.links c.args.connection) frame c.first_up.new.self) c.in_default.is (c.in_ok-first.ensures _ (c.begin.ensures.begun m is)))
+pub returns-in_default-clause-made : goal.returns-in_default-clause-made
+returns-in_default-clause-made g c = serves_none c.orderly_is_kept.ensures (g.S.Service.sees c.args.self.now.service) c.args.self.now.traffic c.first_up.new.self c.args.connection (λ m is. subst (λ frame. FrontOf (begun m) c.args.connection (front_at m.links c.args.connection) frame c.first_up.new.self) c.in_default.is (c.in_ok-first.ensures _ (c.begin.ensures.begun m is)))
 
 pub serve-requires-clause-lives : goal.serve-requires-clause-lives
 serve-requires-clause-lives g c =
@@ -27,8 +28,8 @@ serve-requires-clause-made g c =
     let m = c.requires.there.1.0.machine in
     frame_made c.requires.there.1.0.machine c.args.connection c.in-Some.frame c.args.self.now.traffic c.first_up.new.self is.underway (subst (λ frame. FrontOf (begun m) c.args.connection (front_at m.links c.args.connection) frame c.first_up.new.self) c.in-Some.is (c.in_ok-first.ensures _ (c.begin.ensures.begun m is.underway)))
 
-pub returns : goal.returns
-returns g c = rw c.frame_name-name.ensures (serves_some c.orderly_is_kept.ensures (g.S.Service.sees c.args.self.now.service) (g.S.Service.sees c.serve.new.self) (g.S.Service.leaves c.serve.new.self) c.args.self.now.traffic c.first_up.new.self c.answer.new.self c.args.connection c.in-Some.frame c.in-Ok.reply c.in_ok-served.served c.compares_exactly.ensures.exact
+pub returns-clause-made : goal.returns-clause-made
+returns-clause-made g c = rw c.frame_name-name.ensures (serves_some c.orderly_is_kept.ensures (g.S.Service.sees c.args.self.now.service) (g.S.Service.sees c.serve.new.self) (g.S.Service.leaves c.serve.new.self) c.args.self.now.traffic c.first_up.new.self c.answer.new.self c.args.connection c.in-Some.frame c.in-Ok.reply c.in_ok-served.served c.compares_exactly.ensures.exact
     (λ seen sees. (g.met.S.Service.honest c.serve.new.self seen sees).history) c.in-Ok.ensures.served (λ m is. subst (λ frame. FrontOf (begun m) c.args.connection (front_at m.links c.args.connection) frame c.first_up.new.self) c.in-Some.is (c.in_ok-first.ensures _ (c.begin.ensures.begun m is))) c.in_ok-served.ensures)
 
 -- it is stopped in no call
@@ -42,3 +43,6 @@ serve-requires-clause-live g c = (may_call (g.S.Service.sees c.args.self.now.ser
 
 pub serve-requires-clause-few : goal.serve-requires-clause-few
 serve-requires-clause-few g c = one_more (g.S.Service.state c.args.self.now.service) (may_call (g.S.Service.sees c.args.self.now.service) (g.S.Service.state c.args.self.now.service) c.args.self.now.traffic c.requires.there c.requires.events (λ seen sees. (g.met.S.Service.honest c.args.self.now.service seen sees).state_is))
+
+pub returns-in_default-clause-base : goal.returns-in_default-clause-base
+returns-in_default-clause-base g c = one_base_kept (g.S.Service.bytes c.args.self.now.service)

@@ -7,15 +7,16 @@ use Rattle.server_model.specs.ServiceCalls.{Opened, StoppedOpening}
 use Rattle.service_calls.specs.Answers.{Ends}
 use Rattle.service_calls.specs.Kept.{Goes}
 use Rattle.world_core.proofs.Readiness.{may_call, one_more}
+use Rattle.world_core.proofs.Bases.{one_base_kept}
 use Rattle.world_core.proofs.ground.Ground.up.Goals as goal
 
-pub returns-then-is_up : goal.returns-then-is_up
-returns-then-is_up g c = ups_none c.orderly_is_kept.ensures (g.S.Service.sees c.args.self.now.service) c.args.self.now.traffic c.begin.new.self
+pub returns-then-is_up-clause-made : goal.returns-then-is_up-clause-made
+returns-then-is_up-clause-made g c = ups_none c.orderly_is_kept.ensures (g.S.Service.sees c.args.self.now.service) c.args.self.now.traffic c.begin.new.self
     (λ seen sees. ap (λ (s : ServiceState). s.is_up) (g.met.S.Service.honest c.args.self.now.service seen sees).state_is ∙ sym c.if-is_up.ensures)
     c.begin.ensures.begun c.args.horizon
 
-pub returns : goal.returns
-returns g c = ups_some c.orderly_is_kept.ensures (g.S.Service.sees c.args.self.now.service) (g.S.Service.sees c.up.new.self) c.args.self.now.traffic c.begin.new.self c.args.horizon c.incarnation-incarnation.result
+pub returns-clause-made : goal.returns-clause-made
+returns-clause-made g c = ups_some c.orderly_is_kept.ensures (g.S.Service.sees c.args.self.now.service) (g.S.Service.sees c.up.new.self) c.args.self.now.traffic c.begin.new.self c.args.horizon c.incarnation-incarnation.result
     (λ seen sees. ap (λ (s : ServiceState). s.is_up) (g.met.S.Service.honest c.args.self.now.service seen sees).state_is ∙ sym c.if-is_up.ensures)
     (λ seen sees. (g.met.S.Service.honest c.up.new.self seen sees).history)
     (λ seen sees up.
@@ -38,3 +39,6 @@ up-requires-clause-few g c = one_more (g.S.Service.state c.args.self.now.service
 
 pub up-requires-clause-down : goal.up-requires-clause-down
 up-requires-clause-down g c = (sym c.if-is_up.ensures, (may_call (g.S.Service.sees c.args.self.now.service) (g.S.Service.state c.args.self.now.service) c.args.self.now.traffic c.requires.there c.requires.events (λ seen sees. (g.met.S.Service.honest c.args.self.now.service seen sees).state_is)).settled (sym c.if-is_up.ensures))
+
+pub returns-then-is_up-clause-base : goal.returns-then-is_up-clause-base
+returns-then-is_up-clause-base g c = one_base_kept (g.S.Service.bytes c.args.self.now.service)
