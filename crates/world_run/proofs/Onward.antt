@@ -12,6 +12,7 @@ use Rattle.outage_schedule.specs.declared.note.Note.TheVariants as notes
 use Rattle.run_clauses.specs.Horizons.{Openings, after_note, wanted_horizon}
 use Rattle.server_model.specs.Seen.{ServiceState, Seen}
 use Rattle.server_model.specs.ServiceCalls.{MayForget}
+use Rattle.service_calls.specs.Kept.{HaveOneBase}
 use Rattle.world_model.specs.Settings.{Setting}
 use Rattle.world_model.specs.Matching.{is_go}
 use Rattle.world_model.specs.Traced.{Traced}
@@ -45,6 +46,12 @@ notes_so Holds (notes.Drain closed) so = tt
 -- what was noted beside another view of the same
 pub noted_from : {S R : Type 0} (note : Note) (items : List Served) (inside before after : Parts S R) → inside ≡ before → Notes note items inside after → Notes note items before after
 noted_from note items inside before after same noted = subst (λ (parts : Parts _ _). Notes note items parts after) same noted
+
+-- the store keeps its base where an event is noted
+pub base_noted : {S R A E : Type 0} (bytes : S → List ℕ) (note : Note) (items : List Served) (before led after : Parts S R) (result : Result A E) → HaveOneBase (bytes before.service) (bytes led.service) → OnOk result (Notes note items led after)
+    → OnOk result (HaveOneBase (bytes before.service) (bytes after.service))
+base_noted bytes note items before led after (Ok done) base noted = subst (λ service. HaveOneBase (bytes before.service) (bytes service)) (sym noted.same.0) base
+base_noted bytes note items before led after (Err e) base noted = tt
 
 -- an event that is no step of a client
 pub not_go : (event : Event) → ((client : ℕ) → event ≡ events.Go client → ⊥) → is_go event ≡ false

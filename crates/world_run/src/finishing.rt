@@ -4,6 +4,7 @@ ghost use Rattle.std.specs.Prelude.{◌≡◌, ◌<◌, ◌≤◌, ℕ, false, l
 ghost use Rattle.std.specs.Option.{option_map_or};
 ghost use Rattle.std.specs.List.{AllByRecursion};
 ghost use Rattle.server_model.specs.Seen.{Seen};
+ghost use Rattle.service_calls.specs.Kept.{HaveOneBase};
 ghost use Rattle.world_model.specs.Clients.{is_unfinished as is_unfinished_def};
 ghost use Rattle.world_model.specs.Finishing.{first_behind, serves_or_ticks as serves_or_ticks_def, goes_or_serves as goes_or_serves_def, next_round as next_round_def, reaps_or_goes as reaps_or_goes_def, next_finish};
 ghost use Rattle.world_model.specs.Machines.{Machine};
@@ -126,7 +127,8 @@ impl<S: Service + Drop, R: BoundRule + Copy> World<S, R> {
         requires fit { AllByRecursion IsFitScript scripts.now }
         requires events { length self.old.notes ≤ 100000 }
         requires short { IsShort S R S.sees (λ rule. R.rules rule) scripts.now self.old }
-        ensures { OnOk result (Finishes S R S.sees (λ rule. R.rules rule) scripts.now self.old self.new) }
+        ensures finishes { OnOk result (Finishes S R S.sees (λ rule. R.rules rule) scripts.now self.old self.new) }
+        ensures base { OnOk result (HaveOneBase (S.bytes self.old.service) (S.bytes self.new.service)) }
     {
         finish_falls();
         finish_goes_on();

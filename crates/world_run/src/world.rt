@@ -3,6 +3,7 @@ ghost use Rattle.std.specs.Prelude.{◌≡◌, ◌+◌, ◌<◌, ◌^◌, map, l
 ghost use Rattle.std.specs.List.{AllByRecursion};
 ghost use Rattle.outage_schedule.specs.declared.document.Document.{Document};
 ghost use Rattle.server_model.specs.Seen.{Seen};
+ghost use Rattle.service_calls.specs.Kept.{HaveOneBase};
 ghost use Rattle.world_model.specs.Settings.{limits_of as limits_def};
 ghost use Rattle.world_core.specs.Among.{IsFitScript};
 ghost use Rattle.world_run.specs.Starting.{IsOf, IsOfSome, HasRoom, StandsAtStart};
@@ -92,7 +93,8 @@ impl<S: Service + Drop, R: BoundRule + Copy> World<S, R> {
     ) -> Result<World<S, R>, NoMemory>
         requires begins { IsOfSome (S.sees service) (R.rules rule) of.now scripts.now opened }
         requires room { HasRoom of.now }
-        ensures { IfOk result (λ world. (document : Document) (seen : Seen) → IsOf (S.sees service) (R.rules rule) of.now scripts.now opened document seen → StandsAtStart S R S.sees (λ rule. R.rules rule) scripts.now document world) }
+        ensures start { IfOk result (λ world. (document : Document) (seen : Seen) → IsOf (S.sees service) (R.rules rule) of.now scripts.now opened document seen → StandsAtStart S R S.sees (λ rule. R.rules rule) scripts.now document world) }
+        ensures base { IfOk result (λ world. HaveOneBase (S.bytes service) (S.bytes world.service)) }
     {
         orderly_is_kept();
         match service.up(alloc, 0) {
@@ -117,7 +119,8 @@ impl<S: Service + Drop, R: BoundRule + Copy> World<S, R> {
         requires there { StandsSomewhere S R S.sees (λ rule. R.rules rule) scripts.now self.old }
         requires fit { AllByRecursion IsFitScript scripts.now }
         requires client { IsAllowed (length scripts.now) (Event.Go number) }
-        ensures { IfOk result (λ note. Leads S R S.sees (λ rule. R.rules rule) scripts.now (Event.Go number) note [] self.old self.new) }
+        ensures led { IfOk result (λ note. Leads S R S.sees (λ rule. R.rules rule) scripts.now (Event.Go number) note [] self.old self.new) }
+        ensures base { OnOk result (HaveOneBase (S.bytes self.old.service) (S.bytes self.new.service)) }
     {
         let World {
             ground,
@@ -138,8 +141,9 @@ impl<S: Service + Drop, R: BoundRule + Copy> World<S, R> {
         requires there { StandsSomewhere S R S.sees (λ rule. R.rules rule) scripts.now self.old }
         requires fit { AllByRecursion IsFitScript scripts.now }
         requires allowed { IsAllowed (length scripts.now) event.now }
-        ensures made { IfOk result (λ made. Leads S R S.sees (λ rule. R.rules rule) scripts.now event.now made.0 (option_to_list made.1) self.old self.new) }
+        ensures led { IfOk result (λ made. Leads S R S.sees (λ rule. R.rules rule) scripts.now event.now made.0 (option_to_list made.1) self.old self.new) }
         ensures bytes { OnOk result (CutsFirst event.now self.old.traffic self.new.traffic) }
+        ensures base { OnOk result (HaveOneBase (S.bytes self.old.service) (S.bytes self.new.service)) }
     {
         clients_stay::<R>();
         let Event::Go { client } = event else {
@@ -175,6 +179,7 @@ impl<S: Service + Drop, R: BoundRule + Copy> World<S, R> {
         requires allowed { IsAllowed (length scripts.now) event.now }
         ensures made { OnOk result (MakesOne S R S.sees (λ rule. R.rules rule) scripts.now event.now self.old self.new) }
         ensures bytes { OnOk result (CutsFirst event.now self.old.traffic self.new.traffic) }
+        ensures base { OnOk result (HaveOneBase (S.bytes self.old.service) (S.bytes self.new.service)) }
     {
         let (note, served) = self.make(alloc, scripts, event)?;
         self.note(note, served)

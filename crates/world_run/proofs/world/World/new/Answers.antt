@@ -10,7 +10,7 @@ use Rattle.server_model.specs.Seen.{ServiceState}
 use Rattle.server_model.specs.ServiceCalls.{Opened, StoppedOpening}
 use Rattle.server_model.specs.declared.fault.ServeFault.{ServeFault}
 use Rattle.service_calls.specs.Answers.{Ends}
-use Rattle.service_calls.specs.Kept.{Goes}
+use Rattle.service_calls.specs.Kept.{Goes, HaveOneBase}
 use Rattle.world_model.specs.Machines.{per_record_of, start_of}
 use Rattle.world_model.specs.Settings.{terms_of}
 use Rattle.world_core.specs.declared.traffic.Traffic.{Traffic}
@@ -55,8 +55,8 @@ new-requires-3-clause-room g c =
     let room = is.room in
     omega (arith, next, told, room)
 
-pub returns : goal.returns
-returns g c = λ document seen is.
+pub returns-clause-start : goal.returns-clause-start
+returns-clause-start g c = λ document seen is.
     let gone = c.in-Ok.ensures.opened seen is.seen_so in
     let new = gone.0 in
     let honest = g.met.S.Service.honest c.up.new.self new gone.1.0 in
@@ -77,3 +77,6 @@ returns g c = λ document seen is.
     (stands_first document seen new is.new is.quiet records is.start is.sound gone.1.1 honest.history _ _ g.S.Service.sees (λ rule. g.R.BoundRule.rules rule) _
     (subst (λ service. g.S.Service.sees service new) (sym c.new-2.ensures.service) gone.1.0) underway (c.orderly_is_kept.ensures.at_start document is.calls)
     (c.in_ok-clients.ensures document (sym is.clients) terms) tracks (c.new-4.ensures.items, c.new-5.ensures.items) is.room)
+
+pub returns-clause-base : goal.returns-clause-base
+returns-clause-base g c = subst (λ (service : g.row.S.Denot). HaveOneBase (g.S.Service.bytes c.args.service) (g.S.Service.bytes service)) (sym c.new-2.ensures.service) c.in-Ok.ensures.base
