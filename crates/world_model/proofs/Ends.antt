@@ -34,7 +34,7 @@ module _ (P : Link → Type 0) where
   pub ends_case : (event : ℕ) (link : Link) → (link.is_open ≡ true → P (shut event link)) → (link.is_open ≡ false → P link) → P (ends event link)
   ends_case event link one other = ends_by event link link.is_open refl one other
 
-  if_by : (test : Bool) (a b : Link) → (test ≡ true → P a) → (test ≡ false → P b) → P (if test then a else b)
+  pub if_by : (test : Bool) (a b : Link) → (test ≡ true → P a) → (test ≡ false → P b) → P (if test then a else b)
   if_by true a b one other = one refl
   if_by false a b one other = other refl
 

@@ -97,7 +97,7 @@ runs_next server now (called ∷ calls) [] happened is = subst (All (IsOf (next_
 runs_next server now (called ∷ calls) (run ∷ runs) happened is =
     subst (All (IsOf (next_session server))) (sym is.2.0) (All-cons (IsOf (next_session server)) _ is.1 refl (runs_next server now calls runs is.1 is.2.1))
 
-outside_next : (server : Server) (now : ℕ) (calls : List Call) (runs : List (List Answer × List Draw)) (happened more : List Happened) → happened ≡ begins_outside (next_session server) now ++ more → RunsAre (next_session server) now calls runs more → AllNext server happened
+pub outside_next : (server : Server) (now : ℕ) (calls : List Call) (runs : List (List Answer × List Draw)) (happened more : List Happened) → happened ≡ begins_outside (next_session server) now ++ more → RunsAre (next_session server) now calls runs more → AllNext server happened
 outside_next server now calls runs happened more is are =
     let session : SessionId = next_session server in
     let first : Happened = ServedFrame session now up.Connect (Says (down.Hello (ltxid_of session 0))) in

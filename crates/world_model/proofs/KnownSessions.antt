@@ -92,7 +92,7 @@ grows_among a _ Outside session is =
     (λ x. list_any-append (same_session session) a.outside (next_of a ∷ []) ∙ or_left (list_any (same_session session) a.outside) (list_any (same_session session) (next_of a ∷ [])) x) is
 grows_among a _ (Reopens incarnation below) session is = is
 
-grows_made : (a b : Census) → Grows a b → (session : SessionId) → made_in a.incarnation a.count session ≡ true → made_in b.incarnation b.count session ≡ true
+pub grows_made : (a b : Census) → Grows a b → (session : SessionId) → made_in a.incarnation a.count session ≡ true → made_in b.incarnation b.count session ≡ true
 grows_made a _ Stands session is = is
 grows_made a _ (Connects here more) session is = made_more a.incarnation a.count session is
 grows_made a _ Outside session is = made_more a.incarnation a.count session is

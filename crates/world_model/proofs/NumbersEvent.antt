@@ -69,7 +69,7 @@ module _ (before after : Seen) (old new : Traced) (event : Event) (note : Note) 
   abbrev pub by : Followed old.setting old.machine event note items left new.machine
   by = follow_happens old.setting old.machine event note items left new.machine one.follows
 
-  abbrev kind : Noted
+  abbrev pub kind : Noted
   kind = by.kind
 
   pub did : DidOf old.machine items kind one.happened

@@ -84,7 +84,7 @@ handled_is event front served =
 pub stopped_is : (front : Front) (served : Served) → IsServed front served (after_front front served None)
 stopped_is front served = record { session = refl; events = one_more front (record { sent = front.first; served = served; reply = None }) }
 
-connect_session : (server : Server) (link : Link) (frame : Up) (session : SessionId) → hold.is_connect frame ≡ true → is_served_by server link frame session ≡ true → session ≡ next_session server
+pub connect_session : (server : Server) (link : Link) (frame : Up) (session : SessionId) → hold.is_connect frame ≡ true → is_served_by server link frame session ≡ true → session ≡ next_session server
 connect_session server link up.Connect session is by = same_session_is session (next_session server) by
 connect_session server link frame session is by = absurd (let never : ⊥ = cc in never)
 

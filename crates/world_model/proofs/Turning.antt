@@ -74,7 +74,7 @@ mapped_back change [] index next is = absurd (let none : ⊥ = cc in none)
 mapped_back change (first ∷ links) zero next is = (first, (refl, (let same : next ≡ change first = cc in same)))
 mapped_back change (first ∷ links) (suc index) next is = mapped_back change links index next is
 
-fallen_at : (change : Link → Link) (links : List Link) (number : ℕ) (next : Link) → link_at (map change links) number ≡ Some next → (link : Link) × ((link_at links number ≡ Some link) × (next ≡ change link))
+pub fallen_at : (change : Link → Link) (links : List Link) (number : ℕ) (next : Link) → link_at (map change links) number ≡ Some next → (link : Link) × ((link_at links number ≡ Some link) × (next ≡ change link))
 fallen_at change links zero next is = absurd (let none : ⊥ = cc in none)
 fallen_at change links (suc index) next is = mapped_back change links index next is
 

@@ -30,9 +30,11 @@ pub mod Reached
 pub mod RunLaws
 pub mod Ready
 pub mod Same
+pub mod SameLaws
 pub mod Sames
 pub mod Script
 pub mod ServiceDid
+pub mod SessionHistory
 pub mod Serving
 pub mod Settings
 pub mod Shown

@@ -1,0 +1,20 @@
+-- What a run's connections served is what the service's history has of their sessions.
+use Rattle.std.specs.Prelude.{◌≡◌, ℕ, IsTrue, List, Some}
+use Rattle.svc_values.specs.declared.entry.SessionId.{SessionId}
+use Rattle.outage_schedule.specs.declared.document.Document.{Document}
+use Rattle.outage_schedule.specs.declared.event.Event.{Event}
+use Rattle.outage_schedule.specs.declared.item.Served.{Served}
+use Rattle.outage_schedule.specs.declared.note.Note.{Note}
+use Rattle.server_model.specs.Seen.{Seen}
+use Rattle.world_model.specs.Links.{Link, link_at}
+use Rattle.world_model.specs.Reached.{Reached}
+use Rattle.world_model.specs.Ready.{all_have_calls}
+use Rattle.world_model.specs.SessionHistory.{served_in, served_on}
+use Rattle.world_model.specs.Traced.{Traced}
+
+-- Wherever a run has come to, what the history has of a connection's session is what the connection served.
+abbrev pub RunsServe : Type 0
+RunsServe =
+    (document : Document) (events : List Event) (notes : List Note) (items : List Served) (seen : Seen) (t : Traced)
+    → IsTrue (all_have_calls document) → Reached document events notes items seen t
+    → (number : ℕ) (link : Link) (session : SessionId) → link_at t.machine.links number ≡ Some link → link.session ≡ Some session → served_in seen.history session ≡ served_on link

@@ -1,0 +1,11 @@
+//! How the frames that connections served, and the entries of their sessions, are those of the service. Each law is the clause of a
+//! function with nothing to run.
+ghost use Rattle.world_model.specs.SameLaws.{RunsServe};
+
+/// Wherever a run of a document whose requests each have a call has come to, what the service's history has of a connection's session is
+/// what the connection served: frame by frame, with what was told.
+pub fn runs_serve()
+    ensures { RunsServe }
+{
+    crate::laws::runs_are_orderly();
+}
