@@ -73,9 +73,9 @@ front_follows setting m n items left kind e up at serves_so front served rest is
 
 -- EACH CONNECTION ---------------------------------------------------------------------------------
 
-by_index : (test : Link → Bool) (links : List Link) → ((index : ℕ) (link : Link) → slice_get links index ≡ Some link → test link ≡ true) → list_all test links ≡ true
+pub by_index : {A : Type 0} (test : A → Bool) (xs : List A) → ((index : ℕ) (x : A) → slice_get xs index ≡ Some x → test x ≡ true) → list_all test xs ≡ true
 by_index test [] each = refl
-by_index test (link ∷ links) each = and_from (test link) (list_all test links) (each 0 link refl) (by_index test links (λ index one is. each (suc index) one is))
+by_index test (x ∷ xs) each = and_from (test x) (list_all test xs) (each 0 x refl) (by_index test xs (λ index one is. each (suc index) one is))
 
 pub by_number : (test : Link → Bool) (links : List Link) → ((number : ℕ) (link : Link) → link_at links number ≡ Some link → test link ≡ true) → list_all test links ≡ true
 by_number test links each = by_index test links (λ index link is. each (suc index) link is)
@@ -85,7 +85,7 @@ abbrev pub is_known_in : Server → SessionId → Bool
 is_known_in server session = nat_lt session.incarnation server.incarnation || (nat_lt 0 session.session && (nat_lt session.incarnation server.incarnation || ((session.incarnation == server.incarnation) && nat_le session.session server.sessions)))
 
 -- such a session is not the one that is made next
-known_before : (server : Server) (session : SessionId) → is_known_in server session ≡ true → session ≡ next_session server → ⊥
+pub known_before : (server : Server) (session : SessionId) → is_known_in server session ≡ true → session ≡ next_session server → ⊥
 known_before server session known same =
     by (or_cases (nat_lt session.incarnation server.incarnation) (nat_lt 0 session.session && (nat_lt session.incarnation server.incarnation || ((session.incarnation == server.incarnation) && nat_le session.session server.sessions))) known)
   where

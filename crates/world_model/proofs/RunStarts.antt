@@ -19,7 +19,7 @@ pub finishing_start : (document : Document) (place : Place) (notes : List Note) 
 finishing_start document _ _ _ _ _ (Scheduled notes items seen t reached) = reached_start document document.schedule notes items seen t reached
 finishing_start document _ _ _ _ _ (Finishes place later notes items more before after old new event note finishing next one) = one.start ∙ finishing_start document place notes items before old finishing
 
-reached_coupled : (document : Document) (events : List Event) (notes : List Note) (items : List Served) (seen : Seen) (t : Traced) → Reached document events notes items seen t → Coupled seen t
+pub reached_coupled : (document : Document) (events : List Event) (notes : List Note) (items : List Served) (seen : Seen) (t : Traced) → Reached document events notes items seen t → Coupled seen t
 reached_coupled document _ _ _ _ _ (Begins seen start history coupled) = coupled
 reached_coupled document _ _ _ _ _ (GoesOn events notes items more before after old new event note reached one) = one.coupled_after
 

@@ -172,14 +172,14 @@ module _ (before after : Seen) (old new : Traced) (event : Event) (note : Note) 
 
 -- A RUN -------------------------------------------------------------------------------------------
 
+pub none_at : {A : Type 0} (number : ℕ) (link : Link) → link_at [] number ≡ Some link → A
+none_at zero link is = absurd (let none : ⊥ = cc in none)
+none_at (suc index) link is = absurd (let none : ⊥ = cc in none)
+
 reached_served : RunsAreOrderly → (document : Document) (events : List Event) (notes : List Note) (items : List Served) (seen : Seen) (t : Traced) → all_have_calls document ≡ true → Reached document events notes items seen t
     → HasServed seen t × NoneUnmade seen t
 reached_served orderly document _ _ _ _ _ calls (Begins seen start history coupled) =
     ((λ number link session there its. none_at number link there), λ session none. ap (λ (all : List Happened). served_in all session) history)
-  where
-    none_at : {A : Type 0} (number : ℕ) (link : Link) → link_at [] number ≡ Some link → A
-    none_at zero link is = absurd (let none : ⊥ = cc in none)
-    none_at (suc index) link is = absurd (let none : ⊥ = cc in none)
 reached_served orderly document _ _ _ _ _ calls (GoesOn events notes items more before after old new event note reached one) =
     let was = reached_served orderly document events notes items before old calls reached in
     let inv = orderly document events notes items before old calls reached in

@@ -1,7 +1,7 @@
 -- What legal items store was drawn by them, each value as often at most: without the mark no value is given that was kept. So where what
 -- they drew anew stands once, no value stands twice among what the entries drew.
 use Rattle.std.proofs.Common.{◌≡◌, refl, ap, ◌∙◌, arith, ℕ, ◌+◌, ◌≤◌, ◌&&◌, Bool, true, false, not, List, [], ◌∷◌, ◌++◌, Option, Some, None, if◌then◌else◌}
-use Rattle.std.specs.Prelude.{nat_lt, flat_map}
+use Rattle.std.specs.Prelude.{flat_map}
 use Rattle.std.specs.List.{list_all}
 use Rattle.std.specs.Option.{option_map_or}
 use Rattle.std.specs.Cmp.Lexicographic.{pointwise, pointwise_decides}
@@ -26,9 +26,10 @@ use Rattle.server_model.specs.Base.{Base}
 use Rattle.server_model.specs.Fresh.{fresh, fresh_new, draws_in, draws_of, new_in, drawn_anew}
 use Rattle.server_model.specs.Items.{Thing, Began, Called, MetBlock, TellsOutcome, CallStopped, OutcomeStopped, Outcome, Uncommitted, Item, Did, AskTold, AskStopped}
 use Rattle.server_model.specs.Legal.{answers_hold, is_free, is_first_entry, stores, draws_hold, deed_holds, is_of_now, item_holds, items_hold, all_stored, lines_of, lines_stand, legal}
-use Rattle.server_model.specs.NewValues.{opened, kept_by, new_among}
+use Rattle.server_model.specs.NewValues.{kept_by, new_among}
 use Rattle.server_model.specs.Walk.{Transaction, begun, Walk, walk_of, transaction_in, with_transaction, next_of, Performed, stands, if_stands, performed_by, Deed, Nothing, Meaningless, Ran, meaning, deed, with_meaning, deed_of, is_ending, ends, with_call, if_ended, take_entry, if_commits, with_perhaps, stopped, with_numbers, after_deed, if_uncommitted, if_nothing, after_thing, entered, after}
 use Rattle.world_model.proofs.DrawnOnce.{times, times_both, once_each, each_once}
+use Rattle.world_model.proofs.RanWalks.{enters}
 
 -- ITEMS WITHOUT THE MARK --------------------------------------------------------------------------
 
@@ -87,7 +88,7 @@ unmarked_new : (base : Base) (replay : Bool) (kept draws : List Draw) → replay
 unmarked_new base true kept draws is = absurd (let never : ⊥ = cc in never)
 unmarked_new base false kept draws is = all_new draws
 
-committed_ends : (last : Option Answer) → option_map_or is_committed last false ≡ true → option_map_or is_ending last false ≡ true
+pub committed_ends : (last : Option Answer) → option_map_or is_committed last false ≡ true → option_map_or is_ending last false ≡ true
 committed_ends None is = is
 committed_ends (Some answer.Committed) is = refl
 committed_ends (Some other) is = absurd (let never : ⊥ = cc in never)
@@ -214,20 +215,6 @@ item_spends one base walk (AskTold event x outcome) unmarked holds = rests_spend
 item_spends one base walk (AskStopped event x) unmarked holds = rests_spends one walk walk (with_perhaps walk x) [] (omega arith) (same_rests walk (with_perhaps walk x) refl refl)
 
 -- ALL ITEMS ---------------------------------------------------------------------------------------
-
--- an opening leaves entries and transactions as they are
-record SameLists (walk later : Walk) : Type 0 where
-  left : later.left ≡ walk.left
-  sessions : later.sessions ≡ walk.sessions
-
-enters : (walk : Walk) (item : Item) → SameLists walk (entered walk item)
-enters walk (Did event now session thing) = by (nat_lt walk.numbers.incarnation session.incarnation)
-  where
-    by : (test : Bool) → SameLists walk (if test then record walk { numbers = opened walk.numbers session.incarnation; is_over = false } else walk)
-    by true = record { left = refl; sessions = refl }
-    by false = record { left = refl; sessions = refl }
-enters walk (AskTold event x outcome) = record { left = refl; sessions = refl }
-enters walk (AskStopped event x) = record { left = refl; sessions = refl }
 
 stored_none : (one : Draw) (left : List Entry) → all_stored left ≡ true → times one (flat_map draws_of left) ≡ 0
 stored_none one [] all = refl

@@ -1,4 +1,4 @@
--- What a run's connections served is what the service's history has of their sessions.
+-- What a run's connections served is what the service's history has of their sessions, and what they ran is what the entries have.
 use Rattle.std.specs.Prelude.{◌≡◌, ℕ, IsTrue, List, Some}
 use Rattle.svc_values.specs.declared.entry.SessionId.{SessionId}
 use Rattle.outage_schedule.specs.declared.document.Document.{Document}
@@ -9,6 +9,7 @@ use Rattle.server_model.specs.Seen.{Seen}
 use Rattle.world_model.specs.Links.{Link, link_at}
 use Rattle.world_model.specs.Reached.{Reached}
 use Rattle.world_model.specs.Ready.{all_have_calls}
+use Rattle.world_model.specs.Same.{entries_ran}
 use Rattle.world_model.specs.SessionHistory.{served_in, served_on}
 use Rattle.world_model.specs.Traced.{Traced}
 
@@ -18,3 +19,9 @@ RunsServe =
     (document : Document) (events : List Event) (notes : List Note) (items : List Served) (seen : Seen) (t : Traced)
     → IsTrue (all_have_calls document) → Reached document events notes items seen t
     → (number : ℕ) (link : Link) (session : SessionId) → link_at t.machine.links number ≡ Some link → link.session ≡ Some session → served_in seen.history session ≡ served_on link
+
+-- Wherever it has come to, the entry of a number of a connection's session has the pieces of the transaction of this number that the connection ran.
+abbrev pub RunsRan : Type 0
+RunsRan =
+    (document : Document) (events : List Event) (notes : List Note) (items : List Served) (seen : Seen) (t : Traced)
+    → IsTrue (all_have_calls document) → Reached document events notes items seen t → IsTrue (entries_ran t)

@@ -1,6 +1,6 @@
 //! How the frames that connections served, and the entries of their sessions, are those of the service. Each law is the clause of a
 //! function with nothing to run.
-ghost use Rattle.world_model.specs.SameLaws.{RunsServe};
+ghost use Rattle.world_model.specs.SameLaws.{RunsRan, RunsServe};
 
 /// Wherever a run of a document whose requests each have a call has come to, what the service's history has of a connection's session is
 /// what the connection served: frame by frame, with what was told.
@@ -8,4 +8,14 @@ pub fn runs_serve()
     ensures { RunsServe }
 {
     crate::laws::runs_are_orderly();
+}
+
+/// Wherever such a run has come to, the entry of a number of a connection's session has the pieces of the transaction of this number that
+/// the connection ran; of a call that was stopped the call alone is known.
+pub fn runs_ran()
+    ensures { RunsRan }
+{
+    runs_serve();
+    crate::laws::runs_are_orderly();
+    server_model::laws::runs_legal();
 }

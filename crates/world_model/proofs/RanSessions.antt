@@ -1,0 +1,327 @@
+-- Along the walk over legal items each entry of a session has the pieces of its session's transaction of this number.
+use Rattle.std.proofs.Common.{◌≡◌, refl, sym, ap, subst, ◌∙◌, arith, ℕ, ◌+◌, ◌&&◌, ◌||◌, Bool, true, false, not, List, [], ◌∷◌, ◌++◌, length, length-append, map, filter, cond, Option, Some, None, if◌then◌else◌}
+use Rattle.std.specs.Prelude.{slice_get}
+use Rattle.std.specs.List.{list_all}
+use Rattle.std.specs.Option.{option_map_or}
+use Rattle.std.proofs.lemmas.Bool.{and_from, or_left, or_right}
+use Rattle.std.proofs.lemmas.List.{map-append, length_push}
+use Rattle.std.proofs.lemmas.List.Elements.{filter-append}
+use Rattle.std.proofs.lemmas.List.Folds.{list_all-append}
+use Rattle.svc_values.specs.declared.answer.Answer.{Answer}
+use Rattle.svc_values.specs.declared.answer.Answer.TheVariants as answer
+use Rattle.svc_values.specs.declared.call.Call.{Call}
+use Rattle.svc_values.specs.declared.call.Call.TheVariants as call
+use Rattle.svc_values.specs.declared.draw.Draw.{Draw}
+use Rattle.svc_values.specs.declared.entry.Entry.{Entry}
+use Rattle.svc_values.specs.declared.entry.Ltxid.{Ltxid}
+use Rattle.svc_values.specs.declared.entry.Piece.{Piece}
+use Rattle.svc_values.specs.declared.entry.SessionId.{SessionId}
+use Rattle.svc_values.specs.declared.frame.Up.{Up}
+use Rattle.svc_values.specs.Endings.{last_answer, ends_committed, is_committed, is_conflict, is_rolled_back}
+use Rattle.svc_values.specs.Identifiers.{is_of, same_session}
+use Rattle.svc_values.specs.Same.{same_piece, same_call}
+use Rattle.svc_values.specs.SameLaws.{same_call_decides, same_piece_decides}
+use Rattle.outage_schedule.specs.declared.item.Item.{Item as ItemTold}
+use Rattle.outage_schedule.specs.declared.item.Item.TheVariants as item
+use Rattle.server_model.specs.Items.{Thing, Began, Called, CallStopped}
+use Rattle.server_model.specs.Walk.{Transaction, begun, Walk, with_transaction, transaction_in, number_of, next_of, is_ending, ends, if_ended}
+use Rattle.world_model.specs.Frames.{Sent}
+use Rattle.world_model.specs.Parts.{implies}
+use Rattle.world_model.specs.Same.{ServedCall, Ran, is_no_commit, did_all, with_call, ran_item, is_piece_of, are_pieces}
+use Rattle.world_model.proofs.AllLists.{weaker_all}
+use Rattle.world_model.proofs.RanFrames.{Deals, DealsBegin, DealsEnd, DealsCall, DealsStop, DealsQuietly, rests_behind, is_call, is_quiet_item, is_quiet_thing}
+use Rattle.world_model.proofs.RanWalks.{IsSameWalk, Stores, Takes, Keeps, Calls, Stops, IsStored, IsNothing, Moved}
+use Rattle.world_model.proofs.Recalling.{get_further, get_last}
+use Rattle.world_model.proofs.StoredDraws.{committed_ends}
+use Rattle.world_model.proofs.Tests.{session_self, same_session_is}
+
+-- TRANSACTIONS OF SESSIONS ------------------------------------------------------------------------
+
+transaction_own : (sessions : List (SessionId × Transaction)) (session : SessionId) (transaction : Transaction) → transaction_in (with_transaction sessions session transaction) session ≡ transaction
+transaction_own [] session transaction = ap (λ (test : Bool). if test then transaction else begun []) (session_self session)
+transaction_own (first ∷ rest) session transaction = by (same_session first.0 session) refl (transaction_own rest session transaction)
+  where
+    by : (test : Bool) → same_session first.0 session ≡ test → transaction_in (with_transaction rest session transaction) session ≡ transaction
+        → transaction_in (if test then (session, transaction) ∷ rest else first ∷ with_transaction rest session transaction) session ≡ transaction
+    by true is again = ap (λ (test : Bool). if test then transaction else transaction_in rest session) (session_self session)
+    by false is again = ap (λ (test : Bool). if test then first.1 else transaction_in (with_transaction rest session transaction) session) is ∙ again
+
+transaction_other : (sessions : List (SessionId × Transaction)) (other session : SessionId) (transaction : Transaction) → same_session other session ≡ false → transaction_in (with_transaction sessions other transaction) session ≡ transaction_in sessions session
+transaction_other [] other session transaction apart = ap (λ (test : Bool). if test then transaction else begun []) apart
+transaction_other (first ∷ rest) other session transaction apart = by (same_session first.0 other) refl (transaction_other rest other session transaction apart)
+  where
+    by : (test : Bool) → same_session first.0 other ≡ test → transaction_in (with_transaction rest other transaction) session ≡ transaction_in rest session
+        → transaction_in (if test then (other, transaction) ∷ rest else first ∷ with_transaction rest other transaction) session ≡ (if same_session first.0 session then first.1 else transaction_in rest session)
+    by true is again =
+        ap (λ (test : Bool). if test then transaction else transaction_in rest session) apart
+        ∙ sym (ap (λ (test : Bool). if test then first.1 else transaction_in rest session) (ap (λ (s : SessionId). same_session s session) (same_session_is first.0 other is) ∙ apart))
+    by false is again = ap (λ (found : Transaction). if same_session first.0 session then first.1 else found) again
+
+-- ENTRIES OF A SESSION ----------------------------------------------------------------------------
+
+abbrev pub is_its : SessionId → Entry → Bool
+is_its session entry = is_of entry.ltxid session.incarnation session.session
+
+number_more : (stored : List Entry) (entry : Entry) (session : SessionId) → number_of (stored ++ entry ∷ []) session ≡ number_of stored session + length (cond (is_its session entry) (entry ∷ []) [])
+number_more stored entry session = ap length (filter-append (is_its session) stored (entry ∷ [])) ∙ length-append (filter (is_its session) stored) (cond (is_its session entry) (entry ∷ []) [])
+
+number_own : (stored : List Entry) (entry : Entry) (session : SessionId) → is_its session entry ≡ true → number_of (stored ++ entry ∷ []) session ≡ number_of stored session + 1
+number_own stored entry session is = number_more stored entry session ∙ ap (λ (test : Bool). number_of stored session + length (cond test (entry ∷ []) [])) is
+
+number_other : (stored : List Entry) (entry : Entry) (session : SessionId) → is_its session entry ≡ false → number_of (stored ++ entry ∷ []) session ≡ number_of stored session
+number_other stored entry session is =
+    number_more stored entry session ∙ ap (λ (test : Bool). number_of stored session + length (cond test (entry ∷ []) [])) is ∙ (let same : number_of stored session + 0 ≡ number_of stored session = omega arith in same)
+
+-- an entry of this session has the pieces of its transaction
+abbrev pub has_ran : SessionId → List (List ServedCall) → Entry → Bool
+has_ran session over entry = implies (is_its session entry) (option_map_or (λ dids. are_pieces dids entry.pieces) (slice_get over entry.ltxid.number) false)
+
+more_ran : (session : SessionId) (over more : List (List ServedCall)) (entry : Entry) → has_ran session over entry ≡ true → has_ran session (over ++ more) entry ≡ true
+more_ran session over more entry = by (is_its session entry)
+  where
+    found : (dids : Option (List ServedCall)) → slice_get over entry.ltxid.number ≡ dids → option_map_or (λ dids. are_pieces dids entry.pieces) dids false ≡ true
+        → option_map_or (λ dids. are_pieces dids entry.pieces) (slice_get (over ++ more) entry.ltxid.number) false ≡ true
+    found None is ran = absurd (let never : ⊥ = cc in never)
+    found (Some dids) is ran = ap (λ (all : Option (List ServedCall)). option_map_or (λ dids. are_pieces dids entry.pieces) all false) (get_further over more entry.ltxid.number dids is) ∙ ran
+
+    by : (own : Bool) → implies own (option_map_or (λ dids. are_pieces dids entry.pieces) (slice_get over entry.ltxid.number) false) ≡ true
+        → implies own (option_map_or (λ dids. are_pieces dids entry.pieces) (slice_get (over ++ more) entry.ltxid.number) false) ≡ true
+    by false ran = refl
+    by true ran = found (slice_get over entry.ltxid.number) refl ran
+
+pub other_ran : (session : SessionId) (over : List (List ServedCall)) (entry : Entry) → is_its session entry ≡ false → has_ran session over entry ≡ true
+other_ran session over entry is = ap (λ (own : Bool). implies own (option_map_or (λ dids. are_pieces dids entry.pieces) (slice_get over entry.ltxid.number) false)) is
+
+-- the last one
+last_ran : (session : SessionId) (over : List (List ServedCall)) (dids : List ServedCall) (entry : Entry) → is_its session entry ≡ true → entry.ltxid.number ≡ length over → are_pieces dids entry.pieces ≡ true → has_ran session (over ++ dids ∷ []) entry ≡ true
+last_ran session over dids entry own number pieces =
+    ap (λ (test : Bool). implies test (option_map_or (λ all. are_pieces all entry.pieces) (slice_get (over ++ dids ∷ []) entry.ltxid.number) false)) own
+    ∙ ap (λ (n : ℕ). option_map_or (λ all. are_pieces all entry.pieces) (slice_get (over ++ dids ∷ []) n) false) number
+    ∙ ap (λ (all : Option (List ServedCall)). option_map_or (λ all. are_pieces all entry.pieces) all false) (get_last over dids) ∙ pieces
+
+-- WHERE A SESSION STANDS --------------------------------------------------------------------------
+
+abbrev pub StoredRight : Walk → SessionId → List (List ServedCall) → Type 0
+StoredRight walk session over = list_all (has_ran session over) walk.stored ≡ true
+
+abbrev pub pieces_of : List ServedCall → List Piece
+pieces_of dids = map (λ did. did.piece) dids
+
+-- It has an entry for each transaction that is over; what is open has the pieces of the walk's transaction, but between requests.
+pub record Stands (walk : Walk) (session : SessionId) (ran : Ran) (resting : Bool) : Type 0 where
+  pub count : number_of walk.stored session ≡ length ran.over
+  pub now : resting ≡ false → (transaction_in walk.sessions session).pieces ≡ pieces_of ran.pieces
+  pub all : StoredRight walk session ran.over
+
+pub same_stored : (walk later : Walk) (session : SessionId) (over : List (List ServedCall)) → later.stored ≡ walk.stored → StoredRight walk session over → StoredRight later session over
+same_stored walk later session over same all = ap (list_all (has_ran session over)) same ∙ all
+
+pub same_stands : (walk later : Walk) (session : SessionId) (ran : Ran) (resting : Bool) → IsSameWalk walk later → Stands walk session ran resting → Stands later session ran resting
+same_stands walk later session ran resting same stands = record {
+  count = ap (λ (stored : List Entry). number_of stored session) same.stored ∙ stands.count;
+  now = λ is. ap (λ (sessions : List (SessionId × Transaction)). (transaction_in sessions session).pieces) same.sessions ∙ stands.now is;
+  all = same_stored walk later session ran.over same.stored stands.all;
+}
+
+-- ANOTHER SESSION'S ITEM --------------------------------------------------------------------------
+
+-- what an item of another session leaves
+record IsOthers (walk later : Walk) (session : SessionId) : Type 0 where
+  count : number_of later.stored session ≡ number_of walk.stored session
+  transaction : transaction_in later.sessions session ≡ transaction_in walk.sessions session
+  all : (over : List (List ServedCall)) → StoredRight walk session over → StoredRight later session over
+
+same_others : (walk later : Walk) (session : SessionId) → IsSameWalk walk later → IsOthers walk later session
+same_others walk later session same = record {
+  count = ap (λ (stored : List Entry). number_of stored session) same.stored;
+  transaction = ap (λ (sessions : List (SessionId × Transaction)). transaction_in sessions session) same.sessions;
+  all = λ over all. same_stored walk later session over same.stored all;
+}
+
+calls_others : (walk later : Walk) (other session : SessionId) (called : Call) (answers : List Answer) (draws : List Draw) → same_session other session ≡ false → Calls walk later other called answers draws → IsOthers walk later session
+calls_others walk later other session called answers draws apart calls = by (ends_committed answers) calls.stores
+  where
+    transaction_is : transaction_in later.sessions session ≡ transaction_in walk.sessions session
+    transaction_is = ap (λ (sessions : List (SessionId × Transaction)). transaction_in sessions session) calls.sessions ∙ transaction_other walk.sessions other session (if_ended (ends answers) calls.made) apart
+
+    by : (test : Bool) → Stores walk later other calls.made test → IsOthers walk later session
+    by _ (Keeps stored left) = record {
+      count = ap (λ (all : List Entry). number_of all session) stored;
+      transaction = transaction_is;
+      all = λ over all. same_stored walk later session over stored all;
+    }
+    by _ (Takes entry rest left stored gone named pieces) =
+        let foreign : is_its session entry ≡ false = ap (λ (x : Ltxid). is_of x session.incarnation session.session) named ∙ apart in
+        record {
+          count = ap (λ (all : List Entry). number_of all session) stored ∙ number_other walk.stored entry session foreign;
+          transaction = transaction_is;
+          all = λ over all.
+              ap (list_all (has_ran session over)) stored ∙ list_all-append (has_ran session over) walk.stored (entry ∷ [])
+              ∙ and_from (list_all (has_ran session over) walk.stored) (list_all (has_ran session over) (entry ∷ [])) all (and_from (has_ran session over entry) true (other_ran session over entry foreign) refl);
+        }
+
+moved_others : (walk later : Walk) (other session : SessionId) (thing : Thing) → same_session other session ≡ false → Moved walk later other thing → IsOthers walk later session
+moved_others walk later other session (Began settings) apart moved = record {
+  count = ap (λ (stored : List Entry). number_of stored session) moved.stored;
+  transaction = ap (λ (sessions : List (SessionId × Transaction)). transaction_in sessions session) moved.sessions ∙ transaction_other walk.sessions other session (begun settings) apart;
+  all = λ over all. same_stored walk later session over moved.stored all;
+}
+moved_others walk later other session (Called replay kept called answers draws) apart moved = calls_others walk later other session called answers draws apart moved
+moved_others walk later other session (CallStopped replay called) apart (IsStored answers draws calls) = calls_others walk later other session called answers draws apart calls
+moved_others walk later other session (CallStopped replay called) apart (IsNothing same) = same_others walk later session same
+moved_others walk later other session thing apart moved = same_others walk later session moved
+
+pub others_stored : (walk later : Walk) (other session : SessionId) (thing : Thing) (over : List (List ServedCall)) → same_session other session ≡ false → Moved walk later other thing → StoredRight walk session over → StoredRight later session over
+others_stored walk later other session thing over apart moved all = (moved_others walk later other session thing apart moved).all over all
+
+pub others_stand : (walk later : Walk) (other session : SessionId) (thing : Thing) (ran : Ran) (resting : Bool) → same_session other session ≡ false → Moved walk later other thing → Stands walk session ran resting → Stands later session ran resting
+others_stand walk later other session thing ran resting apart moved stands =
+    let so = moved_others walk later other session thing apart moved in
+    record { count = so.count ∙ stands.count; now = λ is. ap (λ (t : Transaction). t.pieces) so.transaction ∙ stands.now is; all = so.all ran.over stands.all }
+
+-- ITS OWN ITEM ------------------------------------------------------------------------------------
+
+pieces_own : (dids : List ServedCall) → are_pieces dids (pieces_of dids) ≡ true
+pieces_own [] = refl
+pieces_own (did ∷ dids) = and_from (is_piece_of did did.piece) (are_pieces dids (pieces_of dids)) (or_left (same_piece did.piece did.piece) _ ((same_piece_decides did.piece did.piece).1 refl)) (pieces_own dids)
+
+pieces_more : (dids : List ServedCall) (did : ServedCall) (piece : Piece) → is_piece_of did piece ≡ true → are_pieces (dids ++ did ∷ []) (pieces_of dids ++ piece ∷ []) ≡ true
+pieces_more [] did piece is = and_from (is_piece_of did piece) true is refl
+pieces_more (first ∷ dids) did piece is =
+    and_from (is_piece_of first first.piece) (are_pieces (dids ++ did ∷ []) (pieces_of dids ++ piece ∷ [])) (or_left (same_piece first.piece first.piece) _ ((same_piece_decides first.piece first.piece).1 refl)) (pieces_more dids did piece is)
+
+ending_same : (last : Option Answer) → option_map_or is_ending last false ≡ (option_map_or (λ a. is_committed a || (is_conflict a || is_rolled_back a)) last false || option_map_or is_no_commit last false)
+ending_same None = refl
+ending_same (Some answer.Committed) = refl
+ending_same (Some answer.Conflict) = refl
+ending_same (Some answer.RolledBack) = refl
+ending_same (Some answer.CommitInReplay) = refl
+ending_same (Some other) = refl
+
+over_same : (ran : Ran) (called : Call) → (with_call ran called).over ≡ ran.over
+over_same ran (call.Set name x) = refl
+over_same ran called = refl
+
+-- the entry that a call of this session stores
+own_entry : (walk : Walk) (session : SessionId) (entry : Entry) → entry.ltxid ≡ next_of walk session → is_its session entry ≡ true
+own_entry walk session entry named = ap (λ (x : Ltxid). is_of x session.incarnation session.session) named ∙ session_self session
+
+more_stored : (walk later : Walk) (session : SessionId) (over : List (List ServedCall)) (dids : List ServedCall) (entry : Entry) → number_of walk.stored session ≡ length over → StoredRight walk session over → later.stored ≡ walk.stored ++ entry ∷ []
+    → entry.ltxid ≡ next_of walk session → are_pieces dids entry.pieces ≡ true → StoredRight later session (over ++ dids ∷ [])
+more_stored walk later session over dids entry count all stored named pieces =
+    ap (list_all (has_ran session (over ++ dids ∷ []))) stored ∙ list_all-append (has_ran session (over ++ dids ∷ [])) walk.stored (entry ∷ [])
+    ∙ and_from (list_all (has_ran session (over ++ dids ∷ [])) walk.stored) (list_all (has_ran session (over ++ dids ∷ [])) (entry ∷ []))
+    (weaker_all (has_ran session over) (has_ran session (over ++ dids ∷ [])) walk.stored (more_ran session over (dids ∷ [])) all)
+    (and_from (has_ran session (over ++ dids ∷ []) entry) true (last_ran session over dids entry (own_entry walk session entry named) (ap (λ (x : Ltxid). x.number) named ∙ count) pieces) refl)
+
+call_stands : (walk later : Walk) (session : SessionId) (ran : Ran) (sent : Sent) (marked : Bool) (called : Call) (answers : List Answer) (draws : List Draw) → Calls walk later session called answers draws → Stands walk session ran false
+    → Stands later session (ran_item ran sent (item.Call marked called answers draws)) false
+call_stands walk later session ran sent marked called answers draws calls stands =
+    subst (λ (ended : Bool). Stands later session (did_all behind (ends_committed answers) ended dids) false) (ending_same (last_answer answers))
+    (by (ends_committed answers) (ends answers) (committed_ends (last_answer answers)) calls.stores calls.sessions)
+  where
+    did : ServedCall
+    did = record { sent = sent; mark = marked; piece = record { call = called; answers = answers; draws = draws } }
+
+    dids : List ServedCall
+    dids = ran.pieces ++ did ∷ []
+
+    behind : Ran
+    behind = with_call ran called
+
+    count_is : number_of walk.stored session ≡ length behind.over
+    count_is = stands.count ∙ ap length (sym (over_same ran called))
+
+    all_is : StoredRight walk session behind.over
+    all_is = subst (StoredRight walk session) (sym (over_same ran called)) stands.all
+
+    made_is : calls.made.pieces ≡ pieces_of dids
+    made_is = calls.pieces ∙ ap (λ (pieces : List Piece). pieces ++ did.piece ∷ []) (stands.now refl) ∙ sym (map-append (λ (d : ServedCall). d.piece) ran.pieces (did ∷ []))
+
+    open_is : (transaction : Transaction) → later.sessions ≡ with_transaction walk.sessions session transaction → (transaction_in later.sessions session).pieces ≡ transaction.pieces
+    open_is transaction is = ap (λ (sessions : List (SessionId × Transaction)). (transaction_in sessions session).pieces) is ∙ ap (λ (t : Transaction). t.pieces) (transaction_own walk.sessions session transaction)
+
+    by : (committed ended : Bool) → (committed ≡ true → ended ≡ true) → Stores walk later session calls.made committed → later.sessions ≡ with_transaction walk.sessions session (if_ended ended calls.made)
+        → Stands later session (did_all behind committed ended dids) false
+    by true true also (Takes entry rest left stored gone named pieces) sessions = record {
+      count = ap (λ (all : List Entry). number_of all session) stored ∙ number_own walk.stored entry session (own_entry walk session entry named) ∙ ap (λ (n : ℕ). n + 1) count_is ∙ sym (length_push behind.over dids);
+      now = λ is. open_is (begun calls.made.settings) sessions;
+      all = more_stored walk later session behind.over dids entry count_is all_is stored named (ap (are_pieces dids) (pieces ∙ made_is) ∙ pieces_own dids);
+    }
+    by true false also stores sessions = absurd (let so : false ≡ true = also refl in let never : ⊥ = cc in never)
+    by false true also (Keeps stored left) sessions = record {
+      count = ap (λ (all : List Entry). number_of all session) stored ∙ count_is;
+      now = λ is. open_is (begun calls.made.settings) sessions;
+      all = same_stored walk later session behind.over stored all_is;
+    }
+    by false false also (Keeps stored left) sessions = record {
+      count = ap (λ (all : List Entry). number_of all session) stored ∙ count_is;
+      now = λ is. open_is calls.made sessions ∙ made_is;
+      all = same_stored walk later session behind.over stored all_is;
+    }
+
+stop_stored : (walk later : Walk) (session : SessionId) (ran : Ran) (sent : Sent) (marked : Bool) (called : Call) → Stops walk later session called → Stands walk session ran false
+    → StoredRight later session (ran_item ran sent (item.CrashedCall marked called)).over
+stop_stored walk later session ran sent marked called stops stands = by stops
+  where
+    did : ServedCall
+    did = record { sent = sent; mark = marked; piece = record { call = called; answers = []; draws = [] } }
+
+    none_more : later.stored ≡ walk.stored → StoredRight later session (ran.over ++ (ran.pieces ++ did ∷ []) ∷ [])
+    none_more same = same_stored walk later session (ran.over ++ (ran.pieces ++ did ∷ []) ∷ []) same (weaker_all (has_ran session ran.over) (has_ran session (ran.over ++ (ran.pieces ++ did ∷ []) ∷ [])) walk.stored (more_ran session ran.over ((ran.pieces ++ did ∷ []) ∷ [])) stands.all)
+
+    stored_by : (answers : List Answer) (draws : List Draw) (made : Transaction) (test : Bool) → made.pieces ≡ (transaction_in walk.sessions session).pieces ++ record { call = called; answers = answers; draws = draws } ∷ [] → Stores walk later session made test
+        → StoredRight later session (ran.over ++ (ran.pieces ++ did ∷ []) ∷ [])
+    stored_by answers draws made _ is (Keeps stored left) = none_more stored
+    stored_by answers draws made _ is (Takes entry rest left stored gone named pieces) =
+        let piece : Piece = record { call = called; answers = answers; draws = draws } in
+        more_stored walk later session ran.over (ran.pieces ++ did ∷ []) entry stands.count stands.all stored named
+        (ap (are_pieces (ran.pieces ++ did ∷ [])) (pieces ∙ is ∙ ap (λ (all : List Piece). all ++ piece ∷ []) (stands.now refl))
+        ∙ pieces_more ran.pieces did piece (or_right (same_piece did.piece piece) (same_call called called) ((same_call_decides called called).1 refl)))
+
+    by : Stops walk later session called → StoredRight later session (ran.over ++ (ran.pieces ++ did ∷ []) ∷ [])
+    by (IsNothing same) = none_more same.stored
+    by (IsStored answers draws calls) = stored_by answers draws calls.made (ends_committed answers) calls.pieces calls.stores
+
+quiet_item : (ran : Ran) (sent : Sent) (one : ItemTold) → is_quiet_item one ≡ true → ran_item ran sent one ≡ ran
+quiet_item ran sent (item.Begin settings) is = absurd (let never : ⊥ = cc in never)
+quiet_item ran sent item.End is = absurd (let never : ⊥ = cc in never)
+quiet_item ran sent (item.Call marked called answers draws) is = absurd (let never : ⊥ = cc in never)
+quiet_item ran sent (item.CrashedCall marked called) is = absurd (let never : ⊥ = cc in never)
+quiet_item ran sent one is = refl
+
+quiet_same : (walk later : Walk) (session : SessionId) (thing : Thing) → is_quiet_thing thing ≡ true → Moved walk later session thing → IsSameWalk walk later
+quiet_same walk later session (Began settings) is moved = absurd (let never : ⊥ = cc in never)
+quiet_same walk later session (Called replay kept called answers draws) is moved = absurd (let never : ⊥ = cc in never)
+quiet_same walk later session (CallStopped replay called) is moved = absurd (let never : ⊥ = cc in never)
+quiet_same walk later session thing is moved = moved
+
+-- It goes on, or the call was stopped: then the session serves nothing more.
+pub data GoesTo (later : Walk) (session : SessionId) (ran : Ran) (resting : Bool) (one : ItemTold) : Type 0 where
+  GoesOn : Stands later session ran resting → GoesTo later session ran resting one
+  IsDone : (marked : Bool) (called : Call) → one ≡ item.CrashedCall marked called → StoredRight later session ran.over → GoesTo later session ran resting one
+
+serves_call : (resting : Bool) → not (resting && true) ≡ true → resting ≡ false
+serves_call true is = absurd (let never : ⊥ = cc in never)
+serves_call false is = refl
+
+pub own_stands : (walk later : Walk) (session : SessionId) (ran : Ran) (resting : Bool) (sent : Sent) (frame : Up) (thing : Thing) (one : ItemTold) → Deals frame thing one → not (resting && is_call frame) ≡ true → Moved walk later session thing → Stands walk session ran resting
+    → GoesTo later session (ran_item ran sent one) (rests_behind resting frame) one
+own_stands walk later session ran resting sent _ _ _ (DealsBegin settings begun_with) calls moved stands = GoesOn (record {
+  count = ap (λ (stored : List Entry). number_of stored session) moved.stored ∙ stands.count;
+  now = λ is. ap (λ (sessions : List (SessionId × Transaction)). (transaction_in sessions session).pieces) moved.sessions ∙ ap (λ (t : Transaction). t.pieces) (transaction_own walk.sessions session (begun settings));
+  all = same_stored walk later session ran.over moved.stored stands.all;
+})
+own_stands walk later session ran resting sent _ _ _ DealsEnd calls moved stands = GoesOn (record {
+  count = ap (λ (stored : List Entry). number_of stored session) moved.stored ∙ stands.count;
+  now = λ is. absurd (let never : ⊥ = cc in never);
+  all = same_stored walk later session ran.over moved.stored stands.all;
+})
+own_stands walk later session ran resting sent _ _ _ (DealsCall replay marked kept called answers draws) calls moved stands =
+    let serving : resting ≡ false = serves_call resting calls in
+    GoesOn (subst (Stands later session (ran_item ran sent (item.Call marked called answers draws))) (sym serving) (call_stands walk later session ran sent marked called answers draws moved (subst (Stands walk session ran) serving stands)))
+own_stands walk later session ran resting sent _ _ _ (DealsStop replay marked kept called) calls moved stands =
+    IsDone marked called refl (stop_stored walk later session ran sent marked called moved (subst (Stands walk session ran) (serves_call resting calls) stands))
+own_stands walk later session ran resting sent _ _ _ (DealsQuietly frame thing one same quiet none) calls moved stands =
+    GoesOn (subst (λ (r : Ran). Stands later session r (rests_behind resting frame)) (sym (quiet_item ran sent one none))
+    (subst (Stands later session ran) (sym (same resting)) (same_stands walk later session ran resting (quiet_same walk later session thing quiet moved) stands)))
