@@ -1,6 +1,6 @@
 -- What sendings share an identifier with others, where a client steps: one that is answered with no more than before, one that is made with none.
-use Rattle.std.proofs.Common.{◌≡◌, ◌≢◌, refl, sym, ap, subst, ◌∙◌, Bool, true, false, ℕ, ◌+◌, ◌<◌, ◌&&◌, ◌||◌, cond, filter, length, List, [], ◌∷◌, Option, Some, None, ◌⊎◌, inl, inr, arith}
-use Rattle.std.specs.Prelude.{◌==◌, not, is_some}
+use Rattle.std.proofs.Common.{◌≡◌, ◌≢◌, refl, sym, ap, subst, ◌∙◌, Bool, true, false, ℕ, ◌+◌, ◌<◌, ◌&&◌, ◌||◌, cond, filter, length, List, [], ◌∷◌, Option, Some, None, ◌⊎◌, inl, inr, arith, fold, ◌++◌}
+use Rattle.std.specs.Prelude.{◌==◌, not, is_some, is_none}
 use Rattle.std.specs.List.{list_all, list_any}
 use Rattle.std.specs.Option.{option_map_or}
 use Rattle.std.proofs.lemmas.Bool.{and_parts, and_from}
@@ -14,7 +14,12 @@ use Rattle.world_model.specs.Frames.{Owner}
 use Rattle.world_model.specs.Invariant.{Orderly}
 use Rattle.world_model.specs.Machines.{Machine}
 use Rattle.world_model.specs.Sames.{all_with, each_pair}
+use Rattle.svc_values.specs.declared.call.Call.{Call}
+use Rattle.svc_values.specs.declared.frame.Up.{Up}
+use Rattle.svc_values.specs.declared.frame.Up.TheVariants as up
+use Rattle.svc_values.specs.declared.value.Value.{Value}
 use Rattle.client_model.specs.declared.act.Hold.{Hold}
+use Rattle.client_model.specs.declared.act.Hold.TheVariants.{Keep}
 use Rattle.world_model.specs.Clients.{Doing}
 use Rattle.world_model.specs.Conversing.{connected}
 use Rattle.world_model.specs.Hold.{is_idle}
@@ -41,10 +46,12 @@ use Rattle.svc_values.specs.SameLaws.{same_ltxid_decides}
 use Rattle.world_model.specs.Basic.{sessions_differ, sessions_of}
 use Rattle.world_model.specs.Links.{Link, link_at}
 use Rattle.world_model.specs.Once.{is_on_link, share, are_apart, is_open_or_committed}
-use Rattle.world_model.specs.Parts.{Sending, Scan, held_number}
+use Rattle.world_model.specs.Parts.{Sending, Scan, held_number, answered, sent_on, with_taken}
 use Rattle.world_model.specs.Traced.{Traced}
-use Rattle.world_model.proofs.FateSteps.{IsFated, fated, fated_from, no_connection, Taking, on}
-use Rattle.world_model.proofs.Fates.{Fate, Waits}
+use Rattle.world_model.proofs.FateSteps.{IsFated, fated, fated_from, no_connection, Taking, on, Says, Silent, CallsOne, says_at, silent_fold, called_fold, has_call}
+use Rattle.world_model.proofs.Fates.{Fate, Waits, none_is}
+use Rattle.world_model.proofs.Saying.{opening}
+use Rattle.world_model.proofs.SendingsMade.{made}
 use Rattle.world_model.proofs.Gaining.{links_apart}
 use Rattle.world_model.proofs.KeptOnLinks.{on_from}
 use Rattle.world_model.proofs.Tests.{eq_from, eq_to, same_session_is}
@@ -191,6 +198,25 @@ module _ (t : Traced) (inv : Orderly t) (apart : are_apart t ≡ true) (new : Tr
       by : (old now : List Sending) → Answering t inv apart new who step old now → AnsweredAs old now
       by _ _ (Unanswered list) = NoneNow list
       by _ _ (LastAnswered top rest answers are is) = LastNow top rest answers is.untaken
+
+  -- the frames of the step make one, or none
+  pub data PushedAs (list : List Sending) : List Sending → Type 0 where
+    NoMore : PushedAs list list
+    OneMade : (begun : Bool) (settings : List (List ℕ × Value)) (call : Call) (x : Ltxid) → one.done.act.send ≡ opening begun settings ++ up.Call false [] call ∷ [] → one.done.act.hold ≡ Keep → scan_now.held ≡ Some x → PushedAs list (made scan_now call x ∷ list)
+
+  pub made_calls : (begun : Bool) (settings : List (List ℕ × Value)) (call : Call) → one.done.act.send ≡ opening begun settings ++ up.Call false [] call ∷ [] → list_any is_unmarked_frame one.done.act.send ≡ true
+  made_calls begun settings call sends = ap (list_any is_unmarked_frame) sends ∙ has_call begun settings call
+
+  pub pushed_as : PushedAs scan_now.sendings (fold (sent_on scan_now) scan_now.sendings one.done.act.send)
+  pushed_as = by one.done.act.send one.done.act.hold refl refl (says_at t.setting.terms step.before.talk step.input m.tick)
+    where
+      by : (send : List Up) (held : Hold) → one.done.act.send ≡ send → one.done.act.hold ≡ held → Says send held → PushedAs scan_now.sendings (fold (sent_on scan_now) scan_now.sendings send)
+      by _ _ is keeps (Silent send held none) = subst (PushedAs scan_now.sendings) (sym (silent_fold scan_now send scan_now.sendings none)) NoMore
+      by _ _ is keeps (CallsOne begun settings call) = subst (PushedAs scan_now.sendings) (sym (called_fold scan_now begun settings call scan_now.sendings)) (found scan_now.held refl)
+        where
+          found : (held : Option Ltxid) → scan_now.held ≡ held → PushedAs scan_now.sendings (option_map_or (λ x. made scan_now call x ∷ scan_now.sendings) held scan_now.sendings)
+          found None under = NoMore
+          found (Some x) under = OneMade begun settings call x is keeps under
 
   -- no sending of before waits where a call is sent, at its place
   pub none_waits : list_any is_unmarked_frame one.done.act.send ≡ true → (sending : Sending) → fated t.machine.links sending ≡ true → sending.taken ≡ None → step.connection ≡ Some sending.connection → sending.at ≡ scan_now.shown → ⊥

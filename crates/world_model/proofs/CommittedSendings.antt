@@ -54,9 +54,9 @@ any_with {A} p q r (x ∷ xs) both any all =
     by (inr later) passes again = or_right (r x) (list_any r xs) (again later)
 
 -- the last one that a filter leaves in is one of the list
-last_found : (test keep : Sent → Bool) (found : Option Sent) (xs : List Sent) (x : Sent) → last_or found (filter keep xs) ≡ Some x → test x ≡ true → (found ≡ Some x) ⊎ (list_any test xs ≡ true)
+pub last_found : {A : Type 0} (test keep : A → Bool) (found : Option A) (xs : List A) (x : A) → last_or found (filter keep xs) ≡ Some x → test x ≡ true → (found ≡ Some x) ⊎ (list_any test xs ≡ true)
 last_found test keep found [] x is here = inl is
-last_found test keep found (first ∷ xs) x is here = by (keep first) is (λ now. last_found test keep (Some first) xs x now here) (λ now. last_found test keep found xs x now here)
+last_found {A} test keep found (first ∷ xs) x is here = by (keep first) is (λ now. last_found test keep (Some first) xs x now here) (λ now. last_found test keep found xs x now here)
   where
     later : (Some first ≡ Some x) ⊎ (list_any test xs ≡ true) → (test first || list_any test xs) ≡ true
     later (inl same) = let equal : first ≡ x = cc in or_left (test first) (list_any test xs) (ap test equal ∙ here)
@@ -155,7 +155,7 @@ commit_out t link is rightly = by (last_or None (served_reps link)) (out_frame l
         let same = and_parts (same_owners one.sent.owner sent.owner) ((one.sent.call == sent.call) && same_up one.sent.frame sent.frame) both.1 in
         record { sent = sent; is = at; commits = commit_alike one.sent.frame sent.frame (and_parts (one.sent.call == sent.call) (same_up one.sent.frame sent.frame) same.1).1 both.0 }
 
-commit_unmarked : (frame : Up) → is_commit_frame frame ≡ true → is_unmarked_frame frame ≡ true
+pub commit_unmarked : (frame : Up) → is_commit_frame frame ≡ true → is_unmarked_frame frame ≡ true
 commit_unmarked (up.Call false kept call) commit = refl
 commit_unmarked frame commit = absurd (let none : ⊥ = cc in none)
 

@@ -66,7 +66,7 @@ last_some x [] = refl
 last_some x (y ∷ xs) = last_some y xs
 
 -- where none is last, none passes
-none_passes : {A : Type 0} (p : A → Bool) (xs : List A) → is_none (last_or None (filter p xs)) ≡ true → list_all (λ x. not (p x)) xs ≡ true
+pub none_passes : {A : Type 0} (p : A → Bool) (xs : List A) → is_none (last_or None (filter p xs)) ≡ true → list_all (λ x. not (p x)) xs ≡ true
 none_passes p [] none = refl
 none_passes p (x ∷ xs) none = by (p x) none (λ later. none_passes p xs later)
   where

@@ -91,7 +91,7 @@ pairs_last (a ∷ []) [] x y all = absurd (let parts = and_parts (is_sending_of 
 pairs_last (a ∷ c ∷ xs) [] x y all = absurd (let parts = and_parts (is_sending_of a y) false all in let none : ⊥ = cc in none)
 pairs_last (a ∷ xs) (b ∷ ys) x y all = pairs_last xs ys x y (and_parts (is_sending_of a b) (pointwise is_sending_of (xs ++ x ∷ []) (ys ++ y ∷ [])) all).1
 
-last_any : (numbers : List ℕ) (number : ℕ) → last_or None numbers ≡ Some number → list_any (λ other. other == number) numbers ≡ true
+pub last_any : (numbers : List ℕ) (number : ℕ) → last_or None numbers ≡ Some number → list_any (λ other. other == number) numbers ≡ true
 last_any numbers number is =
     let ends = ends_at numbers number is in
     ap (list_any (λ other. other == number)) ends.are
@@ -157,10 +157,9 @@ module _ (t : Traced) (inv : Orderly t) (who : ℕ) (n : Machine) (step : HasSte
         let same : at.sents ≡ link.sent = cc in
         subst (λ (sents : List Sent). agrees mine connection sents scan.sendings ≡ true) same at.passes
 
-    -- what was sent last there is the call of its last sending
-    pub last_call : (top : Sending) (rest : List Sending) → scan.sendings ≡ top ∷ rest → (top.connection == connection) ≡ true → (last : Sent) → last_or None link.sent ≡ Some last → owned_by mine last ≡ true → is_unmarked last ≡ true
-        → is_commit_call last ≡ true → has_commit top.call ≡ true
-    last_call top rest are on last is own unmarked commits =
+    -- what was sent last there is its last sending
+    pub last_pair : (top : Sending) (rest : List Sending) → scan.sendings ≡ top ∷ rest → (top.connection == connection) ≡ true → (last : Sent) → last_or None link.sent ≡ Some last → owned_by mine last ≡ true → is_unmarked last ≡ true → is_sending_of last top ≡ true
+    last_pair top rest are on last is own unmarked =
         let ends = ends_at link.sent last is in
         let sents : calls_of mine link.sent ≡ calls_of mine ends.before ++ last ∷ [] =
         ap (calls_of mine) ends.are
@@ -170,10 +169,13 @@ module _ (t : Traced) (inv : Orderly t) (who : ℕ) (n : Machine) (step : HasSte
         ap (on_of connection) are
         ∙ (ap (λ (test : Bool). reverse_onto (if test then top ∷ filter (λ (s : Sending). s.connection == connection) rest else filter (λ (s : Sending). s.connection == connection) rest) []) on
         ∙ onto_append (filter (λ (s : Sending). s.connection == connection) rest) (top ∷ [])) in
-        let pairs : is_sending_of last top ≡ true =
         pairs_last (calls_of mine ends.before) (on_of connection rest) last top
-        (subst (λ (on : List Sending). pointwise is_sending_of (calls_of mine ends.before ++ last ∷ []) on ≡ true) sendings (subst (λ (all : List Sent). pointwise is_sending_of all (on_of connection scan.sendings) ≡ true) sents agreed)) in
-        by last.frame (and_parts (last.call == top.at) (is_call_of top.call last.frame) pairs).1 commits
+        (subst (λ (on : List Sending). pointwise is_sending_of (calls_of mine ends.before ++ last ∷ []) on ≡ true) sendings (subst (λ (all : List Sent). pointwise is_sending_of all (on_of connection scan.sendings) ≡ true) sents agreed))
+
+    -- and the call of it
+    pub last_call : (top : Sending) (rest : List Sending) → scan.sendings ≡ top ∷ rest → (top.connection == connection) ≡ true → (last : Sent) → last_or None link.sent ≡ Some last → owned_by mine last ≡ true → is_unmarked last ≡ true
+        → is_commit_call last ≡ true → has_commit top.call ≡ true
+    last_call top rest are on last is own unmarked commits = by last.frame (and_parts (last.call == top.at) (is_call_of top.call last.frame) (last_pair top rest are on last is own unmarked)).1 commits
       where
         by : (frame : Up) → is_call_of top.call frame ≡ true → is_commit_frame frame ≡ true → has_commit top.call ≡ true
         by (up.Call false kept call) same commits_so = ap has_commit ((same_call_decides top.call call).0 same) ∙ commits_so

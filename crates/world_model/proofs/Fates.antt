@@ -74,7 +74,7 @@ waits_to sending link waits =
 abbrev taken_test : Sending → ℕ → Option (List Answer) → Bool
 taken_test sending number taken = option_map_or (λ answers. implies (ends_committed answers) (nat_lt sending.ltxid.number number)) taken true
 
-implies_by : (a b : Bool) → (a ≡ true → b ≡ true) → implies a b ≡ true
+pub implies_by : (a b : Bool) → (a ≡ true → b ≡ true) → implies a b ≡ true
 implies_by true b here = here refl
 implies_by false b here = refl
 

@@ -2,7 +2,7 @@
 use Rattle.std.proofs.Common.{◌≡◌, refl, sym, ap, subst, ◌∙◌, Bool, true, false, ℕ, ◌+◌, ◌&&◌, ◌||◌, cond, filter, flat_map, fold, length, List, [], ◌∷◌, Option, Some, None}
 use Rattle.std.specs.Prelude.{◌==◌, is_some}
 use Rattle.std.specs.List.{list_all, list_any}
-use Rattle.std.specs.Option.{option_map_or}
+use Rattle.std.specs.Option.{option_map_or, option_or}
 use Rattle.std.proofs.lemmas.Bool.{and_parts, and_from, or_right}
 use Rattle.std.proofs.lemmas.List.Folds.{list_all-append}
 use Rattle.svc_values.specs.declared.entry.Ltxid.{Ltxid}
@@ -13,6 +13,7 @@ use Rattle.world_model.specs.Invariant.{Orderly}
 use Rattle.world_model.specs.Machines.{Machine}
 use Rattle.world_model.specs.Sames.{all_with, each_pair}
 use Rattle.client_model.specs.declared.act.Hold.{Hold}
+use Rattle.world_model.specs.Clients.{Doing}
 use Rattle.world_model.proofs.ClientSteps.{HasStepped}
 use Rattle.world_model.proofs.Happened.{at_event}
 use Rattle.world_model.proofs.SendingSteps.{scan_by, heard_scan}
@@ -28,13 +29,11 @@ use Rattle.world_model.proofs.InPlace.{InPlace, Here, There}
 use Rattle.world_model.proofs.Tests.{eq_from}
 use Rattle.world_model.proofs.Turning.{some_same}
 use Rattle.svc_values.specs.declared.call.Call.{Call}
-use Rattle.svc_values.specs.declared.frame.Up.{Up}
 use Rattle.world_model.specs.Frames.{Sent}
 use Rattle.world_model.specs.Parts.{sent_on, out_frame, is_commit_call, is_unmarked_frame}
 use Rattle.world_model.specs.Sames.{owned_by}
 use Rattle.world_model.proofs.AllLists.{weaker_all}
-use Rattle.world_model.proofs.ApartSteps.{AnsweredAs, NoneNow, LastNow, commits, made_shares, share_turned, with_answered, each_answered, answered_as, none_waits}
-use Rattle.world_model.proofs.FateSteps.{Says, Silent, CallsOne, says_at, silent_fold, called_fold, has_call}
+use Rattle.world_model.proofs.ApartSteps.{AnsweredAs, NoneNow, LastNow, PushedAs, NoMore, OneMade, pushed_as, made_calls, commits, made_shares, share_turned, with_answered, each_answered, answered_as, none_waits}
 use Rattle.world_model.proofs.FateTops.{all_with_is}
 use Rattle.world_model.proofs.LostKept.{both_all}
 use Rattle.world_model.proofs.SendingSteps.{leads}
@@ -122,24 +121,8 @@ module _ (t : Traced) (inv : Orderly t) (apart : are_apart t ≡ true) (new : Tr
               let second : waits.frame.call ≡ other.at = eq_from waits.frame.call other.at (and_parts (owned_by other.owner waits.frame) (waits.frame.call == other.at) (and_parts (is_commit_call waits.frame) (owned_by other.owner waits.frame && (waits.frame.call == other.at)) waits.is).1).1 in
               sym second ∙ (ap (λ (s : Sent). s.call) (sym frame) ∙ first)
 
-  -- the frames of the step make one, or none
-  data PushedAs (list : List Sending) : List Sending → Type 0 where
-    NoMore : PushedAs list list
-    OneMade : (call : Call) (x : Ltxid) → list_any is_unmarked_frame one.done.act.send ≡ true → PushedAs list (made scan_now call x ∷ list)
-
-  pushed_as : PushedAs scan_now.sendings (fold (sent_on scan_now) scan_now.sendings one.done.act.send)
-  pushed_as = by one.done.act.send one.done.act.hold refl (says_at t.setting.terms step.before.talk step.input m.tick)
-    where
-      by : (send : List Up) (held : Hold) → one.done.act.send ≡ send → Says send held → PushedAs scan_now.sendings (fold (sent_on scan_now) scan_now.sendings send)
-      by _ _ is (Silent send held none) = subst (PushedAs scan_now.sendings) (sym (silent_fold scan_now send scan_now.sendings none)) NoMore
-      by _ _ is (CallsOne begun settings call) = subst (PushedAs scan_now.sendings) (sym (called_fold scan_now begun settings call scan_now.sendings)) (found scan_now.held)
-        where
-          found : (held : Option Ltxid) → PushedAs scan_now.sendings (option_map_or (λ x. made scan_now call x ∷ scan_now.sendings) held scan_now.sendings)
-          found None = NoMore
-          found (Some x) = OneMade call x (ap (list_any is_unmarked_frame) is ∙ has_call begun settings call)
-
   -- those before, where they are answered
-  answered_old : (old list : List Sending) → AnsweredAs old list → list_all (fated t.machine.links) (filter commits old) ≡ true → list_all before_so_old (filter commits list) ≡ true
+  pub answered_old : (old list : List Sending) → AnsweredAs old list → list_all (fated t.machine.links) (filter commits old) ≡ true → list_all before_so_old (filter commits list) ≡ true
   answered_old _ _ (NoneNow list) all = weaker_all (fated t.machine.links) before_so_old (filter commits list) (λ sending here. or_right (is_some sending.taken) (fated t.machine.links sending) here) all
   answered_old _ _ (LastNow top rest answers none) all = by (has_commit top.call) all
     where
@@ -150,19 +133,19 @@ module _ (t : Traced) (inv : Orderly t) (apart : are_apart t ≡ true) (new : Tr
       by false all = rest_so all
       by true all = rest_so (and_parts (fated t.machine.links top) (list_all (fated t.machine.links) (filter commits rest)) all).1
 
-  fits_pushed : (list pushed : List Sending) → PushedAs list pushed → list_all now_so (filter commits pushed) ≡ true → (a : Sending) → ok a ≡ true → all_with (share a) (filter commits list) ≡ true → all_with (share a) (filter commits pushed) ≡ true
+  fits_pushed : (list pushed : List Sending) → PushedAs t inv apart new who step list pushed → list_all now_so (filter commits pushed) ≡ true → (a : Sending) → ok a ≡ true → all_with (share a) (filter commits list) ≡ true → all_with (share a) (filter commits pushed) ≡ true
   fits_pushed list _ NoMore now a okay all = all
-  fits_pushed list _ (OneMade call x calls) now a okay all = by (has_commit call) now
+  fits_pushed list _ (OneMade began settings call x sends keeps under) now a okay all = by (has_commit call) now
     where
       by : (test : Bool) → list_all now_so (cond test (made scan_now call x ∷ filter commits list) (filter commits list)) ≡ true → all_with (share a) (cond test (made scan_now call x ∷ filter commits list) (filter commits list)) ≡ true
       by false now = all
       by true now =
           and_from (share a (made scan_now call x)) (all_with (share a) (filter commits list))
-          (share_turned (made scan_now call x) a (made_vs calls call x (and_parts (now_so (made scan_now call x)) (list_all now_so (filter commits list)) now).0 a okay)) all
+          (share_turned (made scan_now call x) a (made_vs (made_calls t inv apart new who step began settings call sends) call x (and_parts (now_so (made scan_now call x)) (list_all now_so (filter commits list)) now).0 a okay)) all
 
-  pairs_pushed : (list pushed : List Sending) → PushedAs list pushed → list_all now_so (filter commits pushed) ≡ true → list_all before_so_old (filter commits list) ≡ true → each_pair share (filter commits list) ≡ true → each_pair share (filter commits pushed) ≡ true
+  pairs_pushed : (list pushed : List Sending) → PushedAs t inv apart new who step list pushed → list_all now_so (filter commits pushed) ≡ true → list_all before_so_old (filter commits list) ≡ true → each_pair share (filter commits list) ≡ true → each_pair share (filter commits pushed) ≡ true
   pairs_pushed list _ NoMore now old pairs = pairs
-  pairs_pushed list _ (OneMade call x calls) now old pairs = by (has_commit call) now
+  pairs_pushed list _ (OneMade began settings call x sends keeps under) now old pairs = by (has_commit call) now
     where
       by : (test : Bool) → list_all now_so (cond test (made scan_now call x ∷ filter commits list) (filter commits list)) ≡ true → each_pair share (cond test (made scan_now call x ∷ filter commits list) (filter commits list)) ≡ true
       by false now = pairs
@@ -170,7 +153,7 @@ module _ (t : Traced) (inv : Orderly t) (apart : are_apart t ≡ true) (new : Tr
           let parts = and_parts (now_so (made scan_now call x)) (list_all now_so (filter commits list)) now in
           and_from (all_with (share (made scan_now call x)) (filter commits list)) (each_pair share (filter commits list))
           (all_with_is (share (made scan_now call x)) (filter commits list)
-          ∙ weaker_all ok (share (made scan_now call x)) (filter commits list) (λ other okay. made_vs calls call x parts.0 other okay) (both_all before_so_old now_so (filter commits list) old parts.1)) pairs
+          ∙ weaker_all ok (share (made scan_now call x)) (filter commits list) (λ other okay. made_vs (made_calls t inv apart new who step began settings call sends) call x parts.0 other okay) (both_all before_so_old now_so (filter commits list) old parts.1)) pairs
 
   -- ALL REQUESTS ----------------------------------------------------------------------------------
 
@@ -197,11 +180,11 @@ module _ (t : Traced) (inv : Orderly t) (apart : are_apart t ≡ true) (new : Tr
 
       fits : (a : Sending) → ok a ≡ true → all_with (share a) mine_old ≡ true → all_with (share a) mine_new ≡ true
       fits a okay all =
-          fits_pushed scan_now.sendings (fold (sent_on scan_now) scan_now.sendings one.done.act.send) pushed_as parts.1 a okay (with_answered a sendings scan_now.sendings (answered_as t inv apart new who step) all)
+          fits_pushed scan_now.sendings (fold (sent_on scan_now) scan_now.sendings one.done.act.send) (pushed_as t inv apart new who step) parts.1 a okay (with_answered a sendings scan_now.sendings (answered_as t inv apart new who step) all)
 
       own : each_pair share mine_old ≡ true → each_pair share mine_new ≡ true
       own pairs =
-          pairs_pushed scan_now.sendings (fold (sent_on scan_now) scan_now.sendings one.done.act.send) pushed_as parts.1 (answered_old sendings scan_now.sendings (answered_as t inv apart new who step) parts.0)
+          pairs_pushed scan_now.sendings (fold (sent_on scan_now) scan_now.sendings one.done.act.send) (pushed_as t inv apart new who step) parts.1 (answered_old sendings scan_now.sendings (answered_as t inv apart new who step) parts.0)
           (each_answered sendings scan_now.sendings (answered_as t inv apart new who step) pairs)
 
       one_ok : (sending : Sending) → fated t.machine.links sending ≡ true → now_so sending ≡ true → ok sending ≡ true

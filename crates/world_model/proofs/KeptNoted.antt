@@ -87,7 +87,7 @@ goes_kept setting AtOnce is = is
 goes_kept setting (LostToo event tick ended keeps) is = refl
 
 -- what is known of the calls that were shown behind a step
-data ShownAs (before : List ShownCall) (shown : Option Shown) : List ShownCall → Type 0 where
+pub data ShownAs (before : List ShownCall) (shown : Option Shown) : List ShownCall → Type 0 where
   NoneShown : shown ≡ None → ShownAs before shown before
   OneShown : (one : Shown) → shown ≡ Some one → ShownAs before shown (before ++ shown_call one ∷ [])
 
@@ -154,7 +154,7 @@ module _ (t : Traced) (inv : Orderly t) (new : Traced) (by_held : are_by_held ne
       by (ByReply state runs same) = let fits = fits_at (Running state) runs in (fits.0.left.one, ap (slice_get calls_are) (sym fits.0.tracked.call) ∙ fits.0.left.is)
       by (ByOutcome asking asked same committed) = let fits = fits_at (Asked asking) asked in (fits.0.left.one, ap (slice_get calls_are) (sym fits.0.tracked.call) ∙ fits.0.left.is)
 
-  shown_as : ShownAs shown_before one.done.act.shown (map shown_call (account_now terms first).shown)
+  pub shown_as : ShownAs shown_before one.done.act.shown (map shown_call (account_now terms first).shown)
   shown_as = by one.done.act.shown refl (shown_step t.setting m inv.script.talks who new.machine step)
     where
       by : (shown : Option Shown) → one.done.act.shown ≡ shown → ShownStep account_before.shown (account_now terms first).shown shown → ShownAs shown_before shown (map shown_call (account_now terms first).shown)
@@ -170,11 +170,11 @@ module _ (t : Traced) (inv : Orderly t) (new : Traced) (by_held : are_by_held ne
     calls : list_any is_unmarked_frame one.done.act.send ≡ true
     calls = ap (list_any is_unmarked_frame) sends_it ∙ has_call begun settings call
 
-    runs : (state : Living) × (first.talk.phase ≡ Running state)
+    pub runs : (state : Living) × (first.talk.phase ≡ Running state)
     runs = running_state first.talk.phase (fits_runs first.talk.phase begun settings call (subst (λ (send : List Up). list_all (frame_fits first.talk.phase) send ≡ true) sends_it (send_fits terms step.before.talk step.input m.tick)))
 
     -- no loss is heard behind it
-    after_is : step.after ≡ first
+    pub after_is : step.after ≡ first
     after_is = by step.input step.after refl step.heard_on
       where
         by : {kept : Hold} {had : Option ℕ} (input : Input) (after : Doing) → step.input ≡ input → HeardOn t.setting m new.machine who first kept (spoken_frames t.setting m who new.machine step) after had input → after ≡ first
@@ -188,10 +188,10 @@ module _ (t : Traced) (inv : Orderly t) (new : Traced) (by_held : are_by_held ne
             (subst (λ (i : Input). list_any is_unmarked_frame (talk_step terms step.before.talk i m.tick).1.send ≡ true) is calls)))
         by _ after is (OfEnded had connection link some there shut next same) = same
 
-    abbrev stepped : Client
+    abbrev pub stepped : Client
     stepped = after_hold t.setting who step.client step.after hold.Keep
 
-    there : client_at new.machine.clients who ≡ Some stepped
+    pub there : client_at new.machine.clients who ≡ Some stepped
     there =
         ap (λ (all : List Client). client_at all who) step.clients_are
         ∙ (client_set m.clients who step.client (after_hold t.setting who step.client step.after step.held) step.here ∙ ap (λ (h : Hold). Some (after_hold t.setting who step.client step.after h)) (goes_kept t.setting step.goes_on keeps))

@@ -183,7 +183,7 @@ module _ (granted : Draw → Bool) (t : Traced) (whole : Invariant granted t) (n
 
       -- THE CALL IS SHOWN ---------------------------------------------------------------------------
 
-      shown_is : act.shown ≡ Some (completed_as asking)
+      pub shown_is : act.shown ≡ Some (completed_as asking)
       shown_is =
           let fits = fits_at (Asked asking) phase in
           let next : next_call step.before.talk ≡ Some fits.0.left.one =

@@ -197,6 +197,35 @@ module _ (setting : Setting) (m : Machine) (talks : AllTalk setting.terms m.clie
       let before : length state.track.recorder.calls ≤ state.track.call = fits.1.repeating.before in
       omega arith
 
+  -- THE CALL WITHOUT THE MARK ----------------------------------------------------------------------
+
+  pub sent_scripts : (front : List Up) (kept : List Draw) (call : Call) → one.done.act.send ≡ front ++ up.Call false kept call ∷ [] → slice_get calls_are (length account_first.shown) ≡ Some call
+  sent_scripts front kept call sends =
+      let so = first_talks_on setting m talks number n step in
+      let each : EachStep (λ heard done. MaySendAll calls_are heard done.act.send) setting.terms calls_are unheard (dones_of step.before.steps ++ one.done ∷ []) =
+      subst (λ (d : List Done). EachStep (λ heard done. MaySendAll calls_are heard done.act.send) setting.terms calls_are unheard d) (sym so.converses.acts ∙ dones_first)
+      (replays_only_verified setting.terms step.before.request.settings calls_are (inputs_of first.steps) so.converses.may) in
+      let may : MaySendAll calls_are heard one.done.act.send = each_last (λ heard done. MaySendAll calls_are heard done.act.send) setting.terms calls_are unheard (dones_of step.before.steps) one.done each in
+      ap (λ (s : List Shown). slice_get calls_are (length s)) heard_shown ∙ (may_last calls_are heard front kept call (subst (λ (send : List Up). MaySendAll calls_are heard send) sends may)).in_order
+
+  running_call : (p : Phase) → phase ≡ p → is_running p ≡ true → call_in phase ≡ length account_first.shown
+  running_call (Running state) is runs = call_at (Running state) is ∙ runs_at state is
+  running_call Idle is runs = absurd (let none : ⊥ = cc in none)
+  running_call Unbegun is runs = absurd (let none : ⊥ = cc in none)
+  running_call (Queued from) is runs = absurd (let none : ⊥ = cc in none)
+  running_call (Seeking lost) is runs = absurd (let none : ⊥ = cc in none)
+  running_call (Greeting lost) is runs = absurd (let none : ⊥ = cc in none)
+  running_call (Asked asking) is runs = absurd (let none : ⊥ = cc in none)
+  running_call (Replaying state) is runs = absurd (let none : ⊥ = cc in none)
+
+  frame_last : (front : List Up) (frame : Up) → one.done.act.send ≡ front ++ frame ∷ [] → frame_fits phase frame ≡ true
+  frame_last front frame sends =
+      let all : list_all (frame_fits phase) (front ++ frame ∷ []) ≡ true = subst (λ (send : List Up). list_all (frame_fits phase) send ≡ true) sends (send_fits setting.terms step.before.talk step.input m.tick) in
+      (and_parts (frame_fits phase frame) true (and_parts (list_all (frame_fits phase) front) (list_all (frame_fits phase) (frame ∷ [])) (sym (list_all-append (frame_fits phase) front (frame ∷ [])) ∙ all)).1).0
+
+  pub unmarked_at : (front : List Up) (kept : List Draw) (call : Call) → one.done.act.send ≡ front ++ up.Call false kept call ∷ [] → call_in phase ≡ length account_first.shown
+  unmarked_at front kept call sends = running_call phase refl (and_parts (length kept == 0) (is_running phase) (frame_last front (up.Call false kept call) sends)).1
+
   -- THE FIRST CALL --------------------------------------------------------------------------------
 
   still_shown : (shown : Option Shown) → one.done.act.shown ≡ shown → shown ≡ None → account_first.shown ≡ account_before.shown
@@ -257,33 +286,6 @@ module _ (setting : Setting) (m : Machine) (talks : AllTalk setting.terms m.clie
     goes_first p calls facts none (AsLast state next is after lost_call most quiet) = let known = facts.repeats state is in none_last calls known.0 none known.1
 
     -- THE CALL ------------------------------------------------------------------------------------
-
-    sent_scripts : (front : List Up) (kept : List Draw) (call : Call) → one.done.act.send ≡ front ++ up.Call false kept call ∷ [] → slice_get calls_are (length account_first.shown) ≡ Some call
-    sent_scripts front kept call sends =
-        let so = first_talks_on setting m talks number n step in
-        let each : EachStep (λ heard done. MaySendAll calls_are heard done.act.send) setting.terms calls_are unheard (dones_of step.before.steps ++ one.done ∷ []) =
-        subst (λ (d : List Done). EachStep (λ heard done. MaySendAll calls_are heard done.act.send) setting.terms calls_are unheard d) (sym so.converses.acts ∙ dones_first)
-        (replays_only_verified setting.terms step.before.request.settings calls_are (inputs_of first.steps) so.converses.may) in
-        let may : MaySendAll calls_are heard one.done.act.send = each_last (λ heard done. MaySendAll calls_are heard done.act.send) setting.terms calls_are unheard (dones_of step.before.steps) one.done each in
-        ap (λ (s : List Shown). slice_get calls_are (length s)) heard_shown ∙ (may_last calls_are heard front kept call (subst (λ (send : List Up). MaySendAll calls_are heard send) sends may)).in_order
-
-    running_call : (p : Phase) → phase ≡ p → is_running p ≡ true → call_in phase ≡ length account_first.shown
-    running_call (Running state) is runs = call_at (Running state) is ∙ runs_at state is
-    running_call Idle is runs = absurd (let none : ⊥ = cc in none)
-    running_call Unbegun is runs = absurd (let none : ⊥ = cc in none)
-    running_call (Queued from) is runs = absurd (let none : ⊥ = cc in none)
-    running_call (Seeking lost) is runs = absurd (let none : ⊥ = cc in none)
-    running_call (Greeting lost) is runs = absurd (let none : ⊥ = cc in none)
-    running_call (Asked asking) is runs = absurd (let none : ⊥ = cc in none)
-    running_call (Replaying state) is runs = absurd (let none : ⊥ = cc in none)
-
-    frame_last : (front : List Up) (frame : Up) → one.done.act.send ≡ front ++ frame ∷ [] → frame_fits phase frame ≡ true
-    frame_last front frame sends =
-        let all : list_all (frame_fits phase) (front ++ frame ∷ []) ≡ true = subst (λ (send : List Up). list_all (frame_fits phase) send ≡ true) sends (send_fits setting.terms step.before.talk step.input m.tick) in
-        (and_parts (frame_fits phase frame) true (and_parts (list_all (frame_fits phase) front) (list_all (frame_fits phase) (frame ∷ [])) (sym (list_all-append (frame_fits phase) front (frame ∷ [])) ∙ all)).1).0
-
-    unmarked_at : (front : List Up) (kept : List Draw) (call : Call) → one.done.act.send ≡ front ++ up.Call false kept call ∷ [] → call_in phase ≡ length account_first.shown
-    unmarked_at front kept call sends = running_call phase refl (and_parts (length kept == 0) (is_running phase) (frame_last front (up.Call false kept call) sends)).1
 
     marked_scripts : (p : Phase) (kept : List Draw) (call : Call) → phase ≡ p → is_next p kept call ≡ true → option_map_or (same_call call) (slice_get calls_are (call_in p)) false ≡ true
     marked_scripts (Replaying state) kept call is next = by (next_of state) refl next

@@ -24,7 +24,7 @@ use Rattle.world_model.proofs.Tests.{le_from, le_to, lt_from, not_both}
 
 -- IDENTIFIERS -------------------------------------------------------------------------------------
 
-false_by : (test : Bool) → (test ≡ true → ⊥) → test ≡ false
+pub false_by : (test : Bool) → (test ≡ true → ⊥) → test ≡ false
 false_by true never = absurd (never refl)
 false_by false never = refl
 

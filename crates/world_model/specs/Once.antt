@@ -1,9 +1,10 @@
 -- InvOnce: entries, the sendings that they are of, and values that were drawn.
-use Rattle.std.specs.Prelude.{ℕ, ◌+◌, ◌==◌, ◌&&◌, ◌||◌, Bool, true, false, not, nat_lt, nat_le, if◌then◌else◌, IsTrue, List, [], ◌∷◌, ◌++◌, length, map, filter, flat_map, count_by, take, drop, Option, Some, None, is_none}
+use Rattle.std.specs.Prelude.{ℕ, ◌+◌, ◌==◌, ◌&&◌, ◌||◌, Bool, true, false, not, nat_lt, nat_le, if◌then◌else◌, IsTrue, List, [], ◌∷◌, ◌++◌, length, map, filter, flat_map, count_by, take, drop, slice_get, Option, Some, None, is_none}
 use Rattle.std.specs.List.{list_all, list_any, last_or}
 use Rattle.std.specs.Option.{option_map_or}
 use Rattle.std.specs.Cmp.Lexicographic.{pointwise}
 use Rattle.svc_values.specs.declared.answer.Answer.{Answer}
+use Rattle.svc_values.specs.declared.call.Call.{Call}
 use Rattle.svc_values.specs.declared.draw.Draw.{Draw}
 use Rattle.svc_values.specs.declared.entry.Ltxid.{Ltxid}
 use Rattle.svc_values.specs.declared.entry.Entry.{Entry}
@@ -13,6 +14,7 @@ use Rattle.svc_values.specs.Endings.{ends_committed, ends_transaction}
 use Rattle.svc_values.specs.Identifiers.{same_ltxid, is_of_session}
 use Rattle.outage_schedule.specs.declared.item.Item.{Item}
 use Rattle.outage_schedule.specs.declared.item.Item.TheVariants as item
+use Rattle.outage_schedule.specs.declared.request.Outcome.{Outcome}
 use Rattle.outage_schedule.specs.declared.request.ShownCall.{ShownCall}
 use Rattle.outage_schedule.specs.declared.request.RequestReport.{RequestReport}
 use Rattle.svc_values.specs.Same.{same_answers, same_bool, same_call}
@@ -27,7 +29,7 @@ use Rattle.world_model.specs.Frames.{Owner, Sent, Handled}
 use Rattle.world_model.specs.Links.{Link, link_at}
 use Rattle.world_model.specs.Clients.{Client, script_at}
 use Rattle.world_model.specs.Traced.{Traced, Course, courses_of}
-use Rattle.world_model.specs.Words.{dones_of}
+use Rattle.world_model.specs.Words.{dones_of, held_in}
 use Rattle.world_model.specs.Sames.{each_pair, same_owners, owned_by}
 use Rattle.world_model.specs.Parts.{Sending, Scan, Numbered, links_of, scan_of, sendings_of, commit_sendings, is_commit_call, has_entry, implies, is_out, out_frame, held_number}
 
@@ -133,7 +135,38 @@ transaction_at shown at = count_by (λ call. ends_transaction call.answers) (tak
 abbrev pub is_settled : Traced → Sending → Bool
 is_settled t sending = not (is_open_or_committed sending) || holds t.blocked sending.ltxid
 
--- of the sendings (the last one first) of a transaction, all but the last are settled
+-- O3a: each sending is of its script's call, on a connection that its request held
+abbrev pub is_placed : List Call → List ℕ → Sending → Bool
+is_placed calls held sending = option_map_or (same_call sending.call) (slice_get calls sending.at) false && list_any (λ number. number == sending.connection) held
+
+abbrev pub are_placed : Course → Bool
+are_placed course = list_all (is_placed course.request.calls (held_in course.steps)) (sendings_of course)
+
+abbrev pub all_placed : Traced → Bool
+all_placed t = list_all are_placed (courses_of t)
+
+-- O3b: One that was answered is of a call that was shown with these answers. One that was not is of the next call, and no outcome told it
+-- committed and completed; or its identifier is blocked; or its call was shown as committed
+abbrev pub shows_at : (List Answer → Bool) → List ShownCall → ℕ → Bool
+shows_at test shown at = option_map_or (λ call. test call.answers) (slice_get shown at) false
+
+abbrev pub tells_completed : Ltxid → Outcome → Bool
+tells_completed x outcome = same_ltxid outcome.ltxid x && (outcome.committed && outcome.completed)
+
+abbrev pub is_untold : List Ltxid → List ShownCall → List Outcome → Sending → Bool
+is_untold blocked shown outcomes sending =
+    ((sending.at == length shown) && not (list_any (tells_completed sending.ltxid) outcomes)) || (holds blocked sending.ltxid || shows_at ends_committed shown sending.at)
+
+abbrev pub is_known : List Ltxid → List ShownCall → List Outcome → Sending → Bool
+is_known blocked shown outcomes sending = option_map_or (λ answers. shows_at (same_answers answers) shown sending.at) sending.taken (is_untold blocked shown outcomes sending)
+
+abbrev pub are_known : Traced → Course → Bool
+are_known t course = list_all (is_known t.blocked course.report.calls course.report.outcomes) (commit_sendings course)
+
+abbrev pub all_known : Traced → Bool
+all_known t = list_all (are_known t) (courses_of t)
+
+-- O3c: of the sendings (the last one first) of a transaction, all but the last are settled
 abbrev pub later_settled : Traced → List ShownCall → ℕ → List Sending → Bool
 later_settled t shown transaction [] = true
 later_settled t shown transaction (sending ∷ earlier) =
@@ -263,6 +296,8 @@ pub record Once (t : Traced) : Type 0 where
   pub fates : IsTrue (have_fates t)
   pub waits : IsTrue (outs_wait t)
   pub apart : IsTrue (are_apart t)
+  pub placed : IsTrue (all_placed t)
+  pub known : IsTrue (all_known t)
   pub settled : IsTrue (earlier_settled t)
   pub ends : IsTrue (over_ends t)
   pub one : IsTrue (transactions_have_one t)

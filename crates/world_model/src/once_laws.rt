@@ -1,7 +1,7 @@
 //! What of entries and of the sendings that they are of holds of the start and is kept in each event. Each law is the clause of a function
 //! with nothing to run.
 ghost use Rattle.world_model.specs.KeptLaws.{IsKeptOfAll, StaysTrue};
-ghost use Rattle.world_model.specs.Once.{completed_rightly, on_links, have_fates, outs_wait, entries_sent, committed_stored, are_apart, note_sendings, tell_tried, tried_apart};
+ghost use Rattle.world_model.specs.Once.{completed_rightly, on_links, have_fates, outs_wait, entries_sent, committed_stored, are_apart, note_sendings, tell_tried, tried_apart, all_placed, all_known, earlier_settled, transactions_have_one};
 
 /// The identifier of each sending with a commit is one of its connection's session.
 pub fn sendings_are_of_sessions()
@@ -42,6 +42,26 @@ pub fn sendings_stay_apart()
     ensures { IsKeptOfAll are_apart }
 {}
 
+/// Each sending is of the call of its script at its place, on a connection that its request held, if the whole invariant held before.
+pub fn sendings_are_of_scripts()
+    ensures { IsKeptOfAll all_placed }
+{}
+
+/// A sending with a commit that was answered is of a call that was shown with these answers. One that was not is of the next call, and no
+/// outcome told it completed; or its identifier is blocked; or its call was shown as committed. It is so if the whole invariant held before.
+pub fn sendings_are_known()
+    ensures { IsKeptOfAll all_known }
+{}
+
+/// Of the sendings with a commit of one transaction of a request, all but the last one are settled, if the whole invariant held before:
+/// each was answered otherwise than Committed, or its identifier is blocked.
+pub fn earlier_sendings_are_settled()
+    ensures { IsKeptOfAll earlier_settled }
+{
+    commit_log::laws::keeps_journal();
+    server_model::laws::runs_number();
+}
+
 /// Each entry of the run is completed exactly where the call that committed it has no statement, if the whole invariant held before. An
 /// entry of the image is of no connection's session.
 pub fn entries_are_completed_rightly()
@@ -64,3 +84,12 @@ pub fn reports_tell_what_was_tried()
 pub fn tried_identifiers_differ()
     ensures { IsKeptOfAll tried_apart }
 {}
+
+/// No list of a report has the identifiers of two entries, if the whole invariant held before: a transaction of a request stands in the
+/// journal at most once.
+pub fn transactions_have_one_entry()
+    ensures { IsKeptOfAll transactions_have_one }
+{
+    commit_log::laws::keeps_journal();
+    server_model::laws::runs_number();
+}
