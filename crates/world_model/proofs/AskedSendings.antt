@@ -1,4 +1,4 @@
--- Where a request takes an outcome that says committed and completed: it sent the call under the identifier that it asked for, and no reply to it was
+-- Where a request takes an outcome that says committed: it sent the call under the identifier that it asked for, and no reply to it was
 -- taken.
 use Rattle.std.proofs.Common.{◌≡◌, refl, sym, ap, subst, ◌∙◌, Bool, true, false, ℕ, ◌&&◌, length, List, [], ◌∷◌, filter, Option, Some, None, if◌then◌else◌}
 use Rattle.std.specs.Prelude.{is_some, flat_map}
@@ -80,8 +80,8 @@ lost_all test true (number ∷ next ∷ others) all =
 
 -- A STEP ------------------------------------------------------------------------------------------
 
-module _ (granted : Draw → Bool) (t : Traced) (whole : Invariant granted t) (who : ℕ) (n : Machine) (step : HasStepped t.setting (at_event t.machine) who n) (asking : Asking) (alive : Bool)
-    (input : step.input ≡ Took (down.OutcomeIs true true) alive) (phase : step.before.talk.phase ≡ Asked asking) where
+module _ (granted : Draw → Bool) (t : Traced) (whole : Invariant granted t) (who : ℕ) (n : Machine) (step : HasStepped t.setting (at_event t.machine) who n) (asking : Asking) (completed alive : Bool)
+    (input : step.input ≡ Took (down.OutcomeIs true completed) alive) (phase : step.before.talk.phase ≡ Asked asking) where
   abbrev now : Machine
   now = at_event t.machine
 
@@ -158,7 +158,7 @@ module _ (granted : Draw → Bool) (t : Traced) (whole : Invariant granted t) (w
       on number link (Some y) there held same next owns agrees =
           let equal : x ≡ y = (same_ltxid_decides x y).0 same in
           let holds : link.held ≡ Some x = held ∙ ap Some (sym equal) in
-          let less = entry_counts t.entries x true (told_now t whole.orderly whole.shown.answers who n step asking true true alive input phase) whole.orderly.number.entries in
+          let less = entry_counts t.entries x completed (told_now t whole.orderly whole.shown.answers who n step asking true completed alive input phase) whole.orderly.number.entries in
           committed_sending t.machine.links count number link x there holds t before (sendings_of before) (one_ahead t whole.orderly.basic.named whole.orderly.number number link x there holds less)
           (at_link (ahead_rightly t) t.machine.links number link whole.orderly.number.ahead there) next owns agrees
           (both_all (taken_among count) (fated t.machine.links) (sendings_of before) all_taken all_fated)

@@ -221,7 +221,7 @@ module _ (granted : Draw → Bool) (t : Traced) (whole : Invariant granted t) (w
   completed_new asking alive input phase =
       sent_still asking.ltxid
       (subst (λ (i : Input). list_any (may_be asking.ltxid) (answered i one.done.act.shown sendings) ≡ true) (sym input)
-      (any_goes (is_unanswered asking.ltxid (length before.report.calls)) (may_be asking.ltxid) open_one sendings (sent_one granted t whole who n step asking alive input phase)))
+      (any_goes (is_unanswered asking.ltxid (length before.report.calls)) (may_be asking.ltxid) open_one sendings (sent_one granted t whole who n step asking true alive input phase)))
     where
       open_one : (s : Sending) → is_unanswered asking.ltxid (length before.report.calls) s ≡ true → may_be asking.ltxid s ≡ true
       open_one s here =

@@ -4,6 +4,7 @@ use Rattle.std.specs.Prelude.{slice_get}
 use Rattle.std.specs.List.{last_or}
 use Rattle.std.specs.Option.{option_map_or}
 use Rattle.std.proofs.lemmas.List.Sums.{sum_by-cons}
+use Rattle.std.proofs.lemmas.Option.{slice_get_within}
 use Rattle.svc_values.specs.declared.answer.Answer.{Answer}
 use Rattle.svc_values.specs.declared.answer.Answer.TheVariants as answer
 use Rattle.svc_values.specs.Endings.{ends_committed, ends_transaction, is_committed, is_conflict, is_rolled_back}
@@ -49,16 +50,26 @@ shown_same answers test calls at is here = shows_weaker (same_answers answers) t
 place_behind : (call : ShownCall) (calls : List ShownCall) (at : ℕ) → transaction_at (call ∷ calls) (suc at) ≡ cond (ends_transaction call.answers) 1 0 + transaction_at calls at
 place_behind call calls at = sum_by-cons (λ (one : ShownCall). cond (ends_transaction one.answers) 1 0) call (take at calls)
 
--- a call that ended its transaction is of one before that of the next call
-pub ended_before : (calls : List ShownCall) (at : ℕ) → shows_at ends_transaction calls at ≡ true → transaction_at calls at < transaction_at calls (length calls)
-ended_before [] at here = absurd (let none : ⊥ = cc in none)
-ended_before (call ∷ calls) zero here =
-    let behind : transaction_at (call ∷ calls) (length (call ∷ calls)) ≡ cond (ends_transaction call.answers) 1 0 + transaction_at calls (length calls) = place_behind call calls (length calls) in
+-- a call that ended its transaction is of one before that of each place behind it
+pub ended_below : (calls : List ShownCall) (at n : ℕ) → at < n → shows_at ends_transaction calls at ≡ true → transaction_at calls at < transaction_at calls n
+ended_below [] at n less here = absurd (let none : ⊥ = cc in none)
+ended_below (call ∷ calls) at zero less here = absurd (let never : ⊥ = omega (arith, less) in never)
+ended_below (call ∷ calls) zero (suc n) less here =
+    let behind : transaction_at (call ∷ calls) (suc n) ≡ cond (ends_transaction call.answers) 1 0 + transaction_at calls n = place_behind call calls n in
     let one : ◌≡◌ {A = ℕ} (cond (ends_transaction call.answers) 1 0) 1 = ap (λ (test : Bool). cond test 1 0) here in
-    let first : transaction_at (call ∷ calls) 0 ≡ 0 = refl in
+    let first : ◌≡◌ {A = ℕ} (transaction_at (call ∷ calls) 0) 0 = refl in
     omega (arith, behind, one, first)
-ended_before (call ∷ calls) (suc at) here =
-    let behind : transaction_at (call ∷ calls) (length (call ∷ calls)) ≡ cond (ends_transaction call.answers) 1 0 + transaction_at calls (length calls) = place_behind call calls (length calls) in
+ended_below (call ∷ calls) (suc at) (suc n) less here =
+    let behind : transaction_at (call ∷ calls) (suc n) ≡ cond (ends_transaction call.answers) 1 0 + transaction_at calls n = place_behind call calls n in
     let front : transaction_at (call ∷ calls) (suc at) ≡ cond (ends_transaction call.answers) 1 0 + transaction_at calls at = place_behind call calls at in
-    let rest : transaction_at calls at < transaction_at calls (length calls) = ended_before calls at here in
+    let below : at < n = omega (arith, less) in
+    let rest : transaction_at calls at < transaction_at calls n = ended_below calls at n below here in
     omega (arith, behind, front, rest)
+
+-- so it is of one before that of the next call
+pub ended_before : (calls : List ShownCall) (at : ℕ) → shows_at ends_transaction calls at ≡ true → transaction_at calls at < transaction_at calls (length calls)
+ended_before calls at here = by (slice_get calls at) refl here
+  where
+    by : (found : Option ShownCall) → slice_get calls at ≡ found → option_map_or (λ (call : ShownCall). ends_transaction call.answers) found false ≡ true → transaction_at calls at < transaction_at calls (length calls)
+    by None is shows = absurd (let none : ⊥ = cc in none)
+    by (Some call) is shows = ended_below calls at (length calls) (slice_get_within calls at call is) here

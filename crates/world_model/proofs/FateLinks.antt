@@ -184,6 +184,28 @@ module _ (link : Link) (reply : Reply) (later : List Reply) (known : Known link)
       number : option_map_or (λ (x : Ltxid). x.number) (option_or (told_by (Took reply.frame link.is_open)) link.held) 0 ≡ held_number link
       number = ap (λ (held : Option Ltxid). option_map_or (λ (x : Ltxid). x.number) held 0) same
 
+  -- a reply that says Committed is counted above what was held
+  pub committed_above : (answers : List Answer) (draws : List Draw) (x : Ltxid) (last : Sent) (kept : List Draw) (call : Call) → reply.frame ≡ down.Reply answers draws x → last_or None link.sent ≡ Some last → last.frame ≡ up.Call false kept call → is_rep last ≡ true → ends_committed answers ≡ true
+      → (held_number link < link.commits) × (held_number next ≡ link.commits)
+  committed_above answers draws x last kept call says is calls rep ends = (commit_above link reply later known down_is answering commit, held ∙ taken_number link reply x known answering told)
+    where
+      answering : IsLast link reply
+      answering = answers_at link known reply later down_is last is rep
+
+      commit : is_commit answering.one.served.item ≡ true
+      commit =
+          let one = and_parts (same_owners answering.one.sent.owner last.owner) ((answering.one.sent.call == last.call) && same_up answering.one.sent.frame last.frame) (answers_last link known reply later down_is last is rep) in
+          let two = and_parts (answering.one.sent.call == last.call) (same_up answering.one.sent.frame last.frame) one.1 in
+          shown_commits call (record { answers = answers; draws = draws; ltxid = x }) answering.one.served.item
+          (call_says answers draws x kept call answering.one.sent.frame answering.one.served.item answering.frame (subst (λ (frame : Up). same_up answering.one.sent.frame frame ≡ true) calls two.1) (said_by link known reply answering)
+          (subst (λ (frame : Down). same_down frame answering.frame ≡ true) says answering.same)) ends
+
+      told : told_by (Took reply.frame true) ≡ Some x
+      told = ap (λ (frame : Down). told_by (Took frame true)) says
+
+      held : held_number next ≡ x.number
+      held = ap (λ (held : Option Ltxid). option_map_or (λ (y : Ltxid). y.number) held 0) (next_held ∙ ap (λ (frame : Down). option_or (told_by (Took frame link.is_open)) link.held) says)
+
   -- one that is answered now
   pub answered_fate : (sending : Sending) (answers : List Answer) (draws : List Draw) (x : Ltxid) (last : Sent) → reply.frame ≡ down.Reply answers draws x → last_or None link.sent ≡ Some last → is_commit_call last ≡ true → Fate sending link → sending.taken ≡ None
       → Fate (record sending { taken = Some answers }) next
@@ -196,18 +218,8 @@ module _ (link : Link) (reply : Reply) (later : List Reply) (known : Known link)
       above : ends_committed answers ≡ true → sending.ltxid.number < held_number next
       above ends =
           let it = commit_call last commits in
-          let rep : is_rep last ≡ true = commit_rep last commits in
-          let answering : IsLast link reply = answers_at link known reply later down_is last is rep in
-          let same = answers_last link known reply later down_is last is rep in
-          let one = and_parts (same_owners answering.one.sent.owner last.owner) ((answering.one.sent.call == last.call) && same_up answering.one.sent.frame last.frame) same in
-          let two = and_parts (answering.one.sent.call == last.call) (same_up answering.one.sent.frame last.frame) one.1 in
-          let item_says =
-          call_says answers draws x it.kept it.call answering.one.sent.frame answering.one.served.item answering.frame (subst (λ (frame : Up). same_up answering.one.sent.frame frame ≡ true) it.is two.1) (said_by link known reply answering)
-          (subst (λ (frame : Down). same_down frame answering.frame ≡ true) says answering.same) in
-          let commit : is_commit answering.one.served.item ≡ true = shown_commits it.call (record { answers = answers; draws = draws; ltxid = x }) answering.one.served.item item_says ends in
-          let high : held_number link < link.commits = commit_above link reply later known down_is answering commit in
-          let told : told_by (Took reply.frame true) ≡ Some x = ap (λ (frame : Down). told_by (Took frame true)) says in
-          let number : x.number ≡ link.commits = taken_number link reply x known answering told in
-          let held : held_number next ≡ x.number = ap (λ (held : Option Ltxid). option_map_or (λ (y : Ltxid). y.number) held 0) (next_held ∙ ap (λ (frame : Down). option_or (told_by (Took frame link.is_open)) link.held) says) in
+          let over = committed_above answers draws x last it.kept it.call says is it.is (commit_rep last commits) ends in
+          let high : held_number link < link.commits = over.0 in
+          let held : held_number next ≡ link.commits = over.1 in
           let mine : held_number link ≡ sending.ltxid.number = ap (λ (held : Option Ltxid). option_map_or (λ (y : Ltxid). y.number) held 0) (fate.waits untaken).held in
-          omega (arith, high, number, held, mine)
+          omega (arith, high, held, mine)

@@ -11,6 +11,7 @@ use Rattle.svc_values.specs.declared.entry.Ltxid.{Ltxid}
 use Rattle.svc_values.specs.declared.frame.Down.{Down}
 use Rattle.svc_values.specs.declared.frame.Down.TheVariants as down
 use Rattle.svc_values.specs.Calls.{has_commit}
+use Rattle.client_model.specs.declared.act.Hold.TheVariants as hold
 use Rattle.client_model.specs.declared.act.Shown.{Shown}
 use Rattle.client_model.specs.declared.input.Input.{Input}
 use Rattle.client_model.specs.declared.input.Input.TheVariants.{Start, Waiting, Lent, Opened, TryFailed, Took, Gone}
@@ -287,6 +288,19 @@ module _ (t : Traced) (inv : Orderly t) (apart : are_apart t ≡ true) (new : Tr
         by (down.Reply answers draws x) None says none = absurd (shows answers draws x says none sending untaken fate)
         by down.Blocked shown says some =
             absurd (let never : false ≡ true = subst (λ (input : Input). list_any is_unmarked_frame (talk_step terms step.before.talk input m.tick).1.send ≡ true) (act_is down.Blocked says) calls in let nothing : ⊥ = cc in nothing)
+        by (down.Hello x) shown says some = absurd (never_expected (down.Hello x) says (λ state. refl) sending untaken fate)
+        by (down.OutcomeIs committed completed) shown says some = absurd (never_expected (down.OutcomeIs committed completed) says (λ state. refl) sending untaken fate)
+        by (down.OutcomeRefused ahead horizon) shown says some = absurd (never_expected (down.OutcomeRefused ahead horizon) says (λ state. refl) sending untaken fate)
+        by (down.Refused cause) shown says some = absurd (never_expected (down.Refused cause) says (λ state. refl) sending untaken fate)
+
+    -- and so it was where the request ends with it
+    pub shown_ending : (one.done.act.hold ≡ hold.Keep → ⊥) → (sending : Sending) → sending.taken ≡ None → Fate sending link → is_some one.done.act.shown ≡ true
+    shown_ending lets sending untaken fate = by taking.reply.frame one.done.act.shown refl refl
+      where
+        by : (frame : Down) (shown : Option Shown) → taking.reply.frame ≡ frame → one.done.act.shown ≡ shown → is_some shown ≡ true
+        by (down.Reply answers draws x) (Some shown) says some = refl
+        by (down.Reply answers draws x) None says none = absurd (shows answers draws x says none sending untaken fate)
+        by down.Blocked shown says some = absurd (lets (ap (λ (input : Input). (talk_step terms step.before.talk input m.tick).1.hold) (act_is down.Blocked says)))
         by (down.Hello x) shown says some = absurd (never_expected (down.Hello x) says (λ state. refl) sending untaken fate)
         by (down.OutcomeIs committed completed) shown says some = absurd (never_expected (down.OutcomeIs committed completed) says (λ state. refl) sending untaken fate)
         by (down.OutcomeRefused ahead horizon) shown says some = absurd (never_expected (down.OutcomeRefused ahead horizon) says (λ state. refl) sending untaken fate)

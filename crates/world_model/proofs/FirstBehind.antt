@@ -75,7 +75,7 @@ found_in {A} test (x ∷ xs) = by (test x) refl (found_in test xs)
     by true is found = subst (Found test (x ∷ xs)) (sym (position_cons test x xs true is)) (FoundAt 0 x refl is (λ other one below at. absurd (let never : ⊥ = omega arith in never)))
     by false is found = subst (Found test (x ∷ xs)) (sym (position_cons test x xs false is)) (later (position test xs) is found)
 
-get_behind : {A : Type 0} (passed : ℕ) (xs : List A) (index : ℕ) → slice_get (drop passed xs) index ≡ slice_get xs (passed + index)
+pub get_behind : {A : Type 0} (passed : ℕ) (xs : List A) (index : ℕ) → slice_get (drop passed xs) index ≡ slice_get xs (passed + index)
 get_behind zero xs index = ap (slice_get xs) (let same : index ≡ 0 + index = omega arith in same)
 get_behind (suc passed) [] index = refl
 get_behind (suc passed) (x ∷ xs) index = get_behind passed xs index ∙ ap (slice_get (x ∷ xs)) (let same : suc (passed + index) ≡ suc passed + index = omega arith in same)

@@ -65,7 +65,7 @@ told_failed course outcome here = by outcome.committed outcome.completed here
 -- A STEP ------------------------------------------------------------------------------------------
 
 -- a request that steps is not idle
-idle_wants : (terms : Terms) (talk : Talk) (phase : Phase) (now : ℕ) (input : Input) → is_wanted (wants_in terms talk phase now) input ≡ true → is_idle phase ≡ false
+pub idle_wants : (terms : Terms) (talk : Talk) (phase : Phase) (now : ℕ) (input : Input) → is_wanted (wants_in terms talk phase now) input ≡ true → is_idle phase ≡ false
 idle_wants terms talk Idle now input is = absurd (let none : ⊥ = cc in none)
 idle_wants terms talk phase now input is = refl
 

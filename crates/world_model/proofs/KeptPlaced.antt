@@ -113,7 +113,7 @@ module _ (t : Traced) (inv : Orderly t) (apart : are_apart t ≡ true) (new : Tr
   pushed_so list _ NoMore all = all
   pushed_so list _ (OneMade begun settings call x sends keeps under) all = and_from (is_placed calls held_behind (made scan_now call x)) (list_all (is_placed calls held_behind) list) (made_placed begun settings call sends x) all
 
-  step_placed : list_all (is_placed calls held_before) (scan_by mine step.before.steps).sendings ≡ true → list_all (is_placed step.after.request.calls (held_in step.after.steps)) (scan_by mine step.after.steps).sendings ≡ true
+  pub step_placed : list_all (is_placed calls held_before) (scan_by mine step.before.steps).sendings ≡ true → list_all (is_placed step.after.request.calls (held_in step.after.steps)) (scan_by mine step.after.steps).sendings ≡ true
   step_placed all =
       ap (λ (request : Request). list_all (is_placed request.calls (held_in step.after.steps)) (scan_by mine step.after.steps).sendings) (request_after t.setting m inv.script.talks who new.machine step)
       ∙ (ap (λ (held : List ℕ). list_all (is_placed calls held) (scan_by mine step.after.steps).sendings) (after_held t.setting m inv.script.talks who new.machine step)

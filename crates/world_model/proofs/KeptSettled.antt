@@ -80,7 +80,7 @@ use Rattle.world_model.proofs.TalkRuns.{is_idle, running_unfailed}
 use Rattle.world_model.proofs.Tests.{eq_from, not_both, or_second}
 
 -- what holds of all but the first
-without_first : (test : Sending → Bool) (first : Sending) (list : List Sending) → list_all test (filter commits (first ∷ list)) ≡ true → list_all test (filter commits list) ≡ true
+pub without_first : (test : Sending → Bool) (first : Sending) (list : List Sending) → list_all test (filter commits (first ∷ list)) ≡ true → list_all test (filter commits list) ≡ true
 without_first test first list all = by (has_commit first.call) all
   where
     by : (here : Bool) → list_all test (cond here (first ∷ filter commits list) (filter commits list)) ≡ true → list_all test (filter commits list) ≡ true

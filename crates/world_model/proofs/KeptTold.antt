@@ -53,6 +53,7 @@ use Rattle.world_model.proofs.SendingSteps.{scan_by, heard_scan, after_sendings}
 use Rattle.world_model.proofs.SendingsTaken.{answered_any, frames_any}
 use Rattle.world_model.proofs.StepFacts.{account_now, first_step, first_doing, before_talks}
 use Rattle.world_model.proofs.TalkCompletes.{completed_as, completed_shows}
+use Rattle.world_model.proofs.TalkRuns.{is_idle}
 use Rattle.world_model.proofs.Tests.{eq_from}
 use Rattle.world_model.proofs.AskedSendings.{sent_one}
 
@@ -112,13 +113,13 @@ both_told course outcome here =
 -- EVENTS ------------------------------------------------------------------------------------------
 
 -- the rest of a talk fits its account
-talk_is : (terms : Terms) (asking : Asking) (doing : Doing) → Talks terms false doing → doing.talk.phase ≡ Asked asking → IsTalk terms doing.request.settings doing.request.calls (account_now terms doing) doing.talk
-talk_is terms asking doing talks phase =
+pub talk_is : (terms : Terms) (doing : Doing) → Talks terms false doing → is_idle doing.talk.phase ≡ false → IsTalk terms doing.request.settings doing.request.calls (account_now terms doing) doing.talk
+talk_is terms doing talks busy =
     let talk : Talk = first_talk doing.request in
     subst (λ (one : Talk). IsTalk terms doing.request.settings doing.request.calls (account_now terms doing) one) talks.stands
     (subst (λ (dones : List Done). IsTalk terms doing.request.settings doing.request.calls (account_of terms doing.request.calls dones) (talk_after terms talk (inputs_of doing.steps))) (sym talks.converses.acts)
     (last_talks terms doing.request.settings doing.request.calls (inputs_of doing.steps) unheard false talk (λ e. first_talks terms doing.request.settings doing.request.calls) refl talks.converses.may
-    (let here : (talk_after terms talk (inputs_of doing.steps)).phase ≡ Asked asking = ap (λ (one : Talk). one.phase) talks.stands ∙ phase in rw here)))
+    (ap (λ (one : Talk). is_idle one.phase) talks.stands ∙ busy)))
 
 module _ (granted : Draw → Bool) (t : Traced) (whole : Invariant granted t) (new : Traced) (setting : new.setting ≡ t.setting) (items left : List Served) (kind : Noted) (happens : Happens t.setting (at_event t.machine) items left kind new.machine) where
   abbrev now : Machine
@@ -188,7 +189,7 @@ module _ (granted : Draw → Bool) (t : Traced) (whole : Invariant granted t) (n
           let fits = fits_at (Asked asking) phase in
           let next : next_call step.before.talk ≡ Some fits.0.left.one =
           sym (next_left t.setting.terms step.before.request.settings step.before.request.calls account_before step.before.talk asking.track
-          (talk_is t.setting.terms asking step.before (before_talks t.setting now whole.orderly.script.talks who new.machine step) phase) fits.0.tracked) ∙ fits.0.left.is in
+          (talk_is t.setting.terms step.before (before_talks t.setting now whole.orderly.script.talks who new.machine step) (ap is_idle phase)) fits.0.tracked) ∙ fits.0.left.is in
           ap (λ (one : Input). (talk_step t.setting.terms step.before.talk one now.tick).1.shown) input ∙ completed_shows t.setting.terms step.before.talk asking alive now.tick fits.0.left.one phase next
 
       calls_are : calls_after ≡ before.report.calls ++ shown_call (completed_as asking) ∷ []
@@ -204,7 +205,7 @@ module _ (granted : Draw → Bool) (t : Traced) (whole : Invariant granted t) (n
           ap (λ (calls : List ShownCall). list_any (shows_so calls x) sendings_after) calls_are
           ∙ any_weaker (λ (s : Sending). same_ltxid s.ltxid x && (s.at == count)) (shows_so (before.report.calls ++ shown_call (completed_as asking) ∷ []) x) sendings_after shows
           (sendings_more (λ (s : Sending). same_ltxid s.ltxid x && (s.at == count)) (λ sending answers here. here)
-          (any_weaker (is_unanswered x count) (λ (s : Sending). same_ltxid s.ltxid x && (s.at == count)) (sendings_of before) sent (sent_one granted t whole who new.machine step asking alive input phase)))
+          (any_weaker (is_unanswered x count) (λ (s : Sending). same_ltxid s.ltxid x && (s.at == count)) (sendings_of before) sent (sent_one granted t whole who new.machine step asking true alive input phase)))
         where
           sent : (s : Sending) → is_unanswered x count s ≡ true → (same_ltxid s.ltxid x && (s.at == count)) ≡ true
           sent s here =

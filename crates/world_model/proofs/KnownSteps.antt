@@ -6,6 +6,7 @@ use Rattle.std.specs.Option.{option_map_or}
 use Rattle.std.proofs.lemmas.Bool.{and_parts, and_from}
 use Rattle.std.proofs.lemmas.List.{length-map}
 use Rattle.svc_values.specs.declared.answer.Answer.{Answer}
+use Rattle.svc_values.specs.declared.answer.Answer.TheVariants as answer
 use Rattle.svc_values.specs.declared.call.Call.{Call}
 use Rattle.svc_values.specs.declared.draw.Draw.{Draw}
 use Rattle.svc_values.specs.declared.entry.Ltxid.{Ltxid}
@@ -163,7 +164,7 @@ module _ (granted : Draw → Bool) (t : Traced) (whole : Invariant granted t) (n
       subst (λ (p : Phase). Fits t.setting.terms script account_before (before_fits t.setting m whole.orderly.script.talks who new.machine step).gone p) runs (before_fits t.setting m whole.orderly.script.talks who new.machine step).fits in
       sym (eq_from out_now.sent.call top.at (and_parts (out_now.sent.call == top.at) (is_call_of top.call out_now.sent.frame) pair).0) ∙ (called.1 ∙ (fits.0.tracked.call ∙ sym (length-map account_before.shown shown_call)))
 
-  taking_at : (frame : Down) (alive : Bool) → step.input ≡ Took frame alive → Taking t whole.orderly whole.once.apart new who step
+  pub taking_at : (frame : Down) (alive : Bool) → step.input ≡ Took frame alive → Taking t whole.orderly whole.once.apart new who step
   taking_at frame alive heard = by step.before.connection step.input step.after refl refl step.heard_on
     where
       by : {kept : Holding} (had : Option ℕ) (input : Input) (after : Doing) → step.before.connection ≡ had → step.input ≡ input → HeardOn t.setting m new.machine who first kept (spoken_frames t.setting m who new.machine step) after had input → Taking t whole.orderly whole.once.apart new who step
@@ -173,6 +174,47 @@ module _ (granted : Draw → Bool) (t : Traced) (whole : Invariant granted t) (n
       by _ _ after was is (OfReply had connection link reply later some there down_is next back) =
           record { connection = connection; link = link; reply = reply; later = later; has = was ∙ some; there = there; down_is = down_is; heard = is; after = next }
       by _ _ after was is (OfEnded had connection link some there shut next same) = absurd (let never : Took frame alive ≡ Gone (unwrap_or link.ended 0) = sym heard ∙ is in let none : ⊥ = cc in none)
+
+  -- WHAT IS HEARD ---------------------------------------------------------------------------------
+
+  -- the calls that were shown then, and the sendings: nothing more; the last one answered; or the next call shown by an outcome
+  pub data HeardAs : List ShownCall → List Sending → Type 0 where
+    Quietly : one.done.act.shown ≡ None → HeardAs calls sendings
+    Replied : (shown : Shown) (state : Living) (taking : Taking t whole.orderly whole.once.apart new who step) (top : Sending) (rest : List Sending) → step.before.talk.phase ≡ Running state → taking.reply.frame ≡ down.Reply shown.answers shown.draws shown.ltxid → sendings ≡ top ∷ rest → top.at ≡ length calls
+        → HeardAs (calls ++ shown_call shown ∷ []) (record top { taken = Some shown.answers } ∷ rest)
+    Completed : (shown : Shown) (asking : Asking) (alive : Bool) → step.input ≡ Took (down.OutcomeIs true true) alive → step.before.talk.phase ≡ Asked asking → shown.answers ≡ answer.Committed ∷ [] → HeardAs (calls ++ shown_call shown ∷ []) sendings
+
+  showing : (shown : Shown) → one.done.act.shown ≡ Some shown → HeardAs (calls ++ shown_call shown ∷ []) scan_now.sendings
+  showing shown is = by (taken_shows t.setting.terms step.before.talk step.before.talk.phase taken.frame taken.alive m.tick shown (sym (ap (λ (input : Input). (talk_step t.setting.terms step.before.talk input m.tick).1.shown) taken.is) ∙ is))
+    where
+      taken : IsTaken step.input
+      taken = shows_taken t.setting.terms step.before.talk m.tick shown step.input is
+
+      heard : (frame : Down) → taken.frame ≡ frame → scan_now.sendings ≡ answered (Took frame taken.alive) (Some shown) sendings
+      heard frame same = ap (λ (input : Input). answered input one.done.act.shown sendings) (taken.is ∙ ap (λ (f : Down). Took f taken.alive) same) ∙ ap (λ (s : Option Shown). answered (Took frame taken.alive) s sendings) is
+
+      taking : Taking t whole.orderly whole.once.apart new who step
+      taking = taking_at taken.frame taken.alive taken.is
+
+      reply_is : taking.reply.frame ≡ taken.frame
+      reply_is = let both : Took taking.reply.frame taking.link.is_open ≡ Took taken.frame taken.alive = sym taking.heard ∙ taken.is in let same : taking.reply.frame ≡ taken.frame = cc in same
+
+      by_reply : (state : Living) → step.before.talk.phase ≡ Running state → taken.frame ≡ down.Reply shown.answers shown.draws shown.ltxid → (list : List Sending) → sendings ≡ list → HeardAs (calls ++ shown_call shown ∷ []) (with_taken shown.answers list)
+      by_reply state runs same [] are =
+          absurd (let never : false ≡ true = subst (λ (list : List Sending). top_open (scan_by mine step.before.steps).connection list ≡ true) are (last_open t whole.orderly who new.machine step state runs) in let none : ⊥ = cc in none)
+      by_reply state runs same (top ∷ rest) are = Replied shown state taking top rest runs (reply_is ∙ same) are (top_at state runs taking top rest are)
+
+      by : ShowsBy step.before.talk.phase taken.frame shown → HeardAs (calls ++ shown_call shown ∷ []) scan_now.sendings
+      by (ByReply state runs same) = subst (HeardAs (calls ++ shown_call shown ∷ [])) (sym (heard (down.Reply shown.answers shown.draws shown.ltxid) same)) (by_reply state runs same sendings refl)
+      by (ByOutcome asking asked same committed) =
+          subst (HeardAs (calls ++ shown_call shown ∷ [])) (sym (heard (down.OutcomeIs true true) same)) (Completed shown asking taken.alive (taken.is ∙ ap (λ (f : Down). Took f taken.alive) same) asked committed)
+
+  pub heard_as : HeardAs (map shown_call (account_now t.setting.terms first).shown) scan_now.sendings
+  heard_as = by (map shown_call (account_now t.setting.terms first).shown) (shown_as t whole.orderly new by_held who step)
+    where
+      by : (shown : List ShownCall) → ShownAs calls one.done.act.shown shown → HeardAs shown scan_now.sendings
+      by _ (NoneShown none) = subst (HeardAs calls) (sym (ap (λ (s : Option Shown). answered step.input s sendings) none ∙ unshown step.input sendings)) (Quietly none)
+      by _ (OneShown shown is) = showing shown is
 
   -- BEHIND AN INPUT -------------------------------------------------------------------------------
 
@@ -223,43 +265,22 @@ module _ (granted : Draw → Bool) (t : Traced) (whole : Invariant granted t) (n
     abbrev more : List Outcome
     more = told_more step.input step.before.talk.phase
 
-    quietly : one.done.act.shown ≡ None → known_so calls (before.report.outcomes ++ more) scan_now.sendings ≡ true
-    quietly none =
-        subst (λ (list : List Sending). known_so calls (before.report.outcomes ++ more) list ≡ true) (sym (ap (λ (s : Option Shown). answered step.input s sendings) none ∙ unshown step.input sendings))
-        (weaker_all (is_known new.blocked calls before.report.outcomes) (is_known new.blocked calls (before.report.outcomes ++ more)) (filter commits sendings)
-        (λ s here. known_still new.blocked calls before.report.outcomes more s (told_none step.input step.before.talk.phase never) here) known)
+    pub heard_known : known_so (map shown_call (account_now t.setting.terms first).shown) (before.report.outcomes ++ more) scan_now.sendings ≡ true
+    heard_known = by (map shown_call (account_now t.setting.terms first).shown) scan_now.sendings heard_as
       where
-        never : (asking : Asking) (alive : Bool) → step.input ≡ Took (down.OutcomeIs true true) alive → step.before.talk.phase ≡ Asked asking → ⊥
-        never asking alive is asked =
+        never : one.done.act.shown ≡ None → (asking : Asking) (alive : Bool) → step.input ≡ Took (down.OutcomeIs true true) alive → step.before.talk.phase ≡ Asked asking → ⊥
+        never none asking alive is asked =
             let shows : ◌≡◌ {A = Option Shown} None (Some (completed_as asking)) = sym none ∙ shown_is granted t whole new setting items left kind happens who step asking alive is asked in
             let nothing : ⊥ = cc in
             nothing
 
-    showing : (shown : Shown) → one.done.act.shown ≡ Some shown → known_so (calls ++ shown_call shown ∷ []) (before.report.outcomes ++ more) scan_now.sendings ≡ true
-    showing shown is = by (taken_shows t.setting.terms step.before.talk step.before.talk.phase taken.frame taken.alive m.tick shown (sym (ap (λ (input : Input). (talk_step t.setting.terms step.before.talk input m.tick).1.shown) taken.is) ∙ is))
-      where
-        taken : IsTaken step.input
-        taken = shows_taken t.setting.terms step.before.talk m.tick shown step.input is
-
-        heard : (frame : Down) → taken.frame ≡ frame → scan_now.sendings ≡ answered (Took frame taken.alive) (Some shown) sendings
-        heard frame same = ap (λ (input : Input). answered input one.done.act.shown sendings) (taken.is ∙ ap (λ (f : Down). Took f taken.alive) same) ∙ ap (λ (s : Option Shown). answered (Took frame taken.alive) s sendings) is
-
-        by_reply : (state : Living) → step.before.talk.phase ≡ Running state → (list : List Sending) → sendings ≡ list → list_all (is_placed script held) list ≡ true → all_but_last new calls (filter commits list) ≡ true → known_so calls before.report.outcomes list ≡ true
-            → known_so (calls ++ shown_call shown ∷ []) (before.report.outcomes ++ more) (with_taken shown.answers list) ≡ true
-        by_reply state runs [] are placed settled known = refl
-        by_reply state runs (top ∷ rest) are placed settled known = replied shown (before.report.outcomes ++ more) top rest (top_at state runs (taking_at taken.frame taken.alive taken.is) top rest are) placed settled known
-
-        by : ShowsBy step.before.talk.phase taken.frame shown → known_so (calls ++ shown_call shown ∷ []) (before.report.outcomes ++ more) scan_now.sendings ≡ true
-        by (ByReply state runs same) =
-            subst (λ (list : List Sending). known_so (calls ++ shown_call shown ∷ []) (before.report.outcomes ++ more) list ≡ true) (sym (heard (down.Reply shown.answers shown.draws shown.ltxid) same)) (by_reply state runs sendings refl placed settled known)
-        by (ByOutcome asking asked same committed) =
-            subst (λ (list : List Sending). known_so (calls ++ shown_call shown ∷ []) (before.report.outcomes ++ more) list ≡ true) (sym (heard (down.OutcomeIs true true) same))
-            (weaker_all (is_known new.blocked calls before.report.outcomes) (is_known new.blocked (calls ++ shown_call shown ∷ []) (before.report.outcomes ++ more)) (filter commits sendings)
-            (λ s here. known_more new.blocked calls (shown_call shown) before.report.outcomes (before.report.outcomes ++ more) s (λ none at. inr (shows_last ends_committed calls (shown_call shown) s.at at (ap ends_committed committed))) here) known)
-
-    pub heard_known : known_so (map shown_call (account_now t.setting.terms first).shown) (before.report.outcomes ++ more) scan_now.sendings ≡ true
-    heard_known = by (map shown_call (account_now t.setting.terms first).shown) (shown_as t whole.orderly new by_held who step)
-      where
-        by : (shown : List ShownCall) → ShownAs calls one.done.act.shown shown → known_so shown (before.report.outcomes ++ more) scan_now.sendings ≡ true
-        by _ (NoneShown none) = quietly none
-        by _ (OneShown shown is) = showing shown is
+        by : (shown : List ShownCall) (list : List Sending) → HeardAs shown list → known_so shown (before.report.outcomes ++ more) list ≡ true
+        by _ _ (Quietly none) =
+            weaker_all (is_known new.blocked calls before.report.outcomes) (is_known new.blocked calls (before.report.outcomes ++ more)) (filter commits sendings)
+            (λ s here. known_still new.blocked calls before.report.outcomes more s (told_none step.input step.before.talk.phase (never none)) here) known
+        by _ _ (Replied shown state taking top rest runs says are place) =
+            replied shown (before.report.outcomes ++ more) top rest place (subst (λ (list : List Sending). list_all (is_placed script held) list ≡ true) are placed) (subst (λ (list : List Sending). all_but_last new calls (filter commits list) ≡ true) are settled)
+            (subst (λ (list : List Sending). known_so calls before.report.outcomes list ≡ true) are known)
+        by _ _ (Completed shown asking alive heard asked committed) =
+            weaker_all (is_known new.blocked calls before.report.outcomes) (is_known new.blocked (calls ++ shown_call shown ∷ []) (before.report.outcomes ++ more)) (filter commits sendings)
+            (λ s here. known_more new.blocked calls (shown_call shown) before.report.outcomes (before.report.outcomes ++ more) s (λ none at. inr (shows_last ends_committed calls (shown_call shown) s.at at (ap ends_committed committed))) here) known

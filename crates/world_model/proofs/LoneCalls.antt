@@ -154,7 +154,7 @@ module _ (granted : Draw → Bool) (t : Traced) (whole : Invariant granted t) (w
 
   pub lone_now : (call : Call) → slice_get step.before.request.calls count ≡ Some call → is_lone_commit call ≡ true
   lone_now call is =
-      let found = any_all (is_unanswered asking.ltxid count) (λ (s : Sending). implies (has_commit s.call) (is_known_sending s)) (sendings_of before) (sent_one granted t whole who n step asking alive input phase) known in
+      let found = any_all (is_unanswered asking.ltxid count) (λ (s : Sending). implies (has_commit s.call) (is_known_sending s)) (sendings_of before) (sent_one granted t whole who n step asking true alive input phase) known in
       by found.0 found.1.0 found.1.1
     where
       entry_so : (sending : Sending) (entry : Entry) → sending.at ≡ count → is_entry_of granted before sending entry ≡ true → last_lone entry.pieces ≡ true → is_lone_commit call ≡ true

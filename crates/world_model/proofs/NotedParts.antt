@@ -18,11 +18,11 @@ use Rattle.world_model.proofs.NotedLists.{bool_same, one_part, place, told}
 use Rattle.world_model.proofs.Tests.{eq_from, eq_to, le_from, le_to, lt_from, lt_to}
 
 -- how many transactions these calls end
-abbrev ends_in : List ShownCall → ℕ
+abbrev pub ends_in : List ShownCall → ℕ
 ends_in [] = 0
 ends_in (call ∷ calls) = cond (ends_transaction call.answers) (suc (ends_in calls)) (ends_in calls)
 
-ends_counted : (calls : List ShownCall) → count_by (λ call. ends_transaction call.answers) calls ≡ ends_in calls
+pub ends_counted : (calls : List ShownCall) → count_by (λ call. ends_transaction call.answers) calls ≡ ends_in calls
 ends_counted [] = refl
 ends_counted (call ∷ calls) = sum_by-cons (λ (one : ShownCall). cond (ends_transaction one.answers) 1 0) call calls ∙ (ap (λ (n : ℕ). cond (ends_transaction call.answers) 1 0 + n) (ends_counted calls) ∙ by (ends_transaction call.answers))
   where

@@ -92,7 +92,7 @@ module _ (t : Traced) (inv : Orderly t) (new : Traced) (who : ℕ) (step : HasSt
           ap (λ (now : Option Doing). flat_map commit_sendings (courses_from t.setting who (length step.client.past) [] now)) is ∙ ap (λ (d : Doing). filter commits (scan_by mine d.steps).sendings) same
       by None is None does = absurd (let none : ⊥ = cc in none)
 
-  now_is : (course : Course) → course.owner ≡ mine → course.steps ≡ step.after.steps → flat_map commit_sendings (course ∷ []) ≡ mine_new
+  pub now_is : (course : Course) → course.owner ≡ mine → course.steps ≡ step.after.steps → flat_map commit_sendings (course ∷ []) ≡ mine_new
   now_is course owner steps =
       append-nil (commit_sendings course)
       ∙ (ap (λ (o : Owner). filter commits (scan_by o course.steps).sendings) owner

@@ -1,5 +1,5 @@
 -- InvOnce: entries, the sendings that they are of, and values that were drawn.
-use Rattle.std.specs.Prelude.{ℕ, ◌+◌, ◌==◌, ◌&&◌, ◌||◌, Bool, true, false, not, nat_lt, nat_le, if◌then◌else◌, IsTrue, List, [], ◌∷◌, ◌++◌, length, map, filter, flat_map, count_by, take, drop, slice_get, Option, Some, None, is_none}
+use Rattle.std.specs.Prelude.{ℕ, ◌+◌, ◌==◌, ◌&&◌, ◌||◌, Bool, true, false, not, nat_lt, nat_le, if◌then◌else◌, IsTrue, List, [], ◌∷◌, ◌++◌, length, map, filter, flat_map, count_by, take, drop, slice_get, Option, Some, None, is_some, is_none}
 use Rattle.std.specs.List.{list_all, list_any, last_or}
 use Rattle.std.specs.Option.{option_map_or}
 use Rattle.std.specs.Cmp.Lexicographic.{pointwise}
@@ -12,6 +12,8 @@ use Rattle.svc_values.specs.declared.entry.Piece.{Piece}
 use Rattle.svc_values.specs.Calls.{is_lone_commit}
 use Rattle.svc_values.specs.Endings.{ends_committed, ends_transaction}
 use Rattle.svc_values.specs.Identifiers.{same_ltxid, is_of_session}
+use Rattle.outage_schedule.specs.declared.failure.Failure.{Failure}
+use Rattle.outage_schedule.specs.declared.failure.Failure.TheVariants as failure
 use Rattle.outage_schedule.specs.declared.item.Item.{Item}
 use Rattle.outage_schedule.specs.declared.item.Item.TheVariants as item
 use Rattle.outage_schedule.specs.declared.request.Outcome.{Outcome}
@@ -29,6 +31,7 @@ use Rattle.world_model.specs.Frames.{Owner, Sent, Handled}
 use Rattle.world_model.specs.Links.{Link, link_at}
 use Rattle.world_model.specs.Clients.{Client, script_at}
 use Rattle.world_model.specs.Traced.{Traced, Course, courses_of}
+use Rattle.world_model.specs.Lost.{lost_links}
 use Rattle.world_model.specs.Words.{dones_of, held_in}
 use Rattle.world_model.specs.Sames.{each_pair, same_owners, owned_by}
 use Rattle.world_model.specs.Parts.{Sending, Scan, Numbered, links_of, scan_of, sendings_of, commit_sendings, is_commit_call, has_entry, implies, is_out, out_frame, held_number}
@@ -179,6 +182,40 @@ all_but_last t shown (sending ∷ earlier) = later_settled t shown (transaction_
 abbrev pub earlier_settled : Traced → Bool
 earlier_settled t = list_all (λ course. all_but_last t course.report.calls (commit_sendings course)) (courses_of t)
 
+-- O3d: How a request that is over ended: without an error no call of its script is left. With Incomplete it had sent the next call, under
+-- the identifier of the error, which has its entry. A sending of the next call that was not answered is on a connection that it lost
+abbrev pub is_open_at : Ltxid → ℕ → Sending → Bool
+is_open_at x count sending = same_ltxid sending.ltxid x && ((sending.at == count) && is_none sending.taken)
+
+abbrev pub ends_so : List Entry → Course → Option Failure → Bool
+ends_so entries course None = is_none (slice_get course.request.calls (length course.report.calls))
+ends_so entries course (Some (failure.Incomplete x)) = has_entry entries x && list_any (is_open_at x (length course.report.calls)) (commit_sendings course)
+ends_so entries course (Some other) = true
+
+abbrev pub is_left_lost : ℕ → List ℕ → Sending → Bool
+is_left_lost count lost sending = is_some sending.taken || (not (sending.at == count) || list_any (λ number. number == sending.connection) lost)
+
+abbrev pub ends_rightly : List Entry → Course → Bool
+ends_rightly entries course =
+    implies course.is_over (ends_so entries course course.report.failed && list_all (is_left_lost (length course.report.calls) (lost_links course)) (commit_sendings course))
+
+abbrev pub all_end : Traced → Bool
+all_end t = list_all (ends_rightly t.entries) (courses_of t)
+
+-- O3e: each call that was shown as committed has a sending with a commit at its place, open or committed, whose entry is there
+abbrev pub is_stored_at : List Entry → ℕ → Sending → Bool
+is_stored_at entries at sending = (sending.at == at) && (is_open_or_committed sending && has_entry entries sending.ltxid)
+
+abbrev pub is_shown_stored : List Entry → List Sending → ℕ → ShownCall → Bool
+is_shown_stored entries sendings at shown = implies (ends_committed shown.answers) (list_any (is_stored_at entries at) sendings)
+
+abbrev pub stored_from : List Entry → List Sending → ℕ → List ShownCall → Bool
+stored_from entries sendings at [] = true
+stored_from entries sendings at (shown ∷ others) = is_shown_stored entries sendings at shown && stored_from entries sendings (at + 1) others
+
+abbrev pub shown_stored : Traced → Bool
+shown_stored t = list_all (λ course. stored_from t.entries (commit_sendings course) 0 course.report.calls) (courses_of t)
+
 -- what follows: the lines of Once for each request that is over, with the journal so far
 abbrev pub over_ends : Traced → Bool
 over_ends t = list_all (λ course. implies course.is_over (request_ends t.entries course.report)) (courses_of t)
@@ -299,6 +336,8 @@ pub record Once (t : Traced) : Type 0 where
   pub placed : IsTrue (all_placed t)
   pub known : IsTrue (all_known t)
   pub settled : IsTrue (earlier_settled t)
+  pub shown : IsTrue (shown_stored t)
+  pub ended : IsTrue (all_end t)
   pub ends : IsTrue (over_ends t)
   pub one : IsTrue (transactions_have_one t)
   pub noted : IsTrue (note_sendings t)

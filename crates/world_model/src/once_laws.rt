@@ -1,7 +1,7 @@
 //! What of entries and of the sendings that they are of holds of the start and is kept in each event. Each law is the clause of a function
 //! with nothing to run.
 ghost use Rattle.world_model.specs.KeptLaws.{IsKeptOfAll, StaysTrue};
-ghost use Rattle.world_model.specs.Once.{completed_rightly, on_links, have_fates, outs_wait, entries_sent, committed_stored, are_apart, note_sendings, tell_tried, tried_apart, all_placed, all_known, earlier_settled, transactions_have_one};
+ghost use Rattle.world_model.specs.Once.{completed_rightly, on_links, have_fates, outs_wait, entries_sent, committed_stored, are_apart, note_sendings, tell_tried, tried_apart, all_placed, all_known, earlier_settled, transactions_have_one, shown_stored, all_end, over_ends};
 
 /// The identifier of each sending with a commit is one of its connection's session.
 pub fn sendings_are_of_sessions()
@@ -62,6 +62,21 @@ pub fn earlier_sendings_are_settled()
     server_model::laws::runs_number();
 }
 
+/// A call that was shown as committed has a sending with a commit at its place, open or committed, and the entry of that is there, if the
+/// whole invariant held before.
+pub fn committed_calls_are_stored()
+    ensures { IsKeptOfAll shown_stored }
+{
+    server_model::laws::runs_number();
+}
+
+/// A request that is over and shows no error has no call of its script left; one that shows Incomplete had sent the next call, under the
+/// identifier of the error, which has its entry. A sending of the next call that was not answered is on a connection that was lost. It is
+/// so if the whole invariant held before.
+pub fn requests_end_rightly()
+    ensures { IsKeptOfAll all_end }
+{}
+
 /// Each entry of the run is completed exactly where the call that committed it has no statement, if the whole invariant held before. An
 /// entry of the image is of no connection's session.
 pub fn entries_are_completed_rightly()
@@ -89,6 +104,15 @@ pub fn tried_identifiers_differ()
 /// journal at most once.
 pub fn transactions_have_one_entry()
     ensures { IsKeptOfAll transactions_have_one }
+{
+    commit_log::laws::keeps_journal();
+    server_model::laws::runs_number();
+}
+
+/// The transactions of a request that is over stand in the journal as its report says, if the whole invariant held before: one shown as
+/// committed has one entry, one that was dropped has none, and the last one has what the error of the request says.
+pub fn reports_tell_entries()
+    ensures { IsKeptOfAll over_ends }
 {
     commit_log::laws::keeps_journal();
     server_model::laws::runs_number();
