@@ -22,8 +22,8 @@ use Rattle.run_clauses.specs.Horizons.{horizon_at}
 use Rattle.run_clauses.specs.Moments.{HappenedAt, ServedItem, moments}
 use Rattle.run_clauses.specs.Outcomes.{is_forgotten, says_forgotten}
 use Rattle.run_clauses.specs.Stored.{Kept, kept_by, horizon_before, is_rightly_forgotten}
-use Rattle.server_model.specs.Outcomes.{Says, down_of}
-use Rattle.server_model.specs.Runs.{Happened, Served as ServedFrame, Asked as WasAsked}
+use Rattle.server_model.specs.Outcomes.{down_of}
+use Rattle.server_model.specs.Runs.{Happened}
 use Rattle.server_model.specs.Seen.{Store, book_in, Seen}
 use Rattle.server_model.specs.ServiceCalls.{TellsByTable}
 use Rattle.world_model.specs.Crashing.{is_crashed_item}
@@ -33,6 +33,7 @@ use Rattle.world_model.specs.OneEvent.{OneEvent}
 use Rattle.world_model.specs.Reached.{Reached, Begins, GoesOn, IsFinishing, Scheduled, Finishes}
 use Rattle.world_model.specs.ServiceDid.{item_telling}
 use Rattle.world_model.specs.Serving.{Front, front_at, is_item_of, commits_after, outcome_frame}
+use Rattle.world_model.specs.ToldByStore.{AreByStore}
 use Rattle.world_model.specs.Traced.{Traced}
 use Rattle.world_model.proofs.AllLinks.{IsFront, front_is, at_link}
 use Rattle.world_model.proofs.AllLists.{append_all}
@@ -46,16 +47,6 @@ use Rattle.world_model.proofs.MomentsGrow.{moments_of, event_moments}
 use Rattle.world_model.proofs.RunTells.{HasCome, told, moments_now, reached_come, finishing_come}
 use Rattle.world_model.proofs.TableTold.{forgotten_by_table}
 use Rattle.world_model.proofs.Tests.{not_both}
-
--- an outcome was told by the table on what the store says
-abbrev pub IsByStore : Store → Happened → Type 0
-IsByStore store (ServedFrame session now frame said) = TellsByTable store frame said
-IsByStore store (WasAsked x (Says frame)) = frame ≡ down_of (verdict_of (book_in store) x)
-IsByStore store (WasAsked x said) = Unit {0}
-
-abbrev pub AreByStore : Store → List Happened → Type 0
-AreByStore store [] = Unit {0}
-AreByStore store (one ∷ happened) = IsByStore store one × AreByStore store happened
 
 -- ONE EVENT ---------------------------------------------------------------------------------------
 
@@ -120,15 +111,15 @@ module _ (document : Document) (report : Report) (keeps : KeepsHorizon document 
       was.down (λ up. horizon (sym one.coupled_before.server.is_up ∙ up) ∙ ap (λ (n : ℕ). horizon_at document report (n + 1)) (sym was.count)) (keeps.by_store before after old new event note more [] one)))
 
   reached_forgets : (events : List Event) (notes others : List Note) (items : List Served) (seen : Seen) (t : Traced) → Reached document events notes items seen t → report.notes ≡ notes ++ others → list_all forgets (moments_of notes items) ≡ true
-  reached_forgets _ _ others _ _ _ (Begins seen start history coupled) same = refl
-  reached_forgets _ _ others _ _ _ (GoesOn events notes items more before after old new event note reached one) same =
+  reached_forgets _ _ others _ _ _ (Begins seen start history horizon coupled) same = refl
+  reached_forgets _ _ others _ _ _ (GoesOn events notes items more before after old new event note reached one stored) same =
       let front : report.notes ≡ notes ++ note ∷ others = same ∙ append_assoc notes (note ∷ []) others in
       one_more before after old new event note notes items more one (reached_come document events notes items before old reached) (keeps.scheduled events notes (note ∷ others) items before old front reached)
       (reached_forgets events notes (note ∷ others) items before old reached front)
 
   finishing_forgets : (place : Place) (notes others : List Note) (items : List Served) (seen : Seen) (t : Traced) → IsFinishing document place notes items seen t → report.notes ≡ notes ++ others → list_all forgets (moments_of notes items) ≡ true
   finishing_forgets _ _ others _ _ _ (Scheduled notes items seen t reached) same = reached_forgets document.schedule notes others items seen t reached same
-  finishing_forgets _ _ others _ _ _ (Finishes place later notes items more before after old new event note finishing next one) same =
+  finishing_forgets _ _ others _ _ _ (Finishes place later notes items more before after old new event note finishing next one stored) same =
       let front : report.notes ≡ notes ++ note ∷ others = same ∙ append_assoc notes (note ∷ []) others in
       one_more before after old new event note notes items more one (finishing_come document place notes items before old finishing) (keeps.finished place notes (note ∷ others) items before old front finishing)
       (finishing_forgets place notes (note ∷ others) items before old finishing front)

@@ -58,7 +58,7 @@ use Rattle.world_model.proofs.Happened.{at_event}
 use Rattle.world_model.proofs.LinkItems.{event_of_item}
 use Rattle.world_model.proofs.MomentsGrow.{is_before}
 use Rattle.world_model.proofs.RunTells.{RunTells, NothingYet, TellsMore, run_tells}
-use Rattle.world_model.proofs.RunsCoupled.{finishing_coupled, finishing_sound}
+use Rattle.world_model.proofs.RunStarts.{finishing_coupled, finishing_sound}
 use Rattle.world_model.proofs.TableTold.{told_by_count}
 use Rattle.world_model.proofs.Tests.{eq_from, eq_to, lt_from, lt_to}
 

@@ -28,7 +28,7 @@ use Rattle.world_model.specs.Traced.{Traced}
 use Rattle.world_model.proofs.Blocks.{all_next}
 use Rattle.world_model.proofs.KeptEntries.{entries_law}
 use Rattle.world_model.proofs.Numbered.{numbered_on, all_below}
-use Rattle.world_model.proofs.RunsCoupled.{finishing_sound}
+use Rattle.world_model.proofs.RunStarts.{finishing_sound}
 use Rattle.world_model.proofs.Tests.{eq_from, lt_from}
 
 -- no entry has the next identifier of a session

@@ -90,8 +90,8 @@ joins items more before after happened are same history =
 
 reached_items : (document : Document) (events : List Event) (notes : List Note) (items : List Served) (seen : Seen) (t : Traced) → Reached document events notes items seen t
     → AreOf (walk_items (setting_of document) (start_of document) events notes items) seen
-reached_items document _ _ _ _ _ (Begins seen start history coupled) = ap (map plain_of) (sym history)
-reached_items document _ _ _ _ _ (GoesOn events notes items more before after old new event note reached one) =
+reached_items document _ _ _ _ _ (Begins seen start history horizon coupled) = ap (map plain_of) (sym history)
+reached_items document _ _ _ _ _ (GoesOn events notes items more before after old new event note reached one forgets) =
     let setting : Setting = setting_of document in
     let follows : follow setting old.machine event note more ≡ Some (new.machine, []) = subst (λ (s : Setting). follow s old.machine event note more ≡ Some (new.machine, [])) (reached_setting document events notes items before old reached) one.follows in
     ap plain_items (items_more setting (start_of document) old.machine events (event ∷ []) notes (note ∷ []) items more (reached_walk document events notes items before old reached))
@@ -124,7 +124,7 @@ finishing_items document _ _ _ _ _ (Scheduled notes items seen t reached) others
           (ap (λ (events : List Event). walk setting start events (notes ++ others) (items ++ left)) (sym (append-nil document.schedule))
           ∙ walk_more setting start t.machine document.schedule [] notes others items left walked);
     }
-finishing_items document _ _ _ _ _ (Finishes place later notes items more before after old new event note finishing next one) others left =
+finishing_items document _ _ _ _ _ (Finishes place later notes items more before after old new event note finishing next one forgets) others left =
     let setting : Setting = setting_of document in
     let follows : follow setting old.machine event note more ≡ Some (new.machine, []) = subst (λ (s : Setting). follow s old.machine event note more ≡ Some (new.machine, [])) (finishing_setting document place notes items before old finishing) one.follows in
     let so = finishing_items document place notes items before old finishing (note ∷ others) (more ++ left) in

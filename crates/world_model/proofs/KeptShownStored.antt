@@ -161,7 +161,7 @@ module _ (granted : Draw → Bool) (t : Traced) (whole : Invariant granted t) (n
         pushed_has : list_all has_its (filter commits pushed) ≡ true
         pushed_has =
             let found = step_in t.setting m who new.machine step in
-            subst (λ (list : List Sending). list_all has_its list ≡ true) (now_is t whole.orderly whole.once.apart new differ who step found.0 found.1.0 found.1.1.0)
+            subst (λ (list : List Sending). list_all has_its list ≡ true) (now_is t whole.orderly new who step found.0 found.1.0 found.1.1.0)
             (in_new has_its _ (flat_map commit_sendings (found.0 ∷ [])) (all_sendings t) (flat_map commit_sendings (courses_of_clients t.setting 1 new.machine.clients))
             (in_flat commit_sendings _ (found.0 ∷ []) (courses_of t) (courses_of_clients t.setting 1 new.machine.clients) found.1.1.1) stored)
 

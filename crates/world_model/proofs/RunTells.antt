@@ -77,12 +77,12 @@ module _ (before after : Seen) (old new : Traced) (event : Event) (note : Note) 
       }
 
 pub reached_come : (document : Document) (events : List Event) (notes : List Note) (items : List Served) (seen : Seen) (t : Traced) → Reached document events notes items seen t → HasCome notes items seen t.machine
-reached_come document _ _ _ _ _ (Begins seen start history coupled) = record { count = refl; before = refl; tells = subst (RunTells 0 []) (sym history) NothingYet; down = refl }
-reached_come document _ _ _ _ _ (GoesOn events notes items more before after old new event note reached one) = come_on before after old new event note notes items more one (reached_come document events notes items before old reached)
+reached_come document _ _ _ _ _ (Begins seen start history horizon coupled) = record { count = refl; before = refl; tells = subst (RunTells 0 []) (sym history) NothingYet; down = refl }
+reached_come document _ _ _ _ _ (GoesOn events notes items more before after old new event note reached one forgets) = come_on before after old new event note notes items more one (reached_come document events notes items before old reached)
 
 pub finishing_come : (document : Document) (place : Place) (notes : List Note) (items : List Served) (seen : Seen) (t : Traced) → IsFinishing document place notes items seen t → HasCome notes items seen t.machine
 finishing_come document _ _ _ _ _ (Scheduled notes items seen t reached) = reached_come document document.schedule notes items seen t reached
-finishing_come document _ _ _ _ _ (Finishes place later notes items more before after old new event note finishing next one) =
+finishing_come document _ _ _ _ _ (Finishes place later notes items more before after old new event note finishing next one forgets) =
     come_on before after old new event note notes items more one (finishing_come document place notes items before old finishing)
 
 -- all that was told, with the whole history

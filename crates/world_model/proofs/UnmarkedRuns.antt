@@ -182,13 +182,13 @@ one_more before after old new event note items more one unmarked before_unmarked
     ∙ and_from (none_marked (map plain_of before.history)) (none_marked (map plain_of one.happened)) (before_unmarked parts.0) (ap none_marked (sym (event_did old.machine event note more one.happened one.did)) ∙ here)
 
 reached_unmarked : (document : Document) (events : List Event) (notes : List Note) (items : List Served) (seen : Seen) (t : Traced) → Reached document events notes items seen t → list_all not_repeated items ≡ true → Unmarked seen
-reached_unmarked document _ _ _ _ _ (Begins seen start history coupled) unmarked = ap (λ (all : List Happened). none_marked (map plain_of all)) history
-reached_unmarked document _ _ _ _ _ (GoesOn events notes items more before after old new event note reached one) unmarked =
+reached_unmarked document _ _ _ _ _ (Begins seen start history horizon coupled) unmarked = ap (λ (all : List Happened). none_marked (map plain_of all)) history
+reached_unmarked document _ _ _ _ _ (GoesOn events notes items more before after old new event note reached one forgets) unmarked =
     one_more before after old new event note items more one unmarked (reached_unmarked document events notes items before old reached)
 
 finishing_unmarked : (document : Document) (place : Place) (notes : List Note) (items : List Served) (seen : Seen) (t : Traced) → IsFinishing document place notes items seen t → list_all not_repeated items ≡ true → Unmarked seen
 finishing_unmarked document _ _ _ _ _ (Scheduled notes items seen t reached) unmarked = reached_unmarked document document.schedule notes items seen t reached unmarked
-finishing_unmarked document _ _ _ _ _ (Finishes place later notes items more before after old new event note finishing next one) unmarked =
+finishing_unmarked document _ _ _ _ _ (Finishes place later notes items more before after old new event note finishing next one forgets) unmarked =
     one_more before after old new event note items more one unmarked (finishing_unmarked document place notes items before old finishing)
 
 pub runs_fresh : RunsAreLegal → RunsAreFreshNew → RunsAreFresh

@@ -39,6 +39,7 @@ pub mod Serving
 pub mod Settings
 pub mod Shown
 pub mod Told
+pub mod ToldByStore
 pub mod Traced
 pub mod Walking
 pub mod Wanted

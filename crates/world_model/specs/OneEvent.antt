@@ -17,6 +17,7 @@ use Rattle.world_model.specs.Walking.{follow}
 use Rattle.world_model.specs.ServiceDid.{ServiceDid}
 use Rattle.world_model.specs.Coupled.{Coupled}
 use Rattle.world_model.specs.CrashCount.{CountsCrash}
+use Rattle.world_model.specs.ToldByStore.{AreByStore}
 
 -- the session of a run outside, if one was made
 abbrev pub session_outside : Traced → Note → List SessionId
@@ -30,10 +31,12 @@ drawn_outside _ = []
 
 -- The incarnation of the store never falls. What the journal gained in the event stands behind what it held: entries come from what happened, and blocks were asked for in it.
 -- The crashes that the service counts are those of the events, each with its pick and its stop.
+-- What was told of identifiers is told by the table on what the store held before.
 pub record OneEvent (before : Seen) (old : Traced) (event : Event) (note : Note) (items left : List Served) (after : Seen) (new : Traced) : Type 0 where
   pub follows : follow old.setting old.machine event note items ≡ Some (new.machine, left)
   pub happened : List Happened
   pub did : ServiceDid old.machine event note items happened
+  pub told : AreByStore before.state.store happened
   pub history : after.history ≡ before.history ++ happened
   pub start : after.start ≡ before.start
   pub rises : before.state.store.incarnation ≤ after.state.store.incarnation
