@@ -1,4 +1,4 @@
--- Each answer that a report tells of says forgotten exactly below the horizon at its event, where it was told by the table on the store of then.
+-- Each answer that a report tells of says forgotten exactly below the horizon at its event, which the store has before it, and so it is right.
 use Rattle.std.proofs.Common.{◌≡◌, refl, sym, ap, subst, ◌∙◌, append-nil, append_assoc, Bool, true, ℕ, ◌+◌, ◌&&◌, ◌||◌, length, List, [], ◌∷◌, ◌++◌, Some, ◌⊎◌, inl, inr}
 use Rattle.std.specs.Prelude.{not, nat_lt}
 use Rattle.std.specs.List.{list_all}
@@ -10,6 +10,7 @@ use Rattle.svc_values.specs.declared.frame.Up.TheVariants as up
 use Rattle.svc_values.specs.Same.{same_bool}
 use Rattle.svc_values.specs.SameLaws.{same_ltxid_decides}
 use Rattle.ltxid_book.specs.Outcomes.{verdict_of}
+use Rattle.commit_log.specs.Keeping.{EachKeeps}
 use Rattle.outage_schedule.specs.declared.document.Document.{Document}
 use Rattle.outage_schedule.specs.declared.event.Event.{Event}
 use Rattle.outage_schedule.specs.declared.item.Item.{Item}
@@ -22,6 +23,7 @@ use Rattle.run_clauses.specs.Horizons.{horizon_at}
 use Rattle.run_clauses.specs.Moments.{HappenedAt, ServedItem, moments}
 use Rattle.run_clauses.specs.Outcomes.{is_forgotten, says_forgotten}
 use Rattle.run_clauses.specs.Stored.{Kept, kept_by, horizon_before, is_rightly_forgotten}
+use Rattle.server_model.specs.Laws.{EntryNumbers}
 use Rattle.server_model.specs.Outcomes.{down_of}
 use Rattle.server_model.specs.Runs.{Happened}
 use Rattle.server_model.specs.Seen.{Store, book_in, Seen}
@@ -33,11 +35,12 @@ use Rattle.world_model.specs.OneEvent.{OneEvent}
 use Rattle.world_model.specs.Reached.{Reached, Begins, GoesOn, IsFinishing, Scheduled, Finishes}
 use Rattle.world_model.specs.ServiceDid.{item_telling}
 use Rattle.world_model.specs.Serving.{Front, front_at, is_item_of, commits_after, outcome_frame}
+use Rattle.world_model.specs.StoredLaws.{AnswersAreRight}
 use Rattle.world_model.specs.ToldByStore.{AreByStore}
 use Rattle.world_model.specs.Traced.{Traced}
 use Rattle.world_model.proofs.AllLinks.{IsFront, front_is, at_link}
 use Rattle.world_model.proofs.AllLists.{append_all}
-use Rattle.world_model.proofs.AnswersRight.{forgets_at}
+use Rattle.world_model.proofs.AnswersRight.{forgets_at, answers_by_count}
 use Rattle.world_model.proofs.AnswersTold.{not_refused}
 use Rattle.world_model.proofs.EventsTell.{EventTells, TellsNothing, TellsItem, TellsRun, TellsAnswer}
 use Rattle.world_model.proofs.Happened.{at_event}
@@ -45,6 +48,7 @@ use Rattle.world_model.proofs.LinkItems.{event_of_item}
 use Rattle.world_model.proofs.LinkNow.{is_down_link}
 use Rattle.world_model.proofs.MomentsGrow.{moments_of, event_moments}
 use Rattle.world_model.proofs.RunTells.{HasCome, told, moments_now, reached_come, finishing_come}
+use Rattle.world_model.proofs.StoredHorizons.{reached_told, finishing_told}
 use Rattle.world_model.proofs.TableTold.{forgotten_by_table}
 use Rattle.world_model.proofs.Tests.{not_both}
 
@@ -90,40 +94,35 @@ module _ (k : Kept) (store : Store) where
 
 -- ALL EVENTS --------------------------------------------------------------------------------------
 
--- What is to be known of the events of a run: the horizon of the store before each, while the service is up, and that each answer in it is by the table on that store.
-pub record KeepsHorizon (document : Document) (report : Report) : Type 0 where
-  pub scheduled : (events : List Event) (notes others : List Note) (items : List Served) (seen : Seen) (t : Traced) → report.notes ≡ notes ++ others → Reached document events notes items seen t
-      → seen.state.is_up ≡ true → seen.state.store.horizon ≡ horizon_at document report (length notes + 1)
-  pub finished : (place : Place) (notes others : List Note) (items : List Served) (seen : Seen) (t : Traced) → report.notes ≡ notes ++ others → IsFinishing document place notes items seen t
-      → seen.state.is_up ≡ true → seen.state.store.horizon ≡ horizon_at document report (length notes + 1)
-  pub by_store : (before after : Seen) (old new : Traced) (event : Event) (note : Note) (items left : List Served) (one : OneEvent before old event note items left after new) → AreByStore before.state.store one.happened
-
-module _ (document : Document) (report : Report) (keeps : KeepsHorizon document report) where
+module _ (document : Document) (report : Report) where
   abbrev forgets : HappenedAt → Bool
   forgets moment = forgets_at (kept_by document report) moment.event moment.happened
 
   one_more : (before after : Seen) (old new : Traced) (event : Event) (note : Note) (notes : List Note) (items more : List Served) (one : OneEvent before old event note more [] after new) → HasCome notes items before old.machine
-      → (before.state.is_up ≡ true → before.state.store.horizon ≡ horizon_at document report (length notes + 1)) → list_all forgets (moments_of notes items) ≡ true → list_all forgets (moments_of (notes ++ note ∷ []) (items ++ more)) ≡ true
+      → (old.machine.server.is_up ≡ true → before.state.store.horizon ≡ horizon_at document report (length notes + 1)) → list_all forgets (moments_of notes items) ≡ true → list_all forgets (moments_of (notes ++ note ∷ []) (items ++ more)) ≡ true
   one_more before after old new event note notes items more one was horizon all =
       subst (λ (list : List HappenedAt). list_all forgets list ≡ true) (sym (moments_now before after old new event note notes items more one was))
       (append_all forgets (moments_of notes items) (event_moments (old.machine.event + 1) note more) all
       (event_forgets (kept_by document report) before.state.store old.machine (event_moments (old.machine.event + 1) note more) one.happened (told before after old new event note notes items more one was).tells
-      was.down (λ up. horizon (sym one.coupled_before.server.is_up ∙ up) ∙ ap (λ (n : ℕ). horizon_at document report (n + 1)) (sym was.count)) (keeps.by_store before after old new event note more [] one)))
+      was.down (λ up. horizon up ∙ ap (λ (n : ℕ). horizon_at document report (n + 1)) (sym was.count)) one.told))
 
   reached_forgets : (events : List Event) (notes others : List Note) (items : List Served) (seen : Seen) (t : Traced) → Reached document events notes items seen t → report.notes ≡ notes ++ others → list_all forgets (moments_of notes items) ≡ true
   reached_forgets _ _ others _ _ _ (Begins seen start history horizon coupled) same = refl
   reached_forgets _ _ others _ _ _ (GoesOn events notes items more before after old new event note reached one stored) same =
       let front : report.notes ≡ notes ++ note ∷ others = same ∙ append_assoc notes (note ∷ []) others in
-      one_more before after old new event note notes items more one (reached_come document events notes items before old reached) (keeps.scheduled events notes (note ∷ others) items before old front reached)
+      one_more before after old new event note notes items more one (reached_come document events notes items before old reached) (reached_told document report events notes (note ∷ others) items before old reached front)
       (reached_forgets events notes (note ∷ others) items before old reached front)
 
   finishing_forgets : (place : Place) (notes others : List Note) (items : List Served) (seen : Seen) (t : Traced) → IsFinishing document place notes items seen t → report.notes ≡ notes ++ others → list_all forgets (moments_of notes items) ≡ true
   finishing_forgets _ _ others _ _ _ (Scheduled notes items seen t reached) same = reached_forgets document.schedule notes others items seen t reached same
   finishing_forgets _ _ others _ _ _ (Finishes place later notes items more before after old new event note finishing next one stored) same =
       let front : report.notes ≡ notes ++ note ∷ others = same ∙ append_assoc notes (note ∷ []) others in
-      one_more before after old new event note notes items more one (finishing_come document place notes items before old finishing) (keeps.finished place notes (note ∷ others) items before old front finishing)
+      one_more before after old new event note notes items more one (finishing_come document place notes items before old finishing) (finishing_told document report place notes (note ∷ others) items before old finishing front)
       (finishing_forgets place notes (note ∷ others) items before old finishing front)
 
   -- each answer of a whole run
-  pub run_forgets : (place : Place) (seen : Seen) (t : Traced) → IsFinishing document place report.notes report.served seen t → list_all (λ moment. forgets_at (kept_by document report) moment.event moment.happened) (moments report) ≡ true
+  run_forgets : (place : Place) (seen : Seen) (t : Traced) → IsFinishing document place report.notes report.served seen t → list_all forgets (moments report) ≡ true
   run_forgets place seen t finishing = finishing_forgets place report.notes [] report.served seen t finishing (sym (append-nil report.notes))
+
+pub answers_right_law : EachKeeps → EntryNumbers → AnswersAreRight
+answers_right_law keeps numbers document report seen t server is = answers_by_count keeps numbers document report seen t server is (run_forgets document report is.run.place seen t is.run.finishing)

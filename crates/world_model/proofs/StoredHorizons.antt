@@ -1,13 +1,14 @@
 -- The horizon that a store holds in a run: what the openings so far raised it to, or more by one that was stopped and asked for no more
--- than the next one will.
-use Rattle.std.proofs.Common.{◌≡◌, refl, sym, ap, subst, ◌∙◌, arith, inl, inr, ℕ, ◌≤◌, Bool, true, false, List, [], ◌∷◌, ◌++◌, Some, None}
+-- than the next one will. While the server is up it is the one that the report tells of the next event.
+use Rattle.std.proofs.Common.{◌≡◌, refl, sym, ap, subst, ◌∙◌, arith, inl, inr, ℕ, ◌+◌, ◌≤◌, Bool, true, false, List, [], ◌∷◌, ◌++◌, length, Some, None}
 use Rattle.std.specs.Prelude.{◌⊎◌, max}
 use Rattle.outage_schedule.specs.declared.document.Document.{Document}
 use Rattle.outage_schedule.specs.declared.event.Event.{Event}
 use Rattle.outage_schedule.specs.declared.item.Served.{Served}
 use Rattle.outage_schedule.specs.declared.note.Note.{Note}
 use Rattle.outage_schedule.specs.declared.note.Note.TheVariants as notes
-use Rattle.run_clauses.specs.Horizons.{after_note, wanted_horizon}
+use Rattle.outage_schedule.specs.declared.report.Report.{Report}
+use Rattle.run_clauses.specs.Horizons.{after_note, wanted_horizon, horizon_at, last_horizon}
 use Rattle.server_model.specs.Seen.{Store, Seen}
 use Rattle.world_model.specs.FinishEnds.{is_at_server}
 use Rattle.world_model.specs.Finishing.{Place}
@@ -17,10 +18,12 @@ use Rattle.world_model.specs.OneEvent.{OneEvent}
 use Rattle.world_model.specs.Reached.{Reached, Begins, GoesOn, IsFinishing, Scheduled, Finishes}
 use Rattle.world_model.specs.RunLaws.{HorizonsAreStored}
 use Rattle.world_model.specs.Settings.{Setting}
+use Rattle.world_model.specs.StoredLaws.{HorizonsAreTold}
 use Rattle.world_model.specs.Traced.{Traced}
 use Rattle.world_model.specs.Walking.{follow}
 use Rattle.world_model.proofs.FinishUp.{finish_up, over_up}
-use Rattle.world_model.proofs.RaisedHorizons.{raised_by, raised_at, raised_more, last_raised}
+use Rattle.world_model.proofs.RaisedHorizons.{raised_by, raised_at, raised_more, raised_so_far, last_raised}
+use Rattle.world_model.proofs.Tests.{eq_to}
 use Rattle.world_model.proofs.WantedHorizons.{openings_more, wanted_rises}
 use Rattle.world_model.proofs.WasUp.{was_up, stopped_down}
 
@@ -94,7 +97,20 @@ module _ (document : Document) where
         λ behind. finish_up old.setting old.machine new.machine more [] event note place later earlier.1 next one.follows,
       )
 
+  module _ (report : Report) where
+    abbrev Told : List Note → Seen → Traced → Type 0
+    Told all seen t = t.machine.server.is_up ≡ true → seen.state.store.horizon ≡ horizon_at document report (length all + 1)
+
+    pub reached_told : (events : List Event) (all others : List Note) (items : List Served) (seen : Seen) (t : Traced) → Reached document events all items seen t → report.notes ≡ all ++ others → Told all seen t
+    reached_told events all others items seen t reached same up = (reached_holds events all items seen t reached).exact up ∙ sym (raised_so_far document report all others same)
+
+    pub finishing_told : (place : Place) (all others : List Note) (items : List Served) (seen : Seen) (t : Traced) → IsFinishing document place all items seen t → report.notes ≡ all ++ others → Told all seen t
+    finishing_told place all others items seen t finishing same up = (finishing_holds place all items seen t finishing).0.exact up ∙ sym (raised_so_far document report all others same)
+
 pub horizons_stored : HorizonsAreStored
 horizons_stored document report seen t run =
     let end = finishing_holds document run.place report.notes report.served seen t run.finishing in
     end.0.exact (over_up t.machine run.place end.1 run.over) ∙ sym (last_raised document report)
+
+pub horizons_told : HorizonsAreTold
+horizons_told document report seen t server is = eq_to report.forgotten (last_horizon document report) (is.forgotten ∙ horizons_stored document report seen t is.run)

@@ -11,7 +11,8 @@ use Rattle.world_model.specs.Judged.{is_legal, is_fresh_new, has_room_for, none_
 use Rattle.world_model.specs.Reached.{IsRun}
 use Rattle.world_model.specs.Traced.{Traced}
 
--- The report has the notes and items of a whole run, what its clients were shown, and what the plain server beside it has gained.
+-- The report has the notes and items of a whole run, what its clients were shown, what the plain server beside it has gained, and the
+-- horizon that the store ends with.
 pub record IsReported (document : Document) (report : Report) (seen : Seen) (t : Traced) (server : Server) : Type 0 where
   pub run : IsRun document report.notes report.served seen t
   pub clients : report.clients ≡ transcripts_of t.machine
@@ -19,7 +20,7 @@ pub record IsReported (document : Document) (report : Report) (seen : Seen) (t :
   pub entries : report.entries ≡ server.core.entries
   pub blocked : report.blocked ≡ server.core.blocked
   pub alerts : report.alerts ≡ server.core.alerts
-  pub forgotten : report.forgotten ≡ server.core.horizon
+  pub forgotten : report.forgotten ≡ seen.state.store.horizon
 
 -- What was served is legal.
 abbrev pub RunsAreLegal : Type 0

@@ -5,7 +5,7 @@ use Rattle.outage_schedule.specs.declared.report.Report.{Report}
 use Rattle.run_clauses.specs.Before.{journal_before}
 use Rattle.run_clauses.specs.Blocks.{answered_in, blocks_answered, blocks_in_order}
 use Rattle.run_clauses.specs.Moments.{moments}
-use Rattle.run_clauses.specs.Stored.{kept_by, blocked_or_entry}
+use Rattle.run_clauses.specs.Stored.{kept_by, answers_right, forgotten_fits, blocked_or_entry}
 use Rattle.server_model.specs.Runs.{Server}
 use Rattle.server_model.specs.Seen.{Seen}
 use Rattle.world_model.specs.Reported.{IsReported}
@@ -14,6 +14,14 @@ use Rattle.world_model.specs.Traced.{Traced}
 -- It holds of each report of a whole run.
 abbrev pub HoldsOfReports : (Document → Report → Bool) → Type 0
 HoldsOfReports test = (document : Document) (report : Report) (seen : Seen) (t : Traced) (server : Server) → IsReported document report seen t server → IsTrue (test document report)
+
+-- Each answer is by the outcome table with the entries that were stored before it, and says forgotten exactly below the horizon of then.
+abbrev pub AnswersAreRight : Type 0
+AnswersAreRight = HoldsOfReports (λ document report. answers_right (kept_by document report) report)
+
+-- The horizon that a report tells of is the one that its openings ask for.
+abbrev pub HorizonsAreTold : Type 0
+HorizonsAreTold = HoldsOfReports forgotten_fits
 
 -- No identifier is both blocked and an entry's.
 abbrev pub BlocksStayApart : Type 0

@@ -1,5 +1,5 @@
-//! What of entries and blocks holds beside what was told in a run. Each law is the clause of a function with nothing to run.
-ghost use Rattle.world_model.specs.StoredLaws.{BlocksStayApart, BlocksAreAnswered, BlocksComeInOrder};
+//! What of entries, blocks and the horizon holds beside what was told in a run. Each law is the clause of a function with nothing to run.
+ghost use Rattle.world_model.specs.StoredLaws.{AnswersAreRight, HorizonsAreTold, BlocksStayApart, BlocksAreAnswered, BlocksComeInOrder};
 
 /// No identifier is both blocked and an entry's, in the journal that a report of a run tells of.
 pub fn blocks_stay_apart()
@@ -14,4 +14,19 @@ pub fn blocks_stay_apart()
 pub fn blocks_are_answered()
     ensures answered { BlocksAreAnswered }
     ensures order { BlocksComeInOrder }
+{}
+
+/// Each answer to an outcome item or an ask note is by the outcome table, with the number of its session's entries that were stored before
+/// its event, and says forgotten exactly below the horizon at its event, with that horizon. An identifier that was answered uncommitted is
+/// blocked.
+pub fn answers_are_right()
+    ensures { AnswersAreRight }
+{
+    commit_log::laws::keeps_journal();
+    server_model::laws::runs_number();
+}
+
+/// The horizon that a report tells of is the one that the openings of its notes ask for.
+pub fn horizons_are_told()
+    ensures { HorizonsAreTold }
 {}
