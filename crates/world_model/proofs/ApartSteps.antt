@@ -1,6 +1,6 @@
 -- What sendings share an identifier with others, where a client steps: one that is answered with no more than before, one that is made with none.
 use Rattle.std.proofs.Common.{◌≡◌, ◌≢◌, refl, sym, ap, subst, ◌∙◌, Bool, true, false, ℕ, ◌+◌, ◌<◌, ◌&&◌, ◌||◌, cond, filter, length, List, [], ◌∷◌, Option, Some, None, ◌⊎◌, inl, inr, arith, fold, ◌++◌}
-use Rattle.std.specs.Prelude.{◌==◌, not, is_some, is_none}
+use Rattle.std.specs.Prelude.{◌==◌, not, is_some}
 use Rattle.std.specs.List.{list_all, list_any}
 use Rattle.std.specs.Option.{option_map_or}
 use Rattle.std.proofs.lemmas.Bool.{and_parts, and_from}
@@ -46,10 +46,10 @@ use Rattle.svc_values.specs.SameLaws.{same_ltxid_decides}
 use Rattle.world_model.specs.Basic.{sessions_differ, sessions_of}
 use Rattle.world_model.specs.Links.{Link, link_at}
 use Rattle.world_model.specs.Once.{is_on_link, share, are_apart, is_open_or_committed}
-use Rattle.world_model.specs.Parts.{Sending, Scan, held_number, answered, sent_on, with_taken}
+use Rattle.world_model.specs.Parts.{Sending, Scan, held_number, sent_on}
 use Rattle.world_model.specs.Traced.{Traced}
 use Rattle.world_model.proofs.FateSteps.{IsFated, fated, fated_from, no_connection, Taking, on, Says, Silent, CallsOne, says_at, silent_fold, called_fold, has_call}
-use Rattle.world_model.proofs.Fates.{Fate, Waits, none_is}
+use Rattle.world_model.proofs.Fates.{Fate, Waits}
 use Rattle.world_model.proofs.Saying.{opening}
 use Rattle.world_model.proofs.SendingsMade.{made}
 use Rattle.world_model.proofs.Gaining.{links_apart}

@@ -1,8 +1,7 @@
 -- Of Once: two sendings under one identifier are on one connection, and at most one of them is open or committed, at the start and behind each event.
-use Rattle.std.proofs.Common.{◌≡◌, refl, sym, ap, subst, ◌∙◌, Bool, true, false, ℕ, ◌+◌, ◌&&◌, ◌||◌, cond, filter, flat_map, fold, length, List, [], ◌∷◌, Option, Some, None}
+use Rattle.std.proofs.Common.{◌≡◌, refl, sym, ap, subst, ◌∙◌, Bool, true, false, ℕ, ◌+◌, ◌&&◌, ◌||◌, cond, filter, flat_map, fold, length, List, [], ◌∷◌, Some, None}
 use Rattle.std.specs.Prelude.{◌==◌, is_some}
 use Rattle.std.specs.List.{list_all, list_any}
-use Rattle.std.specs.Option.{option_map_or, option_or}
 use Rattle.std.proofs.lemmas.Bool.{and_parts, and_from, or_right}
 use Rattle.std.proofs.lemmas.List.Folds.{list_all-append}
 use Rattle.svc_values.specs.declared.entry.Ltxid.{Ltxid}
@@ -12,8 +11,6 @@ use Rattle.world_model.specs.Frames.{Owner}
 use Rattle.world_model.specs.Invariant.{Orderly}
 use Rattle.world_model.specs.Machines.{Machine}
 use Rattle.world_model.specs.Sames.{all_with, each_pair}
-use Rattle.client_model.specs.declared.act.Hold.{Hold}
-use Rattle.world_model.specs.Clients.{Doing}
 use Rattle.world_model.proofs.ClientSteps.{HasStepped}
 use Rattle.world_model.proofs.Happened.{at_event}
 use Rattle.world_model.proofs.SendingSteps.{scan_by, heard_scan}
@@ -41,7 +38,7 @@ use Rattle.world_model.proofs.SendingsMade.{made, Speaks, speaks}
 use Rattle.world_model.proofs.Tests.{or_second}
 use Rattle.std.proofs.Common.{map}
 use Rattle.outage_schedule.specs.declared.document.Client.{Client as Scripted}
-use Rattle.world_model.specs.Clients.{Client, begun, resting}
+use Rattle.world_model.specs.Clients.{Client, resting}
 use Rattle.world_model.specs.KeptLaws.{IsKeptOfAll}
 use Rattle.world_model.specs.Once.{all_sendings}
 use Rattle.world_model.specs.Parts.{commit_sendings}

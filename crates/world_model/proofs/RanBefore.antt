@@ -98,6 +98,6 @@ module _ (before after : Seen) (old new : Traced) (event : Event) (note : Note) 
       by (AddsNone none alone) = by_alone (alone number link here)
 
 pub none_before : RunsAreOrderly → (document : Document) (events : List Event) (notes : List Note) (items : List Served) (seen : Seen) (t : Traced) → all_have_calls document ≡ true → Reached document events notes items seen t → NoneBefore seen t
-none_before orderly document _ _ _ _ _ calls (Begins seen start history coupled) = λ number link session there its. none_at number link there
-none_before orderly document _ _ _ _ _ calls (GoesOn events notes items more before after old new event note reached one) =
+none_before orderly document _ _ _ _ _ calls (Begins seen start history horizon coupled) = λ number link session there its. none_at number link there
+none_before orderly document _ _ _ _ _ calls (GoesOn events notes items more before after old new event note reached one forgets) =
     none_now before after old new event note more [] one (orderly document events notes items before old calls reached) (none_before orderly document events notes items before old calls reached)

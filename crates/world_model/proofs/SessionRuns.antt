@@ -178,9 +178,9 @@ none_at (suc index) link is = absurd (let none : ⊥ = cc in none)
 
 reached_served : RunsAreOrderly → (document : Document) (events : List Event) (notes : List Note) (items : List Served) (seen : Seen) (t : Traced) → all_have_calls document ≡ true → Reached document events notes items seen t
     → HasServed seen t × NoneUnmade seen t
-reached_served orderly document _ _ _ _ _ calls (Begins seen start history coupled) =
+reached_served orderly document _ _ _ _ _ calls (Begins seen start history horizon coupled) =
     ((λ number link session there its. none_at number link there), λ session none. ap (λ (all : List Happened). served_in all session) history)
-reached_served orderly document _ _ _ _ _ calls (GoesOn events notes items more before after old new event note reached one) =
+reached_served orderly document _ _ _ _ _ calls (GoesOn events notes items more before after old new event note reached one forgets) =
     let was = reached_served orderly document events notes items before old calls reached in
     let inv = orderly document events notes items before old calls reached in
     (served_now before after old new event note more [] one inv was.0 was.1, unmade_now before after old new event note more [] one inv was.0 was.1)
