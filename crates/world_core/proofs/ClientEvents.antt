@@ -168,6 +168,7 @@ module _ (R : Type 0) (rules : R → Rules) (sees : Seen → Type 0) (script : L
           follows = follows;
           happened = [];
           did = refl;
+          told = tt;
           history = connected.keeps_store.history ∙ sym (append-nil seen.history);
           start = connected.keeps.start;
           rises = let same = ap (λ (store : Store). store.incarnation) connected.keeps_store.store in omega (arith, same);

@@ -132,6 +132,7 @@ one_alone seen t event note m coupled follows did counts none_outside none_drawn
   follows = follows;
   happened = [];
   did = did;
+  told = tt;
   history = sym (append-nil seen.history);
   start = refl;
   rises = omega arith;

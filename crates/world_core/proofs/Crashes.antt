@@ -137,6 +137,7 @@ module _ (seen between new : Seen) (t : Traced) (number calls pick : ℕ) (items
     follows = follows;
     happened = happened;
     did = rw (coupled.server.is_up ∙ up) refl;
+    told = last.told;
     history = crashed.history ∙ last.history;
     start = crashed.start ∙ last.start;
     rises = let same = gains.incarnation in omega (arith, same);

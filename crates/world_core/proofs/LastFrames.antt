@@ -28,6 +28,7 @@ use Rattle.world_model.specs.Links.{Link}
 use Rattle.world_model.specs.Machines.{Server, Machine}
 use Rattle.world_model.specs.ServiceDid.{front_served, item_telling}
 use Rattle.world_model.specs.Serving.{Front, front_at, outcome_frame, is_item_of, is_served_by, is_commit, commits_after, after_served, server_after}
+use Rattle.world_model.specs.ToldByStore.{AreByStore}
 use Rattle.world_model.specs.Traced.{Traced}
 use Rattle.world_core.specs.Answering.{session_served, served_item, crashed_item}
 use Rattle.world_core.proofs.InOrder.{Answers, Connects, Begins, Replies, Blocks, Tells, Ends, Closes, ServedWith}
@@ -99,6 +100,7 @@ last_none seen t number after leaves coupled up live there = record {
   others = (refl, refl, refl);
   start = refl;
   history = sym (append-nil seen.history) ∙ ap (λ h. seen.history ++ h) (sym (served_none t.machine.tick (front_at t.machine.links number)));
+  told = subst (AreByStore seen.state.store) (sym (served_none t.machine.tick (front_at t.machine.links number))) tt;
   lasts = coupled.stops;
   later = λ session above. refl;
   per_record = refl;
@@ -207,6 +209,7 @@ module _ (seen new : Seen) (t : Traced) (number after : ℕ) (front : Front) (le
         others = (refl, refl, refl);
         start = did.keeps.start;
         history = did.history ∙ ap (λ h. seen.history ++ h) happened;
+        told = subst (AreByStore seen.state.store) happened (did.outcome, tt);
         lasts = lasts_with session (telling_of reply) did.history (answered_last session t.machine.tick frame reply) (session_from stopped_seen t number front session new.state.sessions coupled_stopped up ordered.now there did.of_connection);
         later = later_behind exact seen new t number front session (telling_of reply) new.state.sessions coupled up ordered.now there did.of_connection did.history;
         per_record = did.keeps.per_record;
@@ -295,6 +298,7 @@ last_stopped seen new t number after front leaves exact coupled up quiet there o
         others = (refl, refl, refl);
         start = did.keeps.start;
         history = did.history ∙ ap (λ h. seen.history ++ h) happened;
+        told = subst (AreByStore seen.state.store) happened (did.outcome, tt);
         lasts = ap stops_last did.history ∙ stops_behind seen (ServedFrame session t.machine.tick frame Stopped ∷ []) coupled.sound coupled.history up coupled.stops refl (from, tt);
         later = later_behind exact seen new t number front session Stopped new.state.sessions coupled up ordered.now there did.of_connection did.history;
         per_record = did.keeps.per_record;

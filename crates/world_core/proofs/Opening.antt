@@ -100,6 +100,7 @@ ups_some kept sees sees_later before after horizon incarnation down honest told 
       follows = follows;
       happened = [];
       did = refl;
+      told = tt;
       history = did.keeps.history ∙ sym (append-nil seen.history);
       start = did.keeps.start;
       rises = let one_more = did.incarnation in omega (arith, one_more);

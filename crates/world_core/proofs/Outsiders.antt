@@ -20,7 +20,7 @@ use Rattle.server_model.specs.Laws.{stops_last}
 use Rattle.server_model.specs.Outcomes.{Silent, Says}
 use Rattle.server_model.specs.Runs.{Happened, Served}
 use Rattle.server_model.specs.Sessions.{New}
-use Rattle.server_model.specs.Seen.{Seen, IsHistory}
+use Rattle.server_model.specs.Seen.{Store, Seen, IsHistory}
 use Rattle.server_model.specs.ServiceCalls.{CameFrom, WasAsked, IsOf, RunsAre, begins_outside, RanOutside, next_session as next_at_service}
 use Rattle.service_calls.specs.Answers.{runs_of}
 use Rattle.service_calls.specs.Kept.{Goes}
@@ -31,6 +31,7 @@ use Rattle.world_model.specs.Coupled.{living_of, HasStored, life_by, life_of, Ha
 use Rattle.world_model.specs.Links.{Link, link_at}
 use Rattle.world_model.specs.Machines.{Server, Machine, next_session}
 use Rattle.world_model.specs.Serving.{identifier}
+use Rattle.world_model.specs.ToldByStore.{AreByStore}
 use Rattle.world_model.specs.Traced.{Traced}
 use Rattle.world_model.specs.Walking.{follow}
 use Rattle.world_core.specs.declared.traffic.Traffic.{Traffic}
@@ -54,18 +55,19 @@ outsides_none kept sees before after calls down goes below seen t is =
 
 -- WHAT RAN ----------------------------------------------------------------------------------------
 
--- frames of one session, none of them stopped, and none a question
+-- frames of one session, none of them stopped, and none a question or an outcome
 record Ran (session : SessionId) (more : List Happened) : Type 0 where
   lasts : stops_last more ≡ true
   from : AreFrom session.incarnation more
   of : All (IsOf session) more
   asks : All AsksNone more
+  told : (store : Store) → AreByStore store more
 
 same_itself : (n : ℕ) → n ≤ n
 same_itself n = omega arith
 
 ran_none : (session : SessionId) → Ran session []
-ran_none session = record { lasts = refl; from = tt; of = All-nil (IsOf session); asks = All-nil AsksNone }
+ran_none session = record { lasts = refl; from = tt; of = All-nil (IsOf session); asks = All-nil AsksNone; told = λ store. tt }
 
 runs_are : (session : SessionId) (now : ℕ) (calls : List Call) (runs : List (List Answer × List Draw)) (more : List Happened) → RunsAre session now calls runs more → Ran session more
 runs_are session now [] [] more are = subst (Ran session) (sym are) (ran_none session)
@@ -76,6 +78,7 @@ runs_are session now (called ∷ calls) [] more are =
       from = (same_itself session.incarnation, tt);
       of = All-cons (IsOf session) (Served session now (up.Call false [] called) (Says down.Blocked)) [] refl (All-nil (IsOf session));
       asks = All-cons AsksNone (Served session now (up.Call false [] called) (Says down.Blocked)) [] (λ x asks. asks) (All-nil AsksNone);
+      told = λ store. (tt, tt);
     })
 runs_are session now (called ∷ calls) (run ∷ runs) more are =
     let rest = runs_are session now calls runs are.1 are.2.1 in
@@ -85,6 +88,7 @@ runs_are session now (called ∷ calls) (run ∷ runs) more are =
       from = (same_itself session.incarnation, rest.from);
       of = All-cons (IsOf session) (Served session now (up.Call false [] called) (Says (down.Reply run.0 run.1 are.0))) are.1 refl rest.of;
       asks = All-cons AsksNone (Served session now (up.Call false [] called) (Says (down.Reply run.0 run.1 are.0))) are.1 (λ x asks. asks) rest.asks;
+      told = λ store. (tt, rest.told store);
     })
 
 -- with Connect and Begin before them
@@ -94,6 +98,7 @@ ran_outside session now more ran = record {
   from = (same_itself session.incarnation, (same_itself session.incarnation, ran.from));
   of = All-cons (IsOf session) (Served session now up.Connect (Says (down.Hello (ltxid_of session 0)))) (Served session now (up.Begin []) Silent ∷ more) refl (All-cons (IsOf session) (Served session now (up.Begin []) Silent) more refl ran.of);
   asks = All-cons AsksNone (Served session now up.Connect (Says (down.Hello (ltxid_of session 0)))) (Served session now (up.Begin []) Silent ∷ more) (λ x asks. asks) (All-cons AsksNone (Served session now (up.Begin []) Silent) more (λ x asks. asks) ran.asks);
+  told = λ store. (tt, (tt, ran.told store));
 }
 
 -- what came from these came from all of it
@@ -234,6 +239,7 @@ module _ (old new : Seen) (t : Traced) (calls : List Call) (ran : OutsideNote) (
     follows = follows;
     happened = happened;
     did = (did.more, (ap (λ s. begins_outside s t.machine.tick ++ did.more) same, subst (λ s. RunsAre s t.machine.tick calls (runs_of ran) did.more) same did.ran));
+    told = whole.told old.state.store;
     history = added;
     start = did.keeps.start;
     rises = let same = did.gains.incarnation in omega (arith, same);

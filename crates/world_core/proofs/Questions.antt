@@ -126,6 +126,7 @@ asks_some kept sees sees_later before after x told exact up honest goes leads be
       follows = follows;
       happened = Asked x (Says (down_of told)) ∷ [];
       did = ap (λ frame. Asked x (Says frame) ∷ []) (sym (same_frame told));
+      told = (did.outcome, tt);
       history = did.history;
       start = did.keeps.start;
       rises = let same_opening = did.adds.opening.0 in omega (arith, same_opening);

@@ -162,6 +162,7 @@ reaps_one kept sees sees_later before after number honest goes leads below seen 
       follows = there.1;
       happened = [];
       did = refl;
+      told = tt;
       history = reaped.keeps_store.history ∙ sym (append-nil seen.history);
       start = reaped.keeps.start;
       rises = let same = ap (λ (store : Store). store.incarnation) reaped.keeps_store.store in omega (arith, same);

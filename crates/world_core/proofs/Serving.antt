@@ -313,6 +313,7 @@ serves_front kept sees sees_later below seen new t number front reply before aft
       follows = follows;
       happened = ServedFrame session t.machine.tick frame (telling_of reply) ∷ [];
       did = ap (λ (told : Telling). ServedFrame session t.machine.tick frame told ∷ []) (sym read.tells) ∙ ap (λ found. front_served t.machine.tick found (served ∷ [])) (sym there);
+      told = (did.outcome, tt);
       history = did.history;
       start = did.keeps.start;
       rises = let same_opening = did.adds.gains.incarnation in omega (arith, same_opening);

@@ -184,6 +184,7 @@ crashes_opening kept sees sees_between sees_later leaves before after horizon ca
       follows = follows;
       happened = [];
       did = refl;
+      told = tt;
       history = left.history ∙ sym (append-nil seen.history);
       start = left.start;
       rises = left.low;

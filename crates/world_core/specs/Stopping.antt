@@ -13,6 +13,7 @@ use Rattle.world_model.specs.Machines.{Server, Machine}
 use Rattle.world_model.specs.ServiceDid.{front_served}
 use Rattle.world_model.specs.Coupled.{life_by}
 use Rattle.world_model.specs.Serving.{front_at}
+use Rattle.world_model.specs.ToldByStore.{AreByStore}
 use Rattle.world_model.specs.Traced.{Traced}
 use Rattle.world_core.specs.declared.traffic.Traffic.{Traffic}
 use Rattle.world_core.specs.Underway.{IsUnderway}
@@ -39,6 +40,7 @@ pub record ServedLast (seen : Seen) (t : Traced) (number after : ℕ) (items : L
   pub others : (m.event ≡ t.machine.event + 1) × (m.tick ≡ t.machine.tick) × (m.clients ≡ t.machine.clients)
   pub start : new.start ≡ seen.start
   pub history : new.history ≡ seen.history ++ front_served t.machine.tick (front_at t.machine.links number) items
+  pub told : AreByStore seen.state.store (front_served t.machine.tick (front_at t.machine.links number) items)
   pub lasts : stops_last new.history ≡ true
   -- no session of an incarnation to come is in it
   pub later : (session : SessionId) → t.machine.server.incarnation < session.incarnation → life_by new.history session ≡ life_by seen.history session
