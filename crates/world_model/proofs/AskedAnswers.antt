@@ -41,12 +41,13 @@ use Rattle.world_model.proofs.OutcomesTold.{fits_input, input_fits}
 use Rattle.world_model.proofs.ReplyFits.{is_expected}
 use Rattle.world_model.proofs.ReplyItems.{answering, answers_last, IsSaidBy, said_by}
 use Rattle.world_model.proofs.RowCourses.{OnIt}
+use Rattle.world_model.proofs.ServedPass.{served_pass}
 use Rattle.world_model.proofs.ShownNow.{FirstReply, first_reply, all_last}
 use Rattle.world_model.proofs.StepFacts.{first_step, first_doing}
 use Rattle.world_model.proofs.TalkPending.{no_ahead}
 
 -- the item of the question, what it replied, and that this is the answer that was taken
-pub record Answered (t : Traced) (x : Ltxid) (frame : Down) : Type 0 where
+pub record Answered (passes : Item → Bool) (x : Ltxid) (frame : Down) : Type 0 where
   pub asked : Up
   pub served : Up
   pub asks : is_ask x asked ≡ true
@@ -55,36 +56,47 @@ pub record Answered (t : Traced) (x : Ltxid) (frame : Down) : Type 0 where
   pub said : Down
   pub by : IsSaidBy served one said
   pub same : same_down frame said ≡ true
-  pub here : stands t one ≡ true
+  pub here : passes one ≡ true
+
+-- what the item tells of the identifier, where its reply is an outcome
+pub record TellsOutcome (passes : Item → Bool) (x : Ltxid) (committed completed : Bool) : Type 0 where
+  pub result : AskResult
+  pub tells : outcome_frame result ≡ down.OutcomeIs committed completed
+  pub here : passes (item.Outcome x result) ≡ true
 
 -- WHAT AN ITEM TELLS ------------------------------------------------------------------------------
 
--- the answer that a frame tells
-answer_is : (committed completed : Bool) (said : Down) (result : AskResult) → same_down (down.OutcomeIs committed completed) said ≡ true → same_down said (outcome_frame result) ≡ true
-    → result ≡ (if committed then told.Committed completed else told.Uncommitted)
-answer_is committed completed (down.OutcomeIs c k) (told.Committed last) same replies =
+-- the frame is that of the result
+frame_is : (committed completed : Bool) (said : Down) (result : AskResult) → same_down (down.OutcomeIs committed completed) said ≡ true → same_down said (outcome_frame result) ≡ true → outcome_frame result ≡ down.OutcomeIs committed completed
+frame_is committed completed (down.OutcomeIs c k) (told.Committed last) same replies =
     let one = and_parts (same_bool committed c) (same_bool completed k) same in
     let two = and_parts (same_bool c true) (same_bool k last) replies in
     let is : committed ≡ true = (same_bool_decides committed c).0 one.0 ∙ (same_bool_decides c true).0 two.0 in
     let so : completed ≡ last = (same_bool_decides completed k).0 one.1 ∙ (same_bool_decides k last).0 two.1 in
-    ap told.Committed (sym so) ∙ sym (ap (λ (test : Bool). if test then told.Committed completed else told.Uncommitted) is)
-answer_is committed completed (down.OutcomeIs c k) told.Uncommitted same replies =
+    λ i. down.OutcomeIs (sym is i) (sym so i)
+frame_is committed completed (down.OutcomeIs c k) told.Uncommitted same replies =
     let one = and_parts (same_bool committed c) (same_bool completed k) same in
     let two = and_parts (same_bool c false) (same_bool k false) replies in
     let is : committed ≡ false = (same_bool_decides committed c).0 one.0 ∙ (same_bool_decides c false).0 two.0 in
-    sym (ap (λ (test : Bool). if test then told.Committed completed else told.Uncommitted) is)
-answer_is committed completed said result same replies = absurd (let none : ⊥ = cc in none)
+    let so : completed ≡ false = (same_bool_decides completed k).0 one.1 ∙ (same_bool_decides k false).0 two.1 in
+    λ i. down.OutcomeIs (sym is i) (sym so i)
+frame_is committed completed said result same replies = absurd (let none : ⊥ = cc in none)
 
--- the outcome that an item's answer tells is the one asked for
-told_stands : (t : Traced) (x : Ltxid) (frame sent : Up) (one : Item) (said : Down) (committed completed : Bool) → is_ask x sent ≡ true → same_up frame sent ≡ true → IsSaidBy frame one said → same_down (down.OutcomeIs committed completed) said ≡ true
-    → stands t one ≡ true → outcome_stands t (record { ltxid = x; committed = committed; completed = completed }) ≡ true
-told_stands t x (up.Outcome z) (up.Outcome y) (item.Outcome asked result) said committed completed ask alike by same here =
+-- the outcome that an item's answer tells is of the identifier that was asked for
+item_tells : (passes : Item → Bool) (x : Ltxid) (frame sent : Up) (one : Item) (said : Down) (committed completed : Bool) → is_ask x sent ≡ true → same_up frame sent ≡ true → IsSaidBy frame one said
+    → same_down (down.OutcomeIs committed completed) said ≡ true → passes one ≡ true → TellsOutcome passes x committed completed
+item_tells passes x (up.Outcome z) (up.Outcome y) (item.Outcome asked result) said committed completed ask alike by same here =
     let equal : asked ≡ x = (same_ltxid_decides asked z).0 by.is ∙ ((same_ltxid_decides z y).0 alike ∙ sym ((same_ltxid_decides x y).0 ask)) in
-    let tells : result ≡ (if committed then told.Committed completed else told.Uncommitted) = answer_is committed completed said result same by.replies in
-    subst (λ (r : AskResult). stands t (item.Outcome x r) ≡ true) tells (subst (λ (y : Ltxid). stands t (item.Outcome y result) ≡ true) equal here)
-told_stands t x (up.Outcome z) (up.Outcome y) one said committed completed ask alike by same here = absurd (let e : is_item_of (up.Outcome z) one ≡ true = by.is in let none : ⊥ = cc in none)
-told_stands t x frame (up.Outcome y) one said committed completed ask alike by same here = absurd (let none : ⊥ = cc in none)
-told_stands t x frame sent one said committed completed ask alike by same here = absurd (let none : ⊥ = cc in none)
+    record { result = result; tells = frame_is committed completed said result same by.replies; here = subst (λ (y : Ltxid). passes (item.Outcome y result) ≡ true) equal here }
+item_tells passes x (up.Outcome z) (up.Outcome y) one said committed completed ask alike by same here = absurd (let e : is_item_of (up.Outcome z) one ≡ true = by.is in let none : ⊥ = cc in none)
+item_tells passes x frame (up.Outcome y) one said committed completed ask alike by same here = absurd (let none : ⊥ = cc in none)
+item_tells passes x frame sent one said committed completed ask alike by same here = absurd (let none : ⊥ = cc in none)
+
+-- a result by its frame
+result_is : (committed completed : Bool) (result : AskResult) → outcome_frame result ≡ down.OutcomeIs committed completed → result ≡ (if committed then told.Committed completed else told.Uncommitted)
+result_is true completed (told.Committed last) is = let same : last ≡ completed = cc in ap told.Committed same
+result_is false completed told.Uncommitted is = refl
+result_is committed completed result is = absurd (let none : ⊥ = cc in none)
 
 -- one that is refused is forgotten
 refused_is : (who : Ahead) (next : ℕ) (said : Down) (horizon : ℕ) → same_down (down.OutcomeRefused who next) said ≡ true → same_down said (down.OutcomeRefused ahead.Forgotten horizon) ≡ true → who ≡ ahead.Forgotten
@@ -121,11 +133,11 @@ never_first one is = let none : ⊥ = cc in none
 
 -- A STEP ------------------------------------------------------------------------------------------
 
-module _ (t : Traced) (inv : Orderly t) (answers : answers_stand t ≡ true) (number : ℕ) (n : Machine) (step : HasStepped t.setting (at_event t.machine) number n) where
+module _ (t : Traced) (inv : Orderly t) (passes : Item → Bool) (items : list_all (served_pass passes) t.machine.links ≡ true) (number : ℕ) (n : Machine) (step : HasStepped t.setting (at_event t.machine) number n) where
   abbrev now : Machine
   now = at_event t.machine
 
-  answered : (asking : Asking) (frame : Down) (alive : Bool) → step.input ≡ Took frame alive → step.before.talk.phase ≡ Asked asking → Answered t asking.ltxid frame
+  answered : (asking : Asking) (frame : Down) (alive : Bool) → step.input ≡ Took frame alive → step.before.talk.phase ≡ Asked asking → Answered passes asking.ltxid frame
   answered asking frame alive input phase =
       let first : FirstReply now step.before.connection frame =
       first_reply t.setting now n number (first_doing t.setting now inv.script.talks number n step) (first_step t.setting now inv.script.talks number n step).done.act.hold _ step.after step.before.connection step.input step.heard_on frame alive input in
@@ -141,7 +153,7 @@ module _ (t : Traced) (inv : Orderly t) (answers : answers_stand t ≡ true) (nu
       let last : IsLast it.link first.reply = answering it.link knows first.reply first.later down_is it.last it.is it.answered in
       let sent_same : same_sent last.one.sent it.last ≡ true = answers_last it.link knows first.reply first.later down_is it.last it.is it.answered in
       let two = and_parts (last.one.sent.call == it.last.call) (same_up last.one.sent.frame it.last.frame) (and_parts (same_owners last.one.sent.owner it.last.owner) _ sent_same).1 in
-      let all : list_all (λ (h : Handled). stands t h.served.item) it.link.served ≡ true = at_link (λ l. list_all (λ h. stands t h.served.item) l.served) t.machine.links first.number it.link answers there in
+      let all : served_pass passes it.link ≡ true = at_link (served_pass passes) t.machine.links first.number it.link items there in
       record {
         asked = it.last.frame;
         served = last.one.sent.frame;
@@ -152,16 +164,23 @@ module _ (t : Traced) (inv : Orderly t) (answers : answers_stand t ≡ true) (nu
         by = said_by it.link knows first.reply last;
         same = subst (λ (g : Down). same_down g last.frame ≡ true) first.is last.same;
         here =
-            all_last (λ (h : Handled). stands t h.served.item) None (served_reps it.link) last.one (λ y never. absurd (never_first y never))
-            (filter_all (λ (h : Handled). stands t h.served.item) (λ (h : Handled). is_rep h.sent) it.link.served all) last.last;
+            all_last (λ (h : Handled). passes h.served.item) None (served_reps it.link) last.one (λ y never. absurd (never_first y never))
+            (filter_all (λ (h : Handled). passes h.served.item) (λ (h : Handled). is_rep h.sent) it.link.served all) last.last;
       }
 
+  -- what it is told is that of an item that passes
+  pub told_item : (asking : Asking) (committed completed alive : Bool) → step.input ≡ Took (down.OutcomeIs committed completed) alive → step.before.talk.phase ≡ Asked asking → TellsOutcome passes asking.ltxid committed completed
+  told_item asking committed completed alive input phase =
+      let it : Answered passes asking.ltxid (down.OutcomeIs committed completed) = answered asking (down.OutcomeIs committed completed) alive input phase in
+      item_tells passes asking.ltxid it.served it.asked it.one it.said committed completed it.asks it.alike it.by it.same it.here
+
+module _ (t : Traced) (inv : Orderly t) (answers : answers_stand t ≡ true) (number : ℕ) (n : Machine) (step : HasStepped t.setting (at_event t.machine) number n) where
   -- the outcome that it is told stands
   pub told_now : (asking : Asking) (committed completed alive : Bool) → step.input ≡ Took (down.OutcomeIs committed completed) alive → step.before.talk.phase ≡ Asked asking
       → outcome_stands t (record { ltxid = asking.ltxid; committed = committed; completed = completed }) ≡ true
   told_now asking committed completed alive input phase =
-      let it : Answered t asking.ltxid (down.OutcomeIs committed completed) = answered asking (down.OutcomeIs committed completed) alive input phase in
-      told_stands t asking.ltxid it.served it.asked it.one it.said committed completed it.asks it.alike it.by it.same it.here
+      let it : TellsOutcome (stands t) asking.ltxid committed completed = told_item t inv (stands t) answers number n step asking committed completed alive input phase in
+      subst (λ (result : AskResult). stands t (item.Outcome asking.ltxid result) ≡ true) (result_is committed completed it.result it.tells) it.here
 
   -- and no session is said to be ahead of it, nor behind it
   pub never_ahead : no_ahead step.input ≡ true
@@ -170,7 +189,7 @@ module _ (t : Traced) (inv : Orderly t) (answers : answers_stand t ≡ true) (nu
       forgotten : (who : Ahead) (next : ℕ) (alive : Bool) → step.input ≡ Took (down.OutcomeRefused who next) alive → who ≡ ahead.Forgotten
       forgotten who next alive is =
           let asked = refused_asked step.before.talk.phase who next (subst (λ (i : Input). fits_input step.before.talk.phase i ≡ true) is (input_fits t inv number n step)) in
-          let it : Answered t asked.0.ltxid (down.OutcomeRefused who next) = answered asked.0 (down.OutcomeRefused who next) alive is asked.1 in
+          let it : Answered (stands t) asked.0.ltxid (down.OutcomeRefused who next) = answered t inv (stands t) answers number n step asked.0 (down.OutcomeRefused who next) alive is asked.1 in
           refused_stands t asked.0.ltxid it.served it.asked it.one it.said who next it.asks it.alike it.by it.same it.here
 
       by : (input : Input) → step.input ≡ input → no_ahead step.input ≡ true

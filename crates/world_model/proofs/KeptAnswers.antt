@@ -1,7 +1,6 @@
 -- Of Number: what was answered of an identifier stands, at the start and behind each event.
-use Rattle.std.proofs.Common.{◌≡◌, refl, sym, ap, subst, ◌∙◌, Bool, true, false, ℕ, ◌+◌, ◌≤◌, List, [], ◌∷◌, ◌++◌, Option, Some, None, inl, inr, arith}
+use Rattle.std.proofs.Common.{◌≡◌, refl, sym, ap, subst, ◌∙◌, Bool, true, false, ℕ, ◌+◌, ◌≤◌, List, [], ◌∷◌, ◌++◌, Option, Some, inl, inr, arith}
 use Rattle.std.specs.Prelude.{Contains}
-use Rattle.std.specs.List.{list_all}
 use Rattle.std.specs.Option.{option_map_or}
 use Rattle.std.proofs.lemmas.Bool.{and_parts}
 use Rattle.std.proofs.lemmas.List.Elements.{Contains-push}
@@ -35,30 +34,26 @@ use Rattle.server_model.proofs.Offered.{runs_last, blocks_are_stored, runs_keep_
 use Rattle.world_model.specs.Frames.{Handled}
 use Rattle.world_model.specs.Invariant.{Invariant}
 use Rattle.world_model.specs.KeptLaws.{IsKeptOfAll}
-use Rattle.world_model.specs.Links.{Link, link_at, takes}
+use Rattle.world_model.specs.Links.{Link}
 use Rattle.world_model.specs.Number.{numbered_after}
 use Rattle.world_model.specs.Shown.{stands, answers_stand}
 use Rattle.world_model.specs.OneEvent.{OneEvent}
 use Rattle.world_model.specs.ServiceDid.{item_telling, front_telling}
-use Rattle.world_model.specs.Serving.{Front, front_at, is_of_front, is_ordinary, is_item_of, commits_after, outcome_frame, after_front, handled}
-use Rattle.world_model.specs.Crashing.{is_crashed_item}
+use Rattle.world_model.specs.Serving.{Front, front_at, is_of_front, is_ordinary, is_item_of, commits_after, outcome_frame}
+use Rattle.world_model.specs.Crashing.{is_stopped, is_crashed_item}
 use Rattle.world_model.specs.Traced.{Traced}
-use Rattle.client_model.specs.declared.input.Input.TheVariants.{Took}
-use Rattle.world_model.proofs.AllLinks.{front_is, at_link}
-use Rattle.world_model.proofs.AllLists.{append_all, one_all, weaker_all}
+use Rattle.world_model.proofs.AllLinks.{front_is}
+use Rattle.world_model.proofs.AllLists.{weaker_all}
 use Rattle.world_model.proofs.AnswersTold.{stands_still, IsAnswer, move_answer, blocked_holds, not_refused}
 use Rattle.world_model.proofs.AskedNear.{IsNear, asked_near}
 use Rattle.world_model.proofs.Completed.{verdict_committed, verdict_near, told_committed, told_server, told_client}
-use Rattle.world_model.proofs.Ends.{sends_alike, handled_alike, cut_case, fallen_case}
 use Rattle.world_model.proofs.Gaining.{commits_unmarked, one_of, gains_none}
 use Rattle.world_model.proofs.GainedQuiet.{entries_more}
 use Rattle.world_model.proofs.Happened.{at_event}
-use Rattle.world_model.proofs.Held.{held_now}
 use Rattle.world_model.proofs.KeptEntries.{numbered_now}
 use Rattle.world_model.proofs.NumbersEvent.{happens_one, by as event_by}
 use Rattle.world_model.proofs.GainedQuiet.{serves_at}
-use Rattle.world_model.proofs.NumbersTurn.{by_number}
-use Rattle.world_model.proofs.Turning.{Turns, Stays, IsSaid, IsTaken, IsServed, IsCut, IsReaped, HasFallen, WasStopped, WasServed, ComesFrom, IsNew, IsOld, all_turn}
+use Rattle.world_model.proofs.ServedPass.{served_pass, still_pass}
 
 -- a stopped item tells nothing
 crashed_stands : (t : Traced) (frame : Up) (one : Item) → is_crashed_item frame one ≡ true → stands t one ≡ true
@@ -180,53 +175,26 @@ module _ (granted : Draw → Bool) (before after : Seen) (old new : Traced) (eve
   item_stands number front served at happens up.Close (item.Outcome asked result) frame_is item_is is = absurd (let none : ⊥ = cc in none)
   item_stands number front served at happens frame other frame_is item_is is = refl
 
-  abbrev all_stand : List Handled → Bool
-  all_stand list = list_all (λ h. stands new h.served.item) list
+  goes_stands : (number : ℕ) (front : Front) (served : Served) → front_at links number ≡ Some front → items ≡ served ∷ left → serves_at (event_by before after old new event note items left one inv.orderly).kind ≡ Some number
+      → is_ordinary (at_event old.machine) front served ≡ true → stands new served.item ≡ true
+  goes_stands number front served at same serves ordinary =
+      item_stands number front served at (happens_one before after old new event note items left one inv.orderly number front served at same serves) front.first.frame served.item refl refl
+      (and_parts (is_of_front (at_event old.machine) front served) (is_item_of front.first.frame served.item) ordinary).1
 
-  old_stand : (number : ℕ) (link : Link) → link_at links number ≡ Some link → all_stand link.served ≡ true
-  old_stand number link there =
-      weaker_all (λ (h : Handled). stands old h.served.item) (λ (h : Handled). stands new h.served.item) link.served (λ h is. stands_still old new one.more_entries one.more_blocked one.entries one.blocked h.served.item is)
-      (at_link (λ l. list_all (λ h. stands old h.served.item) l.served) links number link inv.shown.answers there)
+  stops_stands : (after_it : ℕ) (front : Front) (served : Served) → items ≡ served ∷ left → is_stopped (at_event old.machine) after_it front served ≡ true → stands new served.item ≡ true
+  stops_stands after_it front served same stopped =
+      crashed_stands new front.first.frame served.item (and_parts (is_crashed_item front.first.frame served.item) _ (and_parts (is_of_front (at_event old.machine) front served) _ stopped).1).0
 
-  with_one : (number : ℕ) (link : Link) (this : Handled) → link_at links number ≡ Some link → stands new this.served.item ≡ true → all_stand (link.served ++ this ∷ []) ≡ true
-  with_one number link this there is = append_all (λ (h : Handled). stands new h.served.item) link.served (this ∷ []) (old_stand number link there) (one_all (λ (h : Handled). stands new h.served.item) this is)
-
-  turned : (number : ℕ) (link next : Link) → link_at links number ≡ Some link → Turns (at_event old.machine) items left (event_by before after old new event note items left one inv.orderly).kind number link next → all_stand next.served ≡ true
-  turned number link _ there (Stays _) = old_stand number link there
-  turned number link _ there (IsSaid frames _ idle) = sends_alike (λ l. all_stand l.served ≡ true) (old.machine.event + 1) frames link (old_stand number link there) (old_stand number link there)
-  turned number link _ there (IsTaken frames reply after_it _ out down) =
-      sends_alike (λ l. all_stand l.served ≡ true) (old.machine.event + 1) frames (takes (Took reply.frame link.is_open) reply after_it link) (old_stand number link there) (old_stand number link there)
-  turned number _ _ there (IsServed frame front served kind_is at ordinary same) =
-      let parts = and_parts (is_of_front (at_event old.machine) front served) (is_item_of front.first.frame served.item) ordinary in
-      let happens = happens_one before after old new event note items left one inv.orderly number front served at same (ap serves_at kind_is) in
-      let here : stands new served.item ≡ true = item_stands number front served at happens front.first.frame served.item refl refl parts.1 in
-      handled_alike (λ l. all_stand l.served ≡ true) (old.machine.event + 1) front served (λ reply. with_one number front.link _ there here) (λ reply. with_one number front.link _ there here)
-  turned number link _ there (IsCut ups downs _ opens) = cut_case (λ l. all_stand l.served ≡ true) (old.machine.event + 1) ups downs link opens (old_stand number link there)
-  turned number link _ there (IsReaped other reaped _ kind_is) = old_stand number link there
-  turned number link _ there (HasFallen other after_it failover down _ kind_is apart) = fallen_case (λ l. all_stand l.served ≡ true) (old.machine.event + 1) link (λ opens. old_stand number link there) (λ closed. old_stand number link there)
-  turned number _ _ there (WasStopped after_it failover down front served kind_is at stopped same) =
-      let parts = and_parts (is_of_front (at_event old.machine) front served) _ stopped in
-      let here : stands new served.item ≡ true = crashed_stands new front.first.frame served.item (and_parts (is_crashed_item front.first.frame served.item) _ parts.1).0 in
-      fallen_case (λ l. all_stand l.served ≡ true) (old.machine.event + 1) (after_front front served None) (λ opens. with_one number front.link _ there here) (λ closed. with_one number front.link _ there here)
-  turned number _ _ there (WasServed after_it failover down front served kind_is at over same) =
-      let parts = and_parts (is_of_front (at_event old.machine) front served) (is_item_of front.first.frame served.item) (and_parts (is_ordinary (at_event old.machine) front served) _ over).0 in
-      let happens = happens_one before after old new event note items left one inv.orderly number front served at same (ap serves_at kind_is) in
-      let here : stands new served.item ≡ true = item_stands number front served at happens front.first.frame served.item refl refl parts.1 in
-      let alike : all_stand (handled (old.machine.event + 1) front served).served ≡ true =
-      handled_alike (λ l. all_stand l.served ≡ true) (old.machine.event + 1) front served (λ reply. with_one number front.link _ there here) (λ reply. with_one number front.link _ there here) in
-      fallen_case (λ l. all_stand l.served ≡ true) (old.machine.event + 1) (handled (old.machine.event + 1) front served) (λ opens. alike) (λ closed. alike)
-
-  pub stand_now : (number : ℕ) (next : Link) → link_at new.machine.links number ≡ Some next → all_stand next.served ≡ true
-  stand_now number next here =
-      cases (all_turn old.setting (at_event old.machine) (held_now old inv.orderly) items left (event_by before after old new event note items left one inv.orderly).kind new.machine (event_by before after old new event note items left one inv.orderly).happens number next here)
-    where
-      cases : ComesFrom (at_event old.machine) items left (event_by before after old new event note items left one inv.orderly).kind number next → all_stand next.served ≡ true
-      cases (IsNew owner same) = ap (λ (l : Link). all_stand l.served) same
-      cases (IsOld link there turn) = turned number link next there turn
+  pub stand_now : answers_stand new ≡ true
+  stand_now =
+      let by = event_by before after old new event note items left one inv.orderly in
+      still_pass (stands new) old inv.orderly items left by.kind new.machine by.happens
+      (weaker_all (served_pass (stands old)) (served_pass (stands new)) links
+      (λ link all. weaker_all (λ (h : Handled). stands old h.served.item) (λ (h : Handled). stands new h.served.item) link.served (λ h is. stands_still old new one.more_entries one.more_blocked one.entries one.blocked h.served.item is) all)
+      inv.shown.answers) goes_stands stops_stands
 
 pub answers_law : IsKeptOfAll answers_stand
 answers_law = record {
   at_start = λ document. refl;
-  at_event = λ granted before after old new event note items left one inv.
-      by_number (λ link. list_all (λ h. stands new h.served.item) link.served) new.machine.links (λ number link here. stand_now granted before after old new event note items left one inv number link here);
+  at_event = λ granted before after old new event note items left one inv. stand_now granted before after old new event note items left one inv;
 }

@@ -5,9 +5,10 @@ use Rattle.outage_schedule.specs.declared.report.Report.{Report}
 use Rattle.run_clauses.specs.Before.{journal_before}
 use Rattle.run_clauses.specs.Blocks.{answered_in, blocks_answered, blocks_in_order}
 use Rattle.run_clauses.specs.Moments.{moments}
-use Rattle.run_clauses.specs.Stored.{kept_by, answers_right, forgotten_fits, blocked_or_entry}
+use Rattle.run_clauses.specs.Stored.{kept_by, outcomes_stored, answers_right, forgotten_fits, blocked_or_entry}
 use Rattle.server_model.specs.Runs.{Server}
 use Rattle.server_model.specs.Seen.{Seen}
+use Rattle.world_model.specs.Ready.{all_have_calls}
 use Rattle.world_model.specs.Reported.{IsReported}
 use Rattle.world_model.specs.Traced.{Traced}
 
@@ -34,3 +35,9 @@ BlocksAreAnswered = HoldsOfReports (λ document report. blocks_answered (answere
 -- Each identifier that was answered uncommitted was blocked before, or is the next block then, and none is blocked twice.
 abbrev pub BlocksComeInOrder : Type 0
 BlocksComeInOrder = HoldsOfReports (λ document report. blocks_in_order (journal_before document).blocked (answered_in (moments report)) report.blocked)
+
+-- Each outcome that a client was told is the stored one, where each request of the document has a call.
+abbrev pub OutcomesAreStored : Type 0
+OutcomesAreStored =
+    (document : Document) (report : Report) (seen : Seen) (t : Traced) (server : Server)
+    → IsTrue (all_have_calls document) → IsReported document report seen t server → IsTrue (outcomes_stored (kept_by document report) report)

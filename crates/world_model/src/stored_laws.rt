@@ -1,5 +1,5 @@
 //! What of entries, blocks and the horizon holds beside what was told in a run. Each law is the clause of a function with nothing to run.
-ghost use Rattle.world_model.specs.StoredLaws.{AnswersAreRight, HorizonsAreTold, BlocksStayApart, BlocksAreAnswered, BlocksComeInOrder};
+ghost use Rattle.world_model.specs.StoredLaws.{AnswersAreRight, HorizonsAreTold, BlocksStayApart, BlocksAreAnswered, BlocksComeInOrder, OutcomesAreStored};
 
 /// No identifier is both blocked and an entry's, in the journal that a report of a run tells of.
 pub fn blocks_stay_apart()
@@ -30,3 +30,14 @@ pub fn answers_are_right()
 pub fn horizons_are_told()
     ensures { HorizonsAreTold }
 {}
+
+/// Each outcome that a client was told is the stored one, where each request of the document has a call: it has committed exactly where
+/// the journal has an entry of its identifier, and completed is that entry's; where it has not, it is not completed, and its identifier is
+/// blocked.
+pub fn outcomes_are_stored()
+    ensures { OutcomesAreStored }
+{
+    crate::laws::orderly_is_kept();
+    blocks_stay_apart();
+    answers_are_right();
+}
