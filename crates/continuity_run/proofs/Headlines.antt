@@ -1,14 +1,14 @@
 -- What the report of a run that is over says of its document.
-use Rattle.std.proofs.Common.{◌≡◌, ◌∙◌, refl, sym, ap, subst, ℕ, Bool, true, false, List, [], ◌∷◌, ◌++◌, length, map, drop, Option, Some, None, Result, Ok, Err}
-use Rattle.std.specs.Prelude.{IfOk}
+use Rattle.std.proofs.Common.{◌≡◌, arith, ◌∙◌, refl, sym, ap, ap₂, subst, ℕ, Bool, true, false, List, [], ◌∷◌, ◌++◌, length, drop, Option, Some, None, Result, Ok, Err}
+use Rattle.std.specs.Prelude.{IfOk, ◌==◌}
+use Rattle.std.proofs.lemmas.Bool.Decides.{nat_tests}
 use Rattle.disk_model.specs.Disk.{DiskState}
+use Rattle.json_form.proofs.Offered.{both_true}
 use Rattle.svc_values.specs.declared.entry.Entry.{Entry}
 use Rattle.svc_values.specs.declared.entry.Ltxid.{Ltxid}
-use Rattle.svc_values.specs.declared.schema.Shape.{Shape}
 use Rattle.stmt_meaning.specs.Serial.{Serial}
 use Rattle.mutable_values.specs.declared.grants.Grants.{Grants}
 use Rattle.commit_log.specs.declared.journal.Journal.{Journal}
-use Rattle.commit_log.specs.Bases.{shape_of}
 use Rattle.commit_log.specs.Journals.{journal_of}
 use Rattle.outage_schedule.specs.declared.document.Document.{Document}
 use Rattle.outage_schedule.specs.declared.item.Served.{Served}
@@ -16,39 +16,34 @@ use Rattle.outage_schedule.specs.declared.note.Note.{Note}
 use Rattle.outage_schedule.specs.declared.report.Report.{Report}
 use Rattle.run_clauses.specs.Before.{journal_before, tables_of, start, shape}
 use Rattle.run_clauses.specs.Serial.{IsSerial, printed_tables}
+use Rattle.run_clauses.specs.Horizons.{last_horizon}
 use Rattle.run_clauses.specs.ServiceBase.{service_base}
+use Rattle.run_clauses.specs.Stored.{stored}
 use Rattle.server_model.specs.Base.{Base, IsSound}
 use Rattle.server_model.specs.Core.{committed}
 use Rattle.server_model.specs.Laws.{RunsSerial}
 use Rattle.server_model.specs.Runs.{Happened, Server, Runs}
-use Rattle.server_model.specs.Seen.{Seen}
+use Rattle.server_model.specs.Seen.{ServiceState}
 use Rattle.server_session.specs.declared.shared.Core.{Core}
 use Rattle.server_session.specs.Plain.{IsStored}
+use Rattle.service_calls.specs.Kept.{HaveOneBase}
 use Rattle.service_core.specs.declared.notes.Notes.{Notes}
 use Rattle.service_core.specs.Held.{Held}
-use Rattle.service_core.specs.Seeing.{Stands, SeesIn, bytes_in}
+use Rattle.service_core.specs.Seeing.{Stands, SeesIn, bytes_in, store_in}
 use Rattle.service_core.specs.Sound.{IsSound as IsSoundIn}
 use Rattle.service_core.specs.Within.{Within}
-use Rattle.world_model.specs.Reached.{Reached, Begins, GoesOn, IsFinishing, Scheduled, Finishes, IsRun}
-use Rattle.world_model.specs.RunLaws.{RunsAreFollowed}
-use Rattle.world_model.specs.Traced.{Traced}
+use Rattle.world_model.specs.Reached.{IsRun}
+use Rattle.world_model.specs.Reported.{IsReported}
+use Rattle.world_model.specs.Ready.{all_have_calls}
+use Rattle.world_model.proofs.Offered.{finishing_start}
 use Rattle.world_run.specs.declared.world.Ran.{Ran}
 use Rattle.continuity_run.specs.declared.store.Before.{Before}
-use Rattle.continuity_run.specs.Headline.{Headline, IsPrinted}
-use Rattle.continuity_run.specs.Reading.{IsReadOff, image_if, printed_by}
+use Rattle.continuity_run.specs.Headline.{Headline, IsPrinted, IsReadFrom}
+use Rattle.continuity_run.proofs.Images.{image_is}
+use Rattle.continuity_run.specs.Reading.{IsReadOff, image_if}
+use Rattle.continuity_run.specs.RunLaws.{RunsHold}
 use Rattle.continuity_run.specs.Runs.{HasRun}
 use Rattle.continuity_run.specs.Stores.{Counts}
-use Rattle.continuity_run.proofs.ReadOff.{printed_each}
-
--- WHERE IT BEGAN ----------------------------------------------------------------------------------
-
-reached_start : (document : Document) (events : List _) (notes : List Note) (items : List Served) (seen : Seen) (t : Traced) → Reached document events notes items seen t → seen.start ≡ service_base document
-reached_start document _ _ _ _ _ (Begins seen start history coupled) = start
-reached_start document _ _ _ _ _ (GoesOn events notes items more before after old new event note reached one) = one.start ∙ reached_start document events notes items before old reached
-
-finishing_start : (document : Document) (place : _) (notes : List Note) (items : List Served) (seen : Seen) (t : Traced) → IsFinishing document place notes items seen t → seen.start ≡ service_base document
-finishing_start document _ _ _ _ _ (Scheduled notes items seen t reached) = reached_start document document.schedule notes items seen t reached
-finishing_start document _ _ _ _ _ (Finishes place later notes items more before after old new event note finishing next one) = one.start ∙ finishing_start document place notes items before old finishing
 
 -- THE STORE AT THE END ----------------------------------------------------------------------------
 
@@ -56,7 +51,6 @@ finishing_start document _ _ _ _ _ (Finishes place later notes items more before
 record HasGained (start : Base) (history : List Happened) (journal : Journal) : Type 0 where
   server : Server
   runs : Runs start history server
-  declared : start.shape ≡ shape_of journal.base
   entries : journal.entries ≡ start.entries ++ server.core.entries
   blocked : journal.blocked ≡ start.blocked ++ server.core.blocked
   alerts : journal.alerts ≡ start.alerts ++ server.core.alerts
@@ -67,7 +61,6 @@ gained_by : (start : Base) (history : List Happened) (server : Server) (journal 
 gained_by start history server journal runs begins stored = record {
   server = server;
   runs = runs;
-  declared = ap (λ (base : Base). base.shape) (sym begins) ∙ stored.shape;
   entries = sym stored.entries ∙ ap (λ (base : Base). base.entries ++ server.core.entries) begins;
   blocked = sym stored.blocked ∙ ap (λ (base : Base). base.blocked ++ server.core.blocked) begins;
   alerts = sym stored.alerts ∙ ap (λ (base : Base). base.alerts ++ server.core.alerts) begins;
@@ -93,10 +86,17 @@ drop_front (one ∷ front) back = drop_front front back
 behind : {A : Type 0} (front back all later : List A) (count : ℕ) → all ≡ front ++ back → count ≡ length front → later ≡ drop count all → later ≡ back
 behind front back all later count is many dropped = dropped ∙ (ap (λ (n : ℕ). drop n all) many ∙ (ap (λ (one : List _). drop (length front) one) is ∙ drop_front front back))
 
+-- the store has the horizon of its journal
+horizon_in : (read : Result Journal ℕ) (records : ℕ) (journal : Journal) → read ≡ Ok journal → (store_in read records).horizon ≡ journal.horizon
+horizon_in read records journal is = ap (λ (found : Result Journal ℕ). (store_in found records).horizon) is
+
+same_number : (a b : ℕ) → (a == b) ≡ true → a ≡ b
+same_number a b is = grind (arith, nat_tests)
+
 -- THE REPORT --------------------------------------------------------------------------------------
 
 module _ (document : Document) (ran : Ran Within) (before : Before) (report : Report) (has : HasRun SeesIn document ran) (counts : Counts (journal_before document) before)
-    (off : IsReadOff (bytes_in ran.service) before document.print_image ran report) where
+    (off : IsReadOff (bytes_in ran.service) before document.print_image ran report) (base : off.journal.base ≡ (journal_before document).base) where
   is_run : IsRun document report.notes report.served has.seen has.traced
   is_run =
       subst (λ (notes : List Note). IsRun document notes report.served has.seen has.traced) (sym off.notes)
@@ -122,10 +122,7 @@ module _ (document : Document) (ran : Ran Within) (before : Before) (report : Re
 
   printed : report.tables ≡ printed_tables (journal_before document).base (committed gained.server.core)
   printed =
-      off.tables ∙ (ap (printed_tables off.journal.base) (sym gained.tables)
-      ∙ (sym (printed_each (committed gained.server.core) off.journal.base.tables)
-      ∙ (ap (λ (declared : Shape). map (printed_by (committed gained.server.core)) declared.schemas) (sym gained.declared)
-      ∙ printed_each (committed gained.server.core) (journal_before document).base.tables)))
+      off.tables ∙ ap₂ printed_tables base (sym gained.tables)
 
   serial_of : RunsSerial → IsSerial document report
   serial_of serial = record {
@@ -135,26 +132,64 @@ module _ (document : Document) (ran : Ran Within) (before : Before) (report : Re
     printed = printed;
   }
 
+  store_horizon : has.seen.state.store.horizon ≡ off.journal.horizon
+  store_horizon =
+      ap (λ (state : ServiceState). state.store.horizon) has.place.seen_so.sees.state_is
+      ∙ horizon_in (journal_of (bytes_in ran.service)) _ off.journal off.reads
+
+  reported : IsReported document report has.seen has.traced gained.server
+  reported = record {
+    run = is_run;
+    clients = off.clients ∙ has.clients;
+    runs = gained.runs;
+    entries = entries_are;
+    blocked = blocked_are;
+    alerts = alerts_are;
+    forgotten = off.forgotten ∙ sym store_horizon;
+  }
+
   printed_as : (print : Bool) → report.image ≡ image_if print (bytes_in ran.service) → IsPrinted off.journal print report.image
   printed_as true is = (bytes_in ran.service, (is, off.reads))
   printed_as false is = is
 
-  headline : RunsAreFollowed → RunsSerial → Headline document report
-  headline followed serial = record {
-    followed_so = followed document report has.seen has.traced is_run (off.clients ∙ has.clients);
-    serial = serial_of serial;
+  -- what the journal at the end says of the report
+  read_from : IsReadFrom document report off.journal
+  read_from = record {
+    base = base;
+    entries = gained.entries ∙ ap (λ (entries : List Entry). (journal_before document).entries ++ entries) (sym entries_are);
+    blocked = gained.blocked ∙ ap (λ (blocked : List Ltxid). (journal_before document).blocked ++ blocked) (sym blocked_are);
+    alerts = gained.alerts ∙ ap (λ (alerts : List (List ℕ)). (journal_before document).alerts ++ alerts) (sym alerts_are);
+    tables = off.tables;
+    horizon = off.forgotten;
+  }
+
+  stored_so : RunsHold → all_have_calls document ≡ true → stored document report ≡ true
+  stored_so laws calls =
+      let told = laws.horizons document report has.seen has.traced gained.server reported in
+      both_true _ _ (laws.outcomes document report has.seen has.traced gained.server calls reported)
+      (both_true _ _ (laws.answers document report has.seen has.traced gained.server reported)
+      (both_true _ _ told
+      (both_true _ _ (laws.apart document report has.seen has.traced gained.server reported)
+      (both_true _ _
+      (both_true _ _ (laws.answered document report has.seen has.traced gained.server reported) (laws.ordered document report has.seen has.traced gained.server reported))
+      (image_is document report off.journal read_from (sym off.forgotten ∙ same_number report.forgotten (last_horizon document report) told) (printed_as document.print_image off.image))))))
+
+  headline : RunsHold → all_have_calls document ≡ true → Headline document report
+  headline laws calls = record {
+    followed_so = laws.followed document report has.seen has.traced is_run (off.clients ∙ has.clients);
+    serial = serial_of laws.serial;
+    legal = laws.legal document report has.seen has.traced gained.server reported;
+    fresh_new = laws.fresh_new document report has.seen has.traced gained.server reported;
+    fresh = laws.fresh document report has.seen has.traced gained.server reported;
+    stored_so = stored_so laws calls;
     journal = off.journal;
-    read = record {
-      declared = sym gained.declared;
-      entries = gained.entries ∙ ap (λ (entries : List Entry). (journal_before document).entries ++ entries) (sym entries_are);
-      blocked = gained.blocked ∙ ap (λ (blocked : List Ltxid). (journal_before document).blocked ++ blocked) (sym blocked_are);
-      alerts = gained.alerts ∙ ap (λ (alerts : List (List ℕ)). (journal_before document).alerts ++ alerts) (sym alerts_are);
-      horizon = off.forgotten;
-    };
+    read = read_from;
     image = printed_as document.print_image off.image;
   }
 
 pub headline_if : {E : Type 0} (document : Document) (ran : Ran Within) (before : Before) (result : Result Report E) → HasRun SeesIn document ran → Counts (journal_before document) before
-    → IfOk result (IsReadOff (bytes_in ran.service) before document.print_image ran) → RunsAreFollowed → RunsSerial → IfOk result (Headline document)
-headline_if document ran before (Ok report) has counts off followed serial = headline document ran before report has counts off followed serial
-headline_if document ran before (Err e) has counts off followed serial = tt
+    → IfOk result (IsReadOff (bytes_in ran.service) before document.print_image ran) → (bytes : List ℕ) → journal_of bytes ≡ Ok (journal_before document) → HaveOneBase bytes (bytes_in ran.service) → RunsHold → all_have_calls document ≡ true
+    → IfOk result (Headline document)
+headline_if document ran before (Ok report) has counts off bytes reads kept laws calls =
+    headline document ran before report has counts off (kept (journal_before document) off.journal reads off.reads) laws calls
+headline_if document ran before (Err e) has counts off bytes reads kept laws calls = tt

@@ -21,8 +21,8 @@ use Rattle.continuity_run.proofs.Documents.{are_limits}
 
 -- each event counts
 counted : (document : Document) (events : List Event) (notes : List Note) (items : List Served) (seen : Seen) (t : Traced) → Reached document events notes items seen t → t.machine.event ≡ length events
-counted document _ _ _ _ _ (Begins seen start history coupled) = refl
-counted document _ _ _ _ _ (GoesOn events notes items more before after old new event note reached one) =
+counted document _ _ _ _ _ (Begins seen start history horizon coupled) = refl
+counted document _ _ _ _ _ (GoesOn events notes items more before after old new event note reached one forgets) =
     (opens_once old.setting old.machine new.machine event note more [] one.follows).0 ∙ (ap (λ count. count + 1) (counted document events notes items before old reached) ∙ sym (length-append events (event ∷ [])))
 
 -- so far the finish has come, and so much is left of it at most
@@ -38,7 +38,7 @@ module _ (begins : FinishBegins) (falls : FinishFalls) (goes_on : FinishGoesOn) 
       let few = is.few_events in
       let left = short document document.schedule notes items seen t limits reached few in
       record { can = begins t (orderly document document.schedule notes items seen t limits.have_calls reached); few = omega (arith, event, few, left) }
-  few_made _ _ _ _ _ (Finishes place later notes items more before after old new event note finishing next one) =
+  few_made _ _ _ _ _ (Finishes place later notes items more before after old new event note finishing next one forgets) =
       let earlier = few_made place notes items before old finishing in
       let few = earlier.few in
       let less = falls before after old new event note more [] place later one earlier.can next in

@@ -1,6 +1,7 @@
 mod Beginning
 mod Documents
 mod Headlines
+mod Images
 mod Lasting
 mod Moves
 mod ReadOff

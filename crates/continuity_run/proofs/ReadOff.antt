@@ -12,7 +12,7 @@ use Rattle.run_clauses.specs.Serial.{printed_table, printed_tables}
 use Rattle.server_model.specs.Core.{tables_with}
 use Rattle.continuity_run.specs.Reading.{printed_by}
 
-pub printed_each : (rows : List PlainRow) (tables : List BaseTable) → map (printed_by rows) (map schema_in tables) ≡ map (printed_table rows) tables
+printed_each : (rows : List PlainRow) (tables : List BaseTable) → map (printed_by rows) (map schema_in tables) ≡ map (printed_table rows) tables
 printed_each rows [] = refl
 printed_each rows (table ∷ tables) = ap (λ (rest : List ReportTable). printed_table rows table ∷ rest) (printed_each rows tables)
 

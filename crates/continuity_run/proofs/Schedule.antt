@@ -13,12 +13,12 @@ use Rattle.outage_schedule.specs.declared.event.Event.{Event}
 use Rattle.outage_schedule.specs.declared.item.Served.{Served}
 use Rattle.outage_schedule.specs.declared.note.Note.{Note}
 use Rattle.outage_schedule.specs.declared.request.RequestReport.{RequestReport}
-use Rattle.run_clauses.specs.Before.{journal_before, was_opened}
-use Rattle.run_clauses.specs.Horizons.{first_opening}
 use Rattle.server_model.specs.Seen.{Seen}
+use Rattle.service_calls.specs.Kept.{HaveOneBase}
 use Rattle.world_model.specs.Clients.{Client, reports_of}
 use Rattle.world_model.specs.FinishShort.{FinishIsShort}
 use Rattle.world_model.specs.Followed.{transcripts_of}
+use Rattle.world_model.specs.Forgets.{first_of}
 use Rattle.world_model.specs.Reached.{Reached, Begins, GoesOn, IsRun, Scheduled, traced_start}
 use Rattle.world_model.specs.Traced.{Traced}
 use Rattle.world_core.specs.Allowing.{IsAllowed}
@@ -52,10 +52,16 @@ at_place P (one ∷ all) (suc index) default are within = at_place P all index d
 
 -- each event has its note
 noted : (document : Document) (events : List Event) (notes : List Note) (items : List Served) (seen : Seen) (t : Traced) → Reached document events notes items seen t → length notes ≡ length events
-noted document _ _ _ _ _ (Begins seen start history coupled) = refl
-noted document _ _ _ _ _ (GoesOn events notes items more before after old new event note reached one) =
+noted document _ _ _ _ _ (Begins seen start history horizon coupled) = refl
+noted document _ _ _ _ _ (GoesOn events notes items more before after old new event note reached one forgets) =
     let earlier = noted document events notes items before old reached in
     length-append notes (note ∷ []) ∙ (ap (λ count. count + 1) earlier ∙ sym (length-append events (event ∷ [])))
+
+-- the store keeps its base where a run leaves its service
+pub base_if : {S E : Type 0} (bytes : S → List ℕ) (first last : S) (Rest : Ran S → Type 0) (result : Result (Ran S) E) → HaveOneBase (bytes first) (bytes last) → IfOk result (λ ran. (ran.service ≡ last) × Rest ran)
+    → IfOk result (λ ran. HaveOneBase (bytes first) (bytes ran.service))
+base_if bytes first last Rest (Ok ran) base leaves = subst (λ service. HaveOneBase (bytes first) (bytes service)) (sym leaves.0) base
+base_if bytes first last Rest (Err e) base leaves = tt
 
 module _ (S R : Type 0) (sees : S → Seen → Type 0) (rules : R → Rules) (scripts : List Script) where
   -- so far has the run of this document come, by these events
@@ -63,7 +69,7 @@ module _ (S R : Type 0) (sees : S → Seen → Type 0) (rules : R → Rules) (sc
     pub seen : Seen
     pub traced : Traced
     pub reached : Reached document events parts.notes parts.served seen traced
-    pub stands : Stands S R sees rules scripts document.service.retention (first_opening (was_opened document) (journal_before document).incarnation) parts seen traced
+    pub stands : Stands S R sees rules scripts document.service.retention (first_of document) parts seen traced
 
   -- CLIENTS ---------------------------------------------------------------------------------------
 
@@ -110,13 +116,13 @@ module _ (S R : Type 0) (sees : S → Seen → Type 0) (rules : R → Rules) (sc
       pub comes_further : (event : Event) (after : Parts S R) → MakesOne S R sees rules scripts event now after → Comes (events ++ event ∷ []) after
       comes_further event after makes document is =
           let come = comes document is in
-          let step = makes document.service.retention (first_opening (was_opened document) (journal_before document).incarnation) come.seen come.traced come.stands in
+          let step = makes document.service.retention (first_of document) come.seen come.traced come.stands in
           record {
             seen = step.seen_later;
             traced = step.later;
             reached = subst (λ (notes : List Note). Reached document (events ++ event ∷ []) notes after.served step.seen_later step.later) (sym step.notes)
                 (subst (λ (served : List Served). Reached document (events ++ event ∷ []) (now.notes ++ step.note ∷ []) served step.seen_later step.later) (sym step.served)
-                (GoesOn events now.notes now.served step.items come.seen step.seen_later come.traced step.later event step.note come.reached step.made));
+                (GoesOn events now.notes now.served step.items come.seen step.seen_later come.traced step.later event step.note come.reached step.made step.forgets));
             stands = step.stands;
           }
 
@@ -127,7 +133,7 @@ module _ (S R : Type 0) (sees : S → Seen → Type 0) (rules : R → Rules) (sc
         pub somewhere : StandsSomewhere S R sees rules scripts now
         somewhere = record {
           retention = some.0.service.retention;
-          first = first_opening (was_opened some.0) (journal_before some.0).incarnation;
+          first = first_of some.0;
           seen = come_some.seen;
           traced = come_some.traced;
           stands = come_some.stands;
@@ -174,7 +180,7 @@ module _ (S R : Type 0) (sees : S → Seen → Type 0) (rules : R → Rules) (sc
           let come = comes some.0 some.1 in
           record {
             retention = some.0.service.retention;
-            first = first_opening (was_opened some.0) (journal_before some.0).incarnation;
+            first = first_of some.0;
             seen = come.seen;
             traced = come.traced;
             stands = come.stands;
@@ -186,8 +192,7 @@ module _ (S R : Type 0) (sees : S → Seen → Type 0) (rules : R → Rules) (sc
           → (document : Document) → IsRunOf begun rule of scripts schedule opened document → HasRun sees document ran
       has_run after ran finishes leaves document is =
           let come = comes document is in
-          let over = finishes document.service.retention (first_opening (was_opened document) (journal_before document).incarnation) document come.seen come.traced come.stands
-          (Scheduled now.notes now.served come.seen come.traced (reached_all document is)) in
+          let over = finishes document come.seen come.traced come.stands (Scheduled now.notes now.served come.seen come.traced (reached_all document is)) in
           record {
             seen = over.seen;
             traced = over.traced;

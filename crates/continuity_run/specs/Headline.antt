@@ -1,21 +1,25 @@
 -- What a report says of its document.
 use Rattle.std.specs.Prelude.{◌≡◌, ◌++◌, ℕ, Bool, true, false, IsTrue, List, Option, Some, None, Ok}
 use Rattle.commit_log.specs.declared.journal.Journal.{Journal}
-use Rattle.commit_log.specs.Bases.{shape_of}
 use Rattle.commit_log.specs.Journals.{journal_of}
 use Rattle.outage_schedule.specs.declared.document.Document.{Document}
 use Rattle.outage_schedule.specs.declared.report.Report.{Report}
-use Rattle.run_clauses.specs.Before.{journal_before, shape}
-use Rattle.run_clauses.specs.Serial.{IsSerial}
+use Rattle.run_clauses.specs.Before.{journal_before, tables_of}
+use Rattle.run_clauses.specs.Fresh.{fresh}
+use Rattle.run_clauses.specs.Serial.{IsSerial, printed_tables}
+use Rattle.run_clauses.specs.Stored.{stored}
 use Rattle.world_model.specs.Followed.{followed}
+use Rattle.world_model.specs.Judged.{is_legal, is_fresh_new, has_room_for, none_repeated}
 
--- The journal at the end declares the tables and sequences of the one before event 1, and its entries, blocks and alert lines are those from
--- before with those of the report behind them. What it says of sessions below the report's horizon is forgotten.
+-- The journal at the end has the base of the one before event 1, its tables with their rows and its sequences, and its entries, blocks and
+-- alert lines are those from before with those of the report behind them. The report's tables are those after the last entry. What the
+-- journal says of sessions below the report's horizon is forgotten.
 pub record IsReadFrom (document : Document) (report : Report) (journal : Journal) : Type 0 where
-  pub declared : shape_of journal.base ≡ shape document
+  pub base : journal.base ≡ (journal_before document).base
   pub entries : journal.entries ≡ (journal_before document).entries ++ report.entries
   pub blocked : journal.blocked ≡ (journal_before document).blocked ++ report.blocked
   pub alerts : journal.alerts ≡ (journal_before document).alerts ++ report.alerts
+  pub tables : report.tables ≡ printed_tables journal.base (tables_of journal)
   pub horizon : report.forgotten ≡ journal.horizon
 
 -- The bytes of the store are in the report where the document asks for them, and an opening reads this journal in them.
@@ -29,6 +33,14 @@ pub record Headline (document : Document) (report : Report) : Type 0 where
   pub followed_so : IsTrue (followed document report)
   -- the entries run one after the other from the document's rows, and the tables are those after the last
   pub serial : IsSerial document report
+  -- what was served is legal
+  pub legal : IsTrue (is_legal document report)
+  -- and no value was drawn anew twice, as long as identifiers can be spelled
+  pub fresh_new : IsTrue (has_room_for document report) → IsTrue (is_fresh_new document report)
+  -- where no call was repeated, no value stands twice among what the entries drew
+  pub fresh : IsTrue (has_room_for document report) → IsTrue (none_repeated report) → IsTrue (fresh report)
+  -- each outcome that was told is the stored one, by the table and the horizon of then; blocks and entries never share an identifier
+  pub stored_so : IsTrue (stored document report)
   -- it is read from what the store holds at the end
   pub journal : Journal
   pub read : IsReadFrom document report journal

@@ -7,3 +7,4 @@ pub mod Reads
 pub mod Statuses
 pub mod Stores
 pub mod Runs
+pub mod RunLaws

@@ -3,8 +3,10 @@ ghost use Rattle.std.specs.Prelude.{◌≡◌, IfOk};
 ghost use Rattle.outage_schedule.specs.declared.document.Document.{Document as Given};
 ghost use Rattle.doc_reader.specs.Keeping.{IsDocument};
 ghost use Rattle.run_clauses.specs.ServiceBase.{grants_of as grants_def};
+ghost use Rattle.service_calls.specs.Kept.{HaveOneBase};
 ghost use Rattle.world_model.specs.Settings.{rules_of};
 ghost use Rattle.continuity_run.specs.Headline.{Headline};
+ghost use Rattle.continuity_run.specs.RunLaws.{RunsHold};
 ghost use Rattle.continuity_run.specs.Runs.{HasRun, IsRunOf, IsRunOfSome};
 
 use crate::reporting::report_of;
@@ -20,6 +22,11 @@ use std::alloc::Global;
 use svc_values::NoMemory;
 use world_model::laws::{
     finish_falls, finish_goes_on, finish_is_short, runs_are_followed, runs_are_orderly,
+};
+use world_model::run_laws::{runs_are_fresh, runs_are_fresh_new, runs_are_legal};
+use world_model::stored_laws::{
+    answers_are_right, blocks_are_answered, blocks_stay_apart, horizons_are_told,
+    outcomes_are_stored,
 };
 use world_run::{Ran, World};
 
@@ -45,7 +52,8 @@ fn run_by<S: Service + Drop, R: BoundRule + Copy>(
     rule: R,
 ) -> Result<Ran<S>, NoMemory>
     requires begins { IsRunOfSome (S.sees service) (R.rules rule) of.now scripts.now schedule.now opened }
-    ensures { IfOk result (λ ran. (document : Given) → IsRunOf (S.sees service) (R.rules rule) of.now scripts.now schedule.now opened document → HasRun S.sees document ran) }
+    ensures ran { IfOk result (λ ran. (document : Given) → IsRunOf (S.sees service) (R.rules rule) of.now scripts.now schedule.now opened document → HasRun S.sees document ran) }
+    ensures base { IfOk result (λ ran. HaveOneBase (S.bytes service) (S.bytes ran.service)) }
 {
     finish_is_short();
     let mut world = World::new(alloc, of, scripts, service, rule, opened)?;
@@ -66,7 +74,8 @@ fn run_all<S: Service + Drop>(
     opened: bool,
 ) -> Result<Ran<S>, NoMemory>
     requires begins { IsRunOfSome (S.sees service) (rules_of of.now.failover of.now.consistency) of.now scripts.now schedule.now opened }
-    ensures { IfOk result (λ ran. (document : Given) → IsRunOf (S.sees service) (rules_of of.now.failover of.now.consistency) of.now scripts.now schedule.now opened document → HasRun S.sees document ran) }
+    ensures ran { IfOk result (λ ran. (document : Given) → IsRunOf (S.sees service) (rules_of of.now.failover of.now.consistency) of.now scripts.now schedule.now opened document → HasRun S.sees document ran) }
+    ensures base { IfOk result (λ ran. HaveOneBase (S.bytes service) (S.bytes ran.service)) }
 {
     match (of.failover, of.consistency) {
         (Failover::Off, _) => run_by(alloc, of, scripts, schedule, service, opened, OffRule),
@@ -80,6 +89,22 @@ fn run_all<S: Service + Drop>(
     }
 }
 
+/// What holds of whole runs and of their reports.
+fn runs_hold()
+    ensures { RunsHold }
+{
+    runs_are_followed();
+    runs_serial();
+    runs_are_legal();
+    runs_are_fresh_new();
+    runs_are_fresh();
+    outcomes_are_stored();
+    answers_are_right();
+    horizons_are_told();
+    blocks_stay_apart();
+    blocks_are_answered();
+}
+
 /// The run of a document, and its report.
 pub fn run_document(alloc: Global, document: Document) -> Result<Report, NoMemory>
     requires document { IsDocument document }
@@ -88,9 +113,8 @@ pub fn run_document(alloc: Global, document: Document) -> Result<Report, NoMemor
     finish_falls();
     finish_goes_on();
     finish_is_short();
-    runs_are_followed();
     runs_are_orderly();
-    runs_serial();
+    runs_hold();
     let Document {
         service: of,
         tables,

@@ -1,0 +1,16 @@
+use Rattle.continuity_run.proofs.run.runs_hold.Goals as goal
+
+pub returns : goal.returns
+returns c = record {
+  followed = c.runs_are_followed.ensures;
+  serial = c.runs_serial.ensures;
+  legal = c.runs_are_legal.ensures;
+  fresh_new = c.runs_are_fresh_new.ensures;
+  fresh = c.runs_are_fresh.ensures;
+  outcomes = c.outcomes_are_stored.ensures;
+  answers = c.answers_are_right.ensures;
+  horizons = c.horizons_are_told.ensures;
+  apart = c.blocks_stay_apart.ensures;
+  answered = c.blocks_are_answered.ensures.answered;
+  ordered = c.blocks_are_answered.ensures.order;
+}

@@ -1,0 +1,18 @@
+-- What is proved of whole runs and of their reports, before any is made.
+use Rattle.server_model.specs.Laws.{RunsSerial}
+use Rattle.world_model.specs.Reported.{RunsAreLegal, RunsAreFreshNew, RunsAreFresh}
+use Rattle.world_model.specs.RunLaws.{RunsAreFollowed}
+use Rattle.world_model.specs.StoredLaws.{OutcomesAreStored, AnswersAreRight, HorizonsAreTold, BlocksStayApart, BlocksAreAnswered, BlocksComeInOrder}
+
+pub record RunsHold : Type 0 where
+  pub followed : RunsAreFollowed
+  pub serial : RunsSerial
+  pub legal : RunsAreLegal
+  pub fresh_new : RunsAreFreshNew
+  pub fresh : RunsAreFresh
+  pub outcomes : OutcomesAreStored
+  pub answers : AnswersAreRight
+  pub horizons : HorizonsAreTold
+  pub apart : BlocksStayApart
+  pub answered : BlocksAreAnswered
+  pub ordered : BlocksComeInOrder
