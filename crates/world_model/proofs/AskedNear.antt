@@ -5,7 +5,6 @@ use Rattle.std.specs.List.{list_all, list_any}
 use Rattle.std.specs.Option.{option_map_or}
 use Rattle.std.proofs.lemmas.Bool.{and_parts, and_from, or_cases}
 use Rattle.std.proofs.lemmas.List.Folds.{list_all-append}
-use Rattle.svc_values.specs.declared.draw.Draw.{Draw}
 use Rattle.svc_values.specs.declared.entry.Ltxid.{Ltxid}
 use Rattle.svc_values.specs.declared.entry.SessionId.{SessionId}
 use Rattle.svc_values.specs.declared.frame.Up.{Up}
@@ -251,8 +250,8 @@ found_near t number x named near is = by (link_at t.machine.links number) refl i
     by None there is = absurd (let none : ⊥ = cc in none)
     by (Some link) there is = held link link.held there refl is
 
-pub asked_near : (granted : Draw → Bool) (t : Traced) → Invariant granted t → (number : ℕ) (link : Link) (first : Sent) (later : List Sent) (x : Ltxid) → link_at t.machine.links number ≡ Some link → link.up ≡ first ∷ later → first.frame ≡ up.Outcome x → IsNear t x
-asked_near granted t inv number link first later x there ups frame = by first.owner refl (subst (λ (f : Up). asked_owned first.owner f ≡ true) frame owned)
+pub asked_near : (t : Traced) → Invariant t → (number : ℕ) (link : Link) (first : Sent) (later : List Sent) (x : Ltxid) → link_at t.machine.links number ≡ Some link → link.up ≡ first ∷ later → first.frame ≡ up.Outcome x → IsNear t x
+asked_near t inv number link first later x there ups frame = by first.owner refl (subst (λ (f : Up). asked_owned first.owner f ≡ true) frame owned)
   where
     sent : is_sent_front link ≡ true
     sent = at_link is_sent_front t.machine.links number link inv.orderly.wire.sent there

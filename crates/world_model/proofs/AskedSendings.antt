@@ -8,7 +8,6 @@ use Rattle.std.specs.Option.{option_map_or}
 use Rattle.std.proofs.lemmas.Bool.{and_parts, and_from}
 use Rattle.std.proofs.lemmas.List.{length-map}
 use Rattle.std.proofs.lemmas.List.Folds.{list_all-append}
-use Rattle.svc_values.specs.declared.draw.Draw.{Draw}
 use Rattle.svc_values.specs.declared.entry.Ltxid.{Ltxid}
 use Rattle.svc_values.specs.declared.frame.Down.TheVariants as down
 use Rattle.svc_values.specs.Calls.{has_commit}
@@ -24,11 +23,11 @@ use Rattle.world_model.specs.Invariant.{Invariant}
 use Rattle.world_model.specs.Links.{Link, link_at}
 use Rattle.world_model.specs.Lost.{lost_links, is_wanted, same_event, is_next, is_asked_next, wants_next}
 use Rattle.world_model.specs.Machines.{Machine}
-use Rattle.world_model.specs.Number.{ahead_rightly}
+use Rattle.world_model.specs.Number.{is_ahead, ahead_rightly}
 use Rattle.world_model.specs.Once.{has_fate}
 use Rattle.world_model.specs.Parts.{Sending, implies, sendings_of, commit_sendings}
 use Rattle.world_model.specs.Script.{is_sending_of}
-use Rattle.world_model.specs.Shown.{ends_own}
+use Rattle.world_model.specs.Shown.{calls_on, ends_own, is_current, is_row, rows_on}
 use Rattle.world_model.specs.Traced.{Traced, Course, course_now, courses_of}
 use Rattle.world_model.specs.Wanted.{Wanted, wanted_in}
 use Rattle.world_model.specs.Words.{held_in}
@@ -61,7 +60,7 @@ each_flat test parts (x ∷ xs) all =
     and_from (list_all test (parts x)) (list_all (λ y. list_all test (parts y)) xs) both.0 (each_flat test parts xs both.1)
 
 -- what holds of those that a filter leaves in
-pub unfiltered : (test keep : Sending → Bool) (xs : List Sending) → list_all test (filter keep xs) ≡ true → list_all (λ x. implies (keep x) (test x)) xs ≡ true
+pub unfiltered : {A : Type 0} (test keep : A → Bool) (xs : List A) → list_all test (filter keep xs) ≡ true → list_all (λ x. implies (keep x) (test x)) xs ≡ true
 unfiltered test keep [] all = refl
 unfiltered test keep (x ∷ xs) all = by (keep x) all (λ later. unfiltered test keep xs later)
   where
@@ -80,7 +79,7 @@ lost_all test true (number ∷ next ∷ others) all =
 
 -- A STEP ------------------------------------------------------------------------------------------
 
-module _ (granted : Draw → Bool) (t : Traced) (whole : Invariant granted t) (who : ℕ) (n : Machine) (step : HasStepped t.setting (at_event t.machine) who n) (asking : Asking) (completed alive : Bool)
+module _ (t : Traced) (whole : Invariant t) (who : ℕ) (n : Machine) (step : HasStepped t.setting (at_event t.machine) who n) (asking : Asking) (completed alive : Bool)
     (input : step.input ≡ Took (down.OutcomeIs true completed) alive) (phase : step.before.talk.phase ≡ Asked asking) where
   abbrev now : Machine
   now = at_event t.machine
@@ -132,8 +131,27 @@ module _ (granted : Draw → Bool) (t : Traced) (whole : Invariant granted t) (w
   abbrev sent_test : ℕ → Bool
   sent_test number = option_map_or (λ link. pointwise is_sending_of (calls_of before.owner link.sent) (on_of number (sendings_of before))) (link_at t.machine.links number) false
 
-  pub sent_one : list_any (is_unanswered x count) (sendings_of before) ≡ true
-  sent_one = at found.0 (link_at t.machine.links found.0) refl found.1 (and_parts (own_test found.0) (sent_test found.0) found.2)
+  -- a row of the script's calls was sent on it
+  abbrev row_test : ℕ → Bool
+  row_test number = option_map_or (λ link. is_row before (is_current before number) (calls_on before link)) (link_at t.machine.links number) false
+
+  -- The connection whose identifier is asked is one ahead of what it holds, and what is out there is the request's next call, without the mark.
+  pub record AskedOn : Type 0 where
+    pub number : ℕ
+    pub link : Link
+    pub there : link_at t.machine.links number ≡ Some link
+    pub held : link.held ≡ Some x
+    pub ahead : is_ahead t link ≡ true
+    pub next : is_next count link ≡ true
+    pub own : ends_own before link ≡ true
+    pub sent : pointwise is_sending_of (calls_of before.owner link.sent) (on_of number (sendings_of before)) ≡ true
+    pub row : is_row before (is_current before number) (calls_on before link) ≡ true
+
+  pub asked_on : AskedOn
+  asked_on =
+      let two = and_parts (own_test found.0) (sent_test found.0 && row_test found.0) found.2 in
+      let three = and_parts (sent_test found.0) (row_test found.0) two.1 in
+      at found.0 (link_at t.machine.links found.0) refl found.1 two.0 three.0 three.1
     where
       asked : list_any asked_test (lost_links before) ≡ true
       asked =
@@ -149,25 +167,46 @@ module _ (granted : Draw → Bool) (t : Traced) (whole : Invariant granted t) (w
           (before_so t whole.orderly who n step (λ course. list_all (λ number. option_map_or (λ link. pointwise is_sending_of (calls_of course.owner link.sent) (on_of number (sendings_of course))) (link_at t.machine.links number) false) (held_in course.steps))
           whole.orderly.script.sent (λ request. refl))
 
-      found : (number : ℕ) × (asked_test number ≡ true) × ((own_test number && sent_test number) ≡ true)
-      found = let one = any_all asked_test (λ number. own_test number && sent_test number) (lost_links before) asked (both_all own_test sent_test (lost_links before) own sent) in (one.0, one.1.0, one.1.1)
+      row : list_all row_test (lost_links before) ≡ true
+      row = lost_all row_test (is_some step.before.connection) (held_in step.before.steps) (before_so t whole.orderly who n step (rows_on t) whole.shown.rows (λ request. refl))
+
+      found : (number : ℕ) × (asked_test number ≡ true) × ((own_test number && (sent_test number && row_test number)) ≡ true)
+      found =
+          let one = any_all asked_test (λ number. own_test number && (sent_test number && row_test number)) (lost_links before) asked
+          (both_all own_test (λ number. sent_test number && row_test number) (lost_links before) own (both_all sent_test row_test (lost_links before) sent row)) in
+          (one.0, one.1.0, one.1.1)
 
       on : (number : ℕ) (link : Link) (held : Option Ltxid) → link_at t.machine.links number ≡ Some link → link.held ≡ held → option_map_or (same_ltxid x) held false ≡ true → is_next count link ≡ true → ends_own before link ≡ true
-          → pointwise is_sending_of (calls_of before.owner link.sent) (on_of number (sendings_of before)) ≡ true → list_any (is_unanswered x count) (sendings_of before) ≡ true
-      on number link None there held same next owns agrees = absurd (let none : ⊥ = cc in none)
-      on number link (Some y) there held same next owns agrees =
+          → pointwise is_sending_of (calls_of before.owner link.sent) (on_of number (sendings_of before)) ≡ true → is_row before (is_current before number) (calls_on before link) ≡ true → AskedOn
+      on number link None there held same next owns agrees rows = absurd (let none : ⊥ = cc in none)
+      on number link (Some y) there held same next owns agrees rows =
           let equal : x ≡ y = (same_ltxid_decides x y).0 same in
           let holds : link.held ≡ Some x = held ∙ ap Some (sym equal) in
           let less = entry_counts t.entries x completed (told_now t whole.orderly whole.shown.answers who n step asking true completed alive input phase) whole.orderly.number.entries in
-          committed_sending t.machine.links count number link x there holds t before (sendings_of before) (one_ahead t whole.orderly.basic.named whole.orderly.number number link x there holds less)
-          (at_link (ahead_rightly t) t.machine.links number link whole.orderly.number.ahead there) next owns agrees
-          (both_all (taken_among count) (fated t.machine.links) (sendings_of before) all_taken all_fated)
+          record {
+            number = number;
+            link = link;
+            there = there;
+            held = holds;
+            ahead = one_ahead t whole.orderly.basic.named whole.orderly.number number link x there holds less;
+            next = next;
+            own = owns;
+            sent = agrees;
+            row = rows;
+          }
 
-      at : (number : ℕ) (one : Option Link) → link_at t.machine.links number ≡ one → asked_test number ≡ true → (own_test number ≡ true) × (sent_test number ≡ true) → list_any (is_unanswered x count) (sendings_of before) ≡ true
-      at number None there here both = absurd (let never : false ≡ true = sym (ap (λ (l : Option Link). option_map_or (λ link. is_wanted link wanted && is_next count link) l false) there) ∙ here in let none : ⊥ = cc in none)
-      at number (Some link) there here both =
+      at : (number : ℕ) (one : Option Link) → link_at t.machine.links number ≡ one → asked_test number ≡ true → own_test number ≡ true → sent_test number ≡ true → row_test number ≡ true → AskedOn
+      at number None there here owns agrees rows = absurd (let never : false ≡ true = sym (ap (λ (l : Option Link). option_map_or (λ link. is_wanted link wanted && is_next count link) l false) there) ∙ here in let none : ⊥ = cc in none)
+      at number (Some link) there here owns agrees rows =
           let so : (is_wanted link wanted && is_next count link) ≡ true = sym (ap (λ (l : Option Link). option_map_or (λ one. is_wanted one wanted && is_next count one) l false) there) ∙ here in
           let parts = and_parts (is_wanted link wanted) (is_next count link) so in
           on number link link.held there refl (and_parts (option_map_or (same_ltxid x) link.held false) (same_event link.ended asking.event) parts.0).0 parts.1
-          (sym (ap (λ (l : Option Link). option_map_or (ends_own before) l false) there) ∙ both.0)
-          (sym (ap (λ (l : Option Link). option_map_or (λ one. pointwise is_sending_of (calls_of before.owner one.sent) (on_of number (sendings_of before))) l false) there) ∙ both.1)
+          (sym (ap (λ (l : Option Link). option_map_or (ends_own before) l false) there) ∙ owns)
+          (sym (ap (λ (l : Option Link). option_map_or (λ one. pointwise is_sending_of (calls_of before.owner one.sent) (on_of number (sendings_of before))) l false) there) ∙ agrees)
+          (sym (ap (λ (l : Option Link). option_map_or (λ one. is_row before (is_current before number) (calls_on before one)) l false) there) ∙ rows)
+
+  pub sent_one : list_any (is_unanswered x count) (sendings_of before) ≡ true
+  sent_one =
+      committed_sending t.machine.links count asked_on.number asked_on.link x asked_on.there asked_on.held t before (sendings_of before) asked_on.ahead
+      (at_link (ahead_rightly t) t.machine.links asked_on.number asked_on.link whole.orderly.number.ahead asked_on.there) asked_on.next asked_on.own asked_on.sent
+      (both_all (taken_among count) (fated t.machine.links) (sendings_of before) all_taken all_fated)

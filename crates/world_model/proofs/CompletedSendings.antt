@@ -5,7 +5,6 @@ use Rattle.std.specs.List.{list_all, list_any, last_or}
 use Rattle.std.specs.Option.{option_map_or}
 use Rattle.std.proofs.lemmas.Bool.{and_parts, and_from, or_cases, or_right, not-true}
 use Rattle.svc_values.specs.declared.answer.Answer.{Answer}
-use Rattle.svc_values.specs.declared.draw.Draw.{Draw}
 use Rattle.svc_values.specs.declared.entry.Ltxid.{Ltxid}
 use Rattle.svc_values.specs.declared.frame.Down.TheVariants as down
 use Rattle.svc_values.specs.declared.frame.Up.{Up}
@@ -76,7 +75,7 @@ none_passes p (x ∷ xs) none = by (p x) none (λ later. none_passes p xs later)
 
 -- A STEP ------------------------------------------------------------------------------------------
 
-module _ (granted : Draw → Bool) (t : Traced) (whole : Invariant granted t) (who : ℕ) (n : Machine) (step : HasStepped t.setting (at_event t.machine) who n) where
+module _ (t : Traced) (whole : Invariant t) (who : ℕ) (n : Machine) (step : HasStepped t.setting (at_event t.machine) who n) where
   inv : Orderly t
   inv = whole.orderly
 
@@ -221,7 +220,7 @@ module _ (granted : Draw → Bool) (t : Traced) (whole : Invariant granted t) (w
   completed_new asking alive input phase =
       sent_still asking.ltxid
       (subst (λ (i : Input). list_any (may_be asking.ltxid) (answered i one.done.act.shown sendings) ≡ true) (sym input)
-      (any_goes (is_unanswered asking.ltxid (length before.report.calls)) (may_be asking.ltxid) open_one sendings (sent_one granted t whole who n step asking true alive input phase)))
+      (any_goes (is_unanswered asking.ltxid (length before.report.calls)) (may_be asking.ltxid) open_one sendings (sent_one t whole who n step asking true alive input phase)))
     where
       open_one : (s : Sending) → is_unanswered asking.ltxid (length before.report.calls) s ≡ true → may_be asking.ltxid s ≡ true
       open_one s here =

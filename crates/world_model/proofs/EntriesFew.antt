@@ -205,8 +205,8 @@ have_one t settled tells notes unblocked numbered =
 pub one_law : EachKeeps → EntryNumbers → IsKeptOfAll transactions_have_one
 one_law keeps numbers = record {
   at_start = λ document. resting_none (setting_of document) 1 (λ course. list_all (λ ids. nat_le (length (entries_in (traced_start document).entries ids)) 1) course.report.tried) document.clients;
-  at_event = λ granted before after old new event note items left one inv.
-      have_one new ((settled_law keeps numbers).at_event granted before after old new event note items left one inv) (tried_law.at_event granted before after old new event note items left one inv)
+  at_event = λ before after old new event note items left one inv.
+      have_one new ((settled_law keeps numbers).at_event before after old new event note items left one inv) (tried_law.at_event before after old new event note items left one inv)
       (noted_law.at_event before after old new event note items left one inv.orderly inv.once.noted) ((unblocked_law keeps).at_event before after old new event note items left one inv.orderly)
       ((entries_law keeps).at_event before after old new event note items left one inv.orderly);
 }

@@ -4,7 +4,6 @@ use Rattle.std.specs.Prelude.{Contains}
 use Rattle.std.specs.Option.{option_map_or}
 use Rattle.std.proofs.lemmas.Bool.{and_parts}
 use Rattle.std.proofs.lemmas.List.Elements.{Contains-push}
-use Rattle.svc_values.specs.declared.draw.Draw.{Draw}
 use Rattle.svc_values.specs.declared.entry.Entry.{Entry}
 use Rattle.svc_values.specs.declared.entry.Ltxid.{Ltxid}
 use Rattle.svc_values.specs.declared.frame.Up.{Up}
@@ -66,7 +65,7 @@ crashed_stands t up.Close one is = absurd (let none : ⊥ = cc in none)
 crashed_stands t (up.Call replay kept called) one is = absurd (let none : ⊥ = cc in none)
 crashed_stands t (up.Outcome x) one is = absurd (let none : ⊥ = cc in none)
 
-module _ (granted : Draw → Bool) (before after : Seen) (old new : Traced) (event : Event) (note : Note) (items left : List Served) (one : OneEvent before old event note items left after new) (inv : Invariant granted old) where
+module _ (before after : Seen) (old new : Traced) (event : Event) (note : Note) (items left : List Served) (one : OneEvent before old event note items left after new) (inv : Invariant old) where
   abbrev links : List Link
   links = old.machine.links
 
@@ -119,7 +118,7 @@ module _ (granted : Draw → Bool) (before after : Seen) (old new : Traced) (eve
         omega arith
 
     near : IsNear old x
-    near = let is = front_is links number front at in asked_near granted old inv number front.link front.first front.later x is.there is.up frame_is
+    near = let is = front_is links number front at in asked_near old inv number front.link front.first front.later x is.there is.up frame_is
 
     blocked_now : outcome_frame result ≡ outcome_frame told.Uncommitted → holds new.blocked x ≡ true
     blocked_now same =
@@ -196,5 +195,5 @@ module _ (granted : Draw → Bool) (before after : Seen) (old new : Traced) (eve
 pub answers_law : IsKeptOfAll answers_stand
 answers_law = record {
   at_start = λ document. refl;
-  at_event = λ granted before after old new event note items left one inv. stand_now granted before after old new event note items left one inv;
+  at_event = λ before after old new event note items left one inv. stand_now before after old new event note items left one inv;
 }

@@ -213,10 +213,10 @@ by_step t inv apart new differ (Stepping who step) olds nows = step_apart t inv 
 pub apart_law : IsKeptOfAll are_apart
 apart_law = record {
   at_start = λ document. ap (each_pair share) (none_yet (setting_of document) 1 document.clients);
-  at_event = λ granted before after old new event note items left one inv.
+  at_event = λ before after old new event note items left one inv.
       let by : Followed old.setting old.machine event note items left new.machine = follow_happens old.setting old.machine event note items left new.machine one.follows in
       let nows : list_all (λ sending. fated new.machine.links sending && is_on_link new sending) (all_sendings new) ≡ true =
-      both_all (fated new.machine.links) (is_on_link new) (all_sendings new) (fates_law.at_event granted before after old new event note items left one inv) (links_law.at_event before after old new event note items left one inv.orderly inv.once.links) in
+      both_all (fated new.machine.links) (is_on_link new) (all_sendings new) (fates_law.at_event before after old new event note items left one inv) (links_law.at_event before after old new event note items left one inv.orderly inv.once.links) in
       subst (λ (setting : Setting). each_pair share (flat_map commit_sendings (courses_of_clients setting 1 new.machine.clients)) ≡ true) (sym one.setting)
       (by_step old inv.orderly inv.once.apart new (basic_is_kept before after old new event note items left one inv.orderly).apart (moving old.setting (at_event old.machine) items left by.kind new.machine by.happens) inv.once.fates
       (subst (λ (setting : Setting). list_all (λ sending. fated new.machine.links sending && is_on_link new sending) (flat_map commit_sendings (courses_of_clients setting 1 new.machine.clients)) ≡ true) one.setting nows));

@@ -206,7 +206,7 @@ module _ (t : Traced) (inv : Orderly t) (pending : are_pending t ≡ true) (new 
 pub asks_law : IsKeptOfAll ask_rightly
 asks_law = record {
   at_start = λ document. resting_none (setting_of document) 1 (λ course. list_all (asks_rightly (traced_start document) course) []) document.clients;
-  at_event = λ granted before after old new event note items left one inv.
+  at_event = λ before after old new event note items left one inv.
       let by : Followed old.setting old.machine event note items left new.machine = follow_happens old.setting old.machine event note items left new.machine one.follows in
       subst (λ (setting : Setting). list_all (λ course. list_all (asks_rightly new course) new.machine.links) (courses_of_clients setting 1 new.machine.clients) ≡ true) (sym one.setting)
       (all_ask old inv.orderly inv.lost.pending new one.setting items left by.kind by.happens (happens_step old.setting (at_event old.machine) items left by.kind new.machine by.happens)

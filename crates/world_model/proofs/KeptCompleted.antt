@@ -88,7 +88,7 @@ completed_law = record {
   at_start = λ document.
       let t : Traced = traced_start document in
       and_from (list_all (is_foreign t) (take t.image t.entries)) (list_all is_completed_rightly (drop t.image t.entries)) (none_foreign document (take t.image t.entries)) (none_later is_completed_rightly t.entries);
-  at_event = λ granted before after old new event note items left one inv.
+  at_event = λ before after old new event note items left one inv.
       and_from (list_all (is_foreign new) (take new.image new.entries)) (list_all is_completed_rightly (drop new.image new.entries))
       (foreign_still before after old new event note items left one inv.orderly (and_parts (list_all (is_foreign old) (take old.image old.entries)) (list_all is_completed_rightly (drop old.image old.entries)) inv.once.completed).0)
       (gained_right after new one.coupled_after);

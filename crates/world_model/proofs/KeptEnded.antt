@@ -8,7 +8,6 @@ use Rattle.std.proofs.lemmas.List.{length-map}
 use Rattle.std.proofs.lemmas.List.Folds.{list_any-append}
 use Rattle.svc_values.specs.declared.answer.Answer.{Answer}
 use Rattle.svc_values.specs.declared.call.Call.{Call}
-use Rattle.svc_values.specs.declared.draw.Draw.{Draw}
 use Rattle.svc_values.specs.declared.entry.Entry.{Entry}
 use Rattle.svc_values.specs.declared.entry.Ltxid.{Ltxid}
 use Rattle.svc_values.specs.declared.frame.Down.{Down}
@@ -119,7 +118,7 @@ ends_more entries more course here = by course.is_over here
 
 -- EVENTS ------------------------------------------------------------------------------------------
 
-module _ (granted : Draw → Bool) (t : Traced) (whole : Invariant granted t) (new : Traced) (setting : new.setting ≡ t.setting) (items left : List Served) (kind : Noted) (happens : Happens t.setting (at_event t.machine) items left kind new.machine)
+module _ (t : Traced) (whole : Invariant t) (new : Traced) (setting : new.setting ≡ t.setting) (items left : List Served) (kind : Noted) (happens : Happens t.setting (at_event t.machine) items left kind new.machine)
     (by_held : are_by_held new ≡ true) (differ : sessions_differ new ≡ true) (more : List Entry) (entries : new.entries ≡ t.entries ++ more) where
   abbrev m : Machine
   m = at_event t.machine
@@ -212,7 +211,7 @@ module _ (granted : Draw → Bool) (t : Traced) (whole : Invariant granted t) (n
         (completed_there t.entries told.asking.ltxid false (told_now t whole.orderly whole.shown.answers who new.machine step told.asking true false told.alive told.heard told.phase))))
         (ap (λ (list : List Sending). list_any (is_open_at x (length ended.report.calls)) (filter commits list)) (sendings_are ∙ quiet)
         ∙ filter_any (is_open_at x (length ended.report.calls)) commits sendings
-        (any_goes (is_unanswered told.asking.ltxid (length calls)) (λ s. is_open_at x (length ended.report.calls) s && commits s) goes sendings (sent_one granted t whole who new.machine step told.asking false told.alive told.heard told.phase)))
+        (any_goes (is_unanswered told.asking.ltxid (length calls)) (λ s. is_open_at x (length ended.report.calls) s && commits s) goes sendings (sent_one t whole who new.machine step told.asking false told.alive told.heard told.phase)))
       where
         told : ToldSo step.before.talk step.input x
         told = incomplete_told t.setting.terms step.before.talk step.input m.tick x is
@@ -283,7 +282,7 @@ module _ (granted : Draw → Bool) (t : Traced) (whole : Invariant granted t) (n
         -- a frame was taken on another one
         elsewhere : (number : ℕ) → step.before.connection ≡ Some number → (frame : Down) (alive : Bool) → step.input ≡ Took frame alive → number ≡ s.connection → ⊥
         elsewhere number has frame alive is same =
-            let taking : Taking t whole.orderly whole.once.apart new who step = taking_at granted t whole new setting items left kind happens by_held who step frame alive is in
+            let taking : Taking t whole.orderly whole.once.apart new who step = taking_at t whole new setting items left kind happens by_held who step frame alive is in
             let both : Some taking.connection ≡ Some number = sym taking.has ∙ has in
             let number_is : taking.connection ≡ number = cc in
             let at : IsFated t.machine.links s = fated_from t.machine.links s (old_so untaken place) in
@@ -360,12 +359,12 @@ module _ (granted : Draw → Bool) (t : Traced) (whole : Invariant granted t) (n
 pub ended_law : IsKeptOfAll all_end
 ended_law = record {
   at_start = λ document. resting_none (setting_of document) 1 (ends_rightly (traced_start document).entries) document.clients;
-  at_event = λ granted before after old new event note items left one inv.
+  at_event = λ before after old new event note items left one inv.
       let by : Followed old.setting old.machine event note items left new.machine = follow_happens old.setting old.machine event note items left new.machine one.follows in
       let by_held = by_held_law.at_event before after old new event note items left one inv.orderly in
       let differ = (basic_is_kept before after old new event note items left one inv.orderly).apart in
-      lost_kept old inv.orderly new one.setting items left by.kind by.happens (end_test granted old inv new one.setting items left by.kind by.happens by_held differ one.more_entries one.entries)
-      (keeps_ended granted old inv new one.setting items left by.kind by.happens by_held differ one.more_entries one.entries) inv.lost.gone
+      lost_kept old inv.orderly new one.setting items left by.kind by.happens (end_test old inv new one.setting items left by.kind by.happens by_held differ one.more_entries one.entries)
+      (keeps_ended old inv new one.setting items left by.kind by.happens by_held differ one.more_entries one.entries) inv.lost.gone
       (happens_step old.setting (at_event old.machine) items left by.kind new.machine by.happens)
       (weaker_all (ends_rightly old.entries) (ends_rightly new.entries) (courses_of old) (λ course here. subst (λ (all : List Entry). ends_rightly all course ≡ true) (sym one.entries) (ends_more old.entries one.more_entries course here)) inv.once.ended);
 }

@@ -152,7 +152,7 @@ module _ (t : Traced) (inv : Orderly t) (new : Traced) (setting : new.setting 鈮
 pub failed_law : IsKeptOfAll fail_incomplete
 failed_law = record {
   at_start = 位 document. resting_none (setting_of document) 1 (位 course. list_all (is_failed_by course) course.report.outcomes) document.clients;
-  at_event = 位 granted before after old new event note items left one inv.
+  at_event = 位 before after old new event note items left one inv.
       let by : Followed old.setting old.machine event note items left new.machine = follow_happens old.setting old.machine event note items left new.machine one.follows in
       lost_kept old inv.orderly new one.setting items left by.kind by.happens (failed_test old inv.orderly new one.setting items left by.kind by.happens)
       (keeps_failed old inv.orderly new one.setting items left by.kind by.happens) inv.lost.gone (happens_step old.setting (at_event old.machine) items left by.kind new.machine by.happens)

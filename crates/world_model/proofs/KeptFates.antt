@@ -232,7 +232,7 @@ by_step t inv apart new (Stepping who step) all =
 pub fates_law : IsKeptOfAll have_fates
 fates_law = record {
   at_start = λ document. flat_all (fated (traced_start document).machine.links) commit_sendings (courses_of (traced_start document)) ∙ resting_none (setting_of document) 1 (course_fated (traced_start document).machine.links) document.clients;
-  at_event = λ granted before after old new event note items left one inv.
+  at_event = λ before after old new event note items left one inv.
       let by : Followed old.setting old.machine event note items left new.machine = follow_happens old.setting old.machine event note items left new.machine one.follows in
       flat_all (fated new.machine.links) commit_sendings (courses_of new)
       ∙ subst (λ (setting : Setting). list_all (course_fated new.machine.links) (courses_of_clients setting 1 new.machine.clients) ≡ true) (sym one.setting)

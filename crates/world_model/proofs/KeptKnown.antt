@@ -7,7 +7,6 @@ use Rattle.std.specs.Option.{option_map_or}
 use Rattle.std.proofs.lemmas.Bool.{and_parts, and_from, or_left, not-true}
 use Rattle.std.proofs.lemmas.List.{length-map}
 use Rattle.svc_values.specs.declared.call.Call.{Call}
-use Rattle.svc_values.specs.declared.draw.Draw.{Draw}
 use Rattle.svc_values.specs.declared.entry.Ltxid.{Ltxid}
 use Rattle.svc_values.specs.declared.frame.Up.TheVariants as up
 use Rattle.svc_values.specs.declared.value.Value.{Value}
@@ -69,7 +68,7 @@ none_both test more (x ∷ xs) none =
 pub blocked_stay : (old new : Traced) (more : List Ltxid) → new.blocked ≡ old.blocked ++ more → (x : Ltxid) → holds old.blocked x ≡ true → holds new.blocked x ≡ true
 blocked_stay old new more same x here = ap (λ (ids : List Ltxid). holds ids x) same ∙ (holds_append old.blocked more x ∙ or_left (holds old.blocked x) (holds more x) here)
 
-module _ (granted : Draw → Bool) (t : Traced) (whole : Invariant granted t) (new : Traced) (setting : new.setting ≡ t.setting) (items left : List Served) (kind : Noted) (happens : Happens t.setting (at_event t.machine) items left kind new.machine)
+module _ (t : Traced) (whole : Invariant t) (new : Traced) (setting : new.setting ≡ t.setting) (items left : List Served) (kind : Noted) (happens : Happens t.setting (at_event t.machine) items left kind new.machine)
     (by_held : are_by_held new ≡ true) (unasked : go_unasked new ≡ true) (blocks : (x : Ltxid) → holds t.blocked x ≡ true → holds new.blocked x ≡ true) where
   abbrev m : Machine
   m = at_event t.machine
@@ -109,7 +108,7 @@ module _ (granted : Draw → Bool) (t : Traced) (whole : Invariant granted t) (n
 
     heard_so : are_known new before ≡ true → known_so scan_now.sendings ≡ true
     heard_so known =
-        heard_known granted t whole new setting items left kind happens by_held who step
+        heard_known t whole new setting items left kind happens by_held who step
         (before_so t whole.orderly who new.machine step are_placed whole.once.placed (λ request. refl)) settled_before known
 
     -- the sending that is made is of the next call
@@ -175,13 +174,13 @@ module _ (granted : Draw → Bool) (t : Traced) (whole : Invariant granted t) (n
 pub known_law : IsKeptOfAll all_known
 known_law = record {
   at_start = λ document. resting_none (setting_of document) 1 (are_known (traced_start document)) document.clients;
-  at_event = λ granted before after old new event note items left one inv.
+  at_event = λ before after old new event note items left one inv.
       let by : Followed old.setting old.machine event note items left new.machine = follow_happens old.setting old.machine event note items left new.machine one.follows in
       let by_held = by_held_law.at_event before after old new event note items left one inv.orderly in
-      let unasked = unasked_law.at_event granted before after old new event note items left one inv in
+      let unasked = unasked_law.at_event before after old new event note items left one inv in
       let blocks = blocked_stay old new one.more_blocked one.blocked in
-      lost_kept old inv.orderly new one.setting items left by.kind by.happens (known_test granted old inv new one.setting items left by.kind by.happens by_held unasked blocks)
-      (keeps_known granted old inv new one.setting items left by.kind by.happens by_held unasked blocks) inv.lost.gone
+      lost_kept old inv.orderly new one.setting items left by.kind by.happens (known_test old inv new one.setting items left by.kind by.happens by_held unasked blocks)
+      (keeps_known old inv new one.setting items left by.kind by.happens by_held unasked blocks) inv.lost.gone
       (happens_step old.setting (at_event old.machine) items left by.kind new.machine by.happens)
       (weaker_all (are_known old) (are_known new) (courses_of old)
       (λ course here. weaker_all (is_known old.blocked course.report.calls course.report.outcomes) (is_known new.blocked course.report.calls course.report.outcomes) (commit_sendings course)

@@ -183,7 +183,7 @@ module _ (t : Traced) (named : are_named t ≡ true) (numbers : Number t) where
 pub lost_law : EachKeeps → EntryNumbers → IsKeptOfAll are_lost
 lost_law keeps numbers = record {
   at_start = λ document. resting_none (setting_of document) 1 (lost_rightly (traced_start document)) document.clients;
-  at_event = λ granted before after old new event note items left one inv.
+  at_event = λ before after old new event note items left one inv.
       let by : Followed old.setting old.machine event note items left new.machine = follow_happens old.setting old.machine event note items left new.machine one.follows in
       let orderly : Orderly new = (orderly_is_kept keeps numbers).at_event before after old new event note items left one inv.orderly in
       let accounted : list_all (accounted_on new.machine.links) (courses_of new) ≡ true =
@@ -196,6 +196,6 @@ lost_law keeps numbers = record {
       let one_so = and_parts (stand_all course) (gone_all course && accounted_on new.machine.links course) here in
       let two = and_parts (gone_all course) (accounted_on new.machine.links course) one_so.1 in
       accounts_lost new orderly.basic.named orderly.number course one_so.0 two.0 two.1)
-      (both_all stand_all (λ course. gone_all course && accounted_on new.machine.links course) (courses_of new) (stands_law.at_event granted before after old new event note items left one inv)
-      (both_all gone_all (accounted_on new.machine.links) (courses_of new) (gone_law.at_event granted before after old new event note items left one inv) accounted));
+      (both_all stand_all (λ course. gone_all course && accounted_on new.machine.links course) (courses_of new) (stands_law.at_event before after old new event note items left one inv)
+      (both_all gone_all (accounted_on new.machine.links) (courses_of new) (gone_law.at_event before after old new event note items left one inv) accounted));
 }

@@ -130,7 +130,7 @@ module _ (t : Traced) (inv : Orderly t) (pending : are_pending t ≡ true) (new 
 pub outcomes_law : IsKeptOfAll outcomes_lost
 outcomes_law = record {
   at_start = λ document. resting_none (setting_of document) 1 (λ course. list_all (is_of_lost (traced_start document) course) course.report.outcomes) document.clients;
-  at_event = λ granted before after old new event note items left one inv.
+  at_event = λ before after old new event note items left one inv.
       let by : Followed old.setting old.machine event note items left new.machine = follow_happens old.setting old.machine event note items left new.machine one.follows in
       lost_kept old inv.orderly new one.setting items left by.kind by.happens (outcomes_test old inv.orderly inv.lost.pending new one.setting items left by.kind by.happens)
       (keeps_outcomes old inv.orderly inv.lost.pending new one.setting items left by.kind by.happens) inv.lost.gone (happens_step old.setting (at_event old.machine) items left by.kind new.machine by.happens) inv.lost.outcomes;

@@ -239,7 +239,7 @@ module _ (t : Traced) (inv : Orderly t) (apart : are_apart t ≡ true) (new : Tr
 pub outs_law : IsKeptOfAll outs_wait
 outs_law = record {
   at_start = λ document. refl;
-  at_event = λ granted before after old new event note items left one inv.
+  at_event = λ before after old new event note items left one inv.
       let by : Followed old.setting old.machine event note items left new.machine = follow_happens old.setting old.machine event note items left new.machine one.follows in
       outs_to new
       (subst (λ (setting : Setting). OutsWait new.machine.links (flat_map commit_sendings (courses_of_clients setting 1 new.machine.clients))) (sym one.setting)

@@ -146,10 +146,10 @@ over_by t unblocked numbered tells notes settled known placed stored ended fates
 pub over_law : EachKeeps → EntryNumbers → IsKeptOfAll over_ends
 over_law keeps numbers = record {
   at_start = λ document. resting_none (setting_of document) 1 (λ course. implies course.is_over (request_ends (traced_start document).entries course.report)) document.clients;
-  at_event = λ granted before after old new event note items left one inv.
+  at_event = λ before after old new event note items left one inv.
       over_by new ((unblocked_law keeps).at_event before after old new event note items left one inv.orderly) ((entries_law keeps).at_event before after old new event note items left one inv.orderly)
-      (tried_law.at_event granted before after old new event note items left one inv) (noted_law.at_event before after old new event note items left one inv.orderly inv.once.noted)
-      ((settled_law keeps numbers).at_event granted before after old new event note items left one inv) (known_law.at_event granted before after old new event note items left one inv) (placed_law.at_event granted before after old new event note items left one inv)
-      ((shown_stored_law numbers).at_event granted before after old new event note items left one inv) (ended_law.at_event granted before after old new event note items left one inv) (fates_law.at_event granted before after old new event note items left one inv)
-      ((lost_law keeps numbers).at_event granted before after old new event note items left one inv) (failed_law.at_event granted before after old new event note items left one inv);
+      (tried_law.at_event before after old new event note items left one inv) (noted_law.at_event before after old new event note items left one inv.orderly inv.once.noted)
+      ((settled_law keeps numbers).at_event before after old new event note items left one inv) (known_law.at_event before after old new event note items left one inv) (placed_law.at_event before after old new event note items left one inv)
+      ((shown_stored_law numbers).at_event before after old new event note items left one inv) (ended_law.at_event before after old new event note items left one inv) (fates_law.at_event before after old new event note items left one inv)
+      ((lost_law keeps numbers).at_event before after old new event note items left one inv) (failed_law.at_event before after old new event note items left one inv);
 }

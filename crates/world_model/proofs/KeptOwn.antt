@@ -137,7 +137,7 @@ module _ (t : Traced) (inv : Orderly t) (new : Traced) (setting : new.setting �
 pub own_law : IsKeptOfAll lose_own
 own_law = record {
   at_start = λ document. resting_none (setting_of document) 1 (loses_own (traced_start document).machine.links) document.clients;
-  at_event = λ granted before after old new event note items left one inv.
+  at_event = λ before after old new event note items left one inv.
       let by : Followed old.setting old.machine event note items left new.machine = follow_happens old.setting old.machine event note items left new.machine one.follows in
       lost_kept old inv.orderly new one.setting items left by.kind by.happens loses_own (keeps_own old inv.orderly new one.setting items left by.kind by.happens) inv.lost.gone
       (happens_step old.setting (at_event old.machine) items left by.kind new.machine by.happens) inv.shown.own;

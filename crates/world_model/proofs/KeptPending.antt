@@ -268,7 +268,7 @@ module _ (t : Traced) (inv : Orderly t) (answers : answers_stand t ≡ true) (ne
 pub pending_law : IsKeptOfAll are_pending
 pending_law = record {
   at_start = λ document. resting_none (setting_of document) 1 (one_pending (traced_start document)) document.clients;
-  at_event = λ granted before after old new event note items left one inv.
+  at_event = λ before after old new event note items left one inv.
       let by : Followed old.setting old.machine event note items left new.machine = follow_happens old.setting old.machine event note items left new.machine one.follows in
       let both : list_all (both_on old inv.orderly inv.shown.answers inv.lost.next new one.setting items left by.kind by.happens new.machine.links) (courses_of new) ≡ true =
       lost_kept old inv.orderly new one.setting items left by.kind by.happens (both_on old inv.orderly inv.shown.answers inv.lost.next new one.setting items left by.kind by.happens)
@@ -278,5 +278,5 @@ pending_law = record {
       both_all (few_on new.machine.links) (wants_lost new) (courses_of new)
       (weaker_all (λ course. accounted_on new.machine.links course && few_on new.machine.links course) (few_on new.machine.links) (courses_of new)
       (λ course here. (and_parts (accounted_on new.machine.links course) (few_on new.machine.links course) here).1) both)
-      (wanted_law.at_event granted before after old new event note items left one inv);
+      (wanted_law.at_event before after old new event note items left one inv);
 }

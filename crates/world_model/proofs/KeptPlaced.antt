@@ -132,7 +132,7 @@ by_step t inv apart new (Stepping who step) all =
 pub placed_law : IsKeptOfAll all_placed
 placed_law = record {
   at_start = λ document. resting_none (setting_of document) 1 are_placed document.clients;
-  at_event = λ granted before after old new event note items left one inv.
+  at_event = λ before after old new event note items left one inv.
       let by : Followed old.setting old.machine event note items left new.machine = follow_happens old.setting old.machine event note items left new.machine one.follows in
       subst (λ (setting : Setting). list_all are_placed (courses_of_clients setting 1 new.machine.clients) ≡ true) (sym one.setting)
       (by_step old inv.orderly inv.once.apart new (moving old.setting (at_event old.machine) items left by.kind new.machine by.happens) inv.once.placed);

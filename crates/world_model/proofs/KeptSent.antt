@@ -281,9 +281,9 @@ module _ (numbers : EntryNumbers) (before after : Seen) (old new : Traced) (even
 pub sent_law : EntryNumbers → IsKeptOfAll entries_sent
 sent_law numbers = record {
   at_start = λ document. every_all (λ entry. implies (is_of_link (traced_start document) entry) (has_sending (traced_start document) entry)) (traced_start document).entries (λ entry. refl);
-  at_event = λ granted before after old new event note items left one inv.
+  at_event = λ before after old new event note items left one inv.
       let basic = basic_is_kept before after old new event note items left one inv.orderly in
-      sent_by_one new (apart_law.at_event granted before after old new event note items left one inv)
-      (all_sent_now numbers before after old new event note items left one inv.orderly inv.once.apart inv.once.fates inv.once.entries basic.named basic.apart (outs_law.at_event granted before after old new event note items left one inv)
+      sent_by_one new (apart_law.at_event before after old new event note items left one inv)
+      (all_sent_now numbers before after old new event note items left one inv.orderly inv.once.apart inv.once.fates inv.once.entries basic.named basic.apart (outs_law.at_event before after old new event note items left one inv)
       ((ahead_law numbers).at_event before after old new event note items left one inv.orderly));
 }

@@ -8,7 +8,6 @@ use Rattle.std.proofs.lemmas.List.{length-map}
 use Rattle.commit_log.specs.Keeping.{EachKeeps}
 use Rattle.svc_values.specs.declared.answer.Answer.{Answer}
 use Rattle.svc_values.specs.declared.call.Call.{Call}
-use Rattle.svc_values.specs.declared.draw.Draw.{Draw}
 use Rattle.svc_values.specs.declared.entry.Ltxid.{Ltxid}
 use Rattle.svc_values.specs.declared.frame.Up.TheVariants as up
 use Rattle.svc_values.specs.declared.value.Value.{Value}
@@ -87,7 +86,7 @@ without_first test first list all = by (has_commit first.call) all
     by false all = all
     by true all = (and_parts (test first) (list_all test (filter commits list)) all).1
 
-module _ (granted : Draw → Bool) (t : Traced) (whole : Invariant granted t) (new : Traced) (setting : new.setting ≡ t.setting) (items left : List Served) (kind : Noted) (happens : Happens t.setting (at_event t.machine) items left kind new.machine)
+module _ (t : Traced) (whole : Invariant t) (new : Traced) (setting : new.setting ≡ t.setting) (items left : List Served) (kind : Noted) (happens : Happens t.setting (at_event t.machine) items left kind new.machine)
     (by_held : are_by_held new ≡ true) (blocks : (x : Ltxid) → holds t.blocked x ≡ true → holds new.blocked x ≡ true) (differ : sessions_differ new ≡ true)
     (fates : list_all (fated new.machine.links) (all_sendings new) ≡ true) (lost : are_lost new ≡ true) (failed : fail_incomplete new ≡ true) (placed : all_placed new ≡ true) (known : all_known new ≡ true) where
   abbrev m : Machine
@@ -327,18 +326,18 @@ module _ (granted : Draw → Bool) (t : Traced) (whole : Invariant granted t) (n
 pub settled_law : EachKeeps → EntryNumbers → IsKeptOfAll earlier_settled
 settled_law keeps numbers = record {
   at_start = λ document. resting_none (setting_of document) 1 (λ course. all_but_last (traced_start document) course.report.calls (commit_sendings course)) document.clients;
-  at_event = λ granted before after old new event note items left one inv.
+  at_event = λ before after old new event note items left one inv.
       let by : Followed old.setting old.machine event note items left new.machine = follow_happens old.setting old.machine event note items left new.machine one.follows in
       let by_held = by_held_law.at_event before after old new event note items left one inv.orderly in
       let blocks = blocked_stay old new one.more_blocked one.blocked in
       let differ = (basic_is_kept before after old new event note items left one inv.orderly).apart in
-      let fates = fates_law.at_event granted before after old new event note items left one inv in
-      let lost = (lost_law keeps numbers).at_event granted before after old new event note items left one inv in
-      let failed = failed_law.at_event granted before after old new event note items left one inv in
-      let placed = placed_law.at_event granted before after old new event note items left one inv in
-      let known = known_law.at_event granted before after old new event note items left one inv in
-      lost_kept old inv.orderly new one.setting items left by.kind by.happens (settled_test granted old inv new one.setting items left by.kind by.happens by_held blocks differ fates lost failed placed known)
-      (keeps_settled granted old inv new one.setting items left by.kind by.happens by_held blocks differ fates lost failed placed known) inv.lost.gone
+      let fates = fates_law.at_event before after old new event note items left one inv in
+      let lost = (lost_law keeps numbers).at_event before after old new event note items left one inv in
+      let failed = failed_law.at_event before after old new event note items left one inv in
+      let placed = placed_law.at_event before after old new event note items left one inv in
+      let known = known_law.at_event before after old new event note items left one inv in
+      lost_kept old inv.orderly new one.setting items left by.kind by.happens (settled_test old inv new one.setting items left by.kind by.happens by_held blocks differ fates lost failed placed known)
+      (keeps_settled old inv new one.setting items left by.kind by.happens by_held blocks differ fates lost failed placed known) inv.lost.gone
       (happens_step old.setting (at_event old.machine) items left by.kind new.machine by.happens)
       (weaker_all (λ course. all_but_last old course.report.calls (commit_sendings course)) (λ course. all_but_last new course.report.calls (commit_sendings course)) (courses_of old)
       (λ course here. all_but_more old new blocks course.report.calls (commit_sendings course) here) inv.once.settled);

@@ -7,7 +7,6 @@ use Rattle.std.proofs.lemmas.Bool.{and_parts, and_from, or_right}
 use Rattle.std.proofs.lemmas.List.{append-nil, map-append, length-map}
 use Rattle.std.proofs.lemmas.List.Folds.{list_any-append}
 use Rattle.svc_values.specs.declared.call.Call.{Call}
-use Rattle.svc_values.specs.declared.draw.Draw.{Draw}
 use Rattle.svc_values.specs.Calls.{is_lone_commit}
 use Rattle.svc_values.specs.Endings.{ends_committed}
 use Rattle.outage_schedule.specs.declared.document.Request.{Request}
@@ -76,7 +75,7 @@ any_at test (first ∷ numbers) number is here = by (first == number) refl is (�
 abbrev given_test : Traced → Course → Bool
 given_test t course = all_from (completed_sent course) t course 0 course.report.calls
 
-module _ (granted : Draw → Bool) (old new : Traced) (whole : Invariant granted old) (rows : list_all (course_rows old.machine.links) (courses_of old) ≡ true) (given : list_all (given_test old) (courses_of old) ≡ true)
+module _ (old new : Traced) (whole : Invariant old) (rows : list_all (course_rows old.machine.links) (courses_of old) ≡ true) (given : list_all (given_test old) (courses_of old) ≡ true)
     (longer : (number : ℕ) (link : Link) → link_at old.machine.links number ≡ Some link → IsLonger new.machine.links number link) where
   abbrev inv : Orderly old
   inv = whole.orderly
@@ -143,7 +142,7 @@ module _ (granted : Draw → Bool) (old new : Traced) (whole : Invariant granted
           ∙ (ap (list_any (told_by (scan_by mine step.after.steps).sendings)) outcomes_more
           ∙ (list_any-append (told_by (scan_by mine step.after.steps).sendings) before_course.report.outcomes (told_more step.input step.before.talk.phase)
           ∙ or_left (list_any (told_by (scan_by mine step.after.steps).sendings) before_course.report.outcomes) (list_any (told_by (scan_by mine step.after.steps).sendings) (told_more step.input step.before.talk.phase))
-          (completed_still granted old whole number n step here)))
+          (completed_still old whole number n step here)))
 
       so_far : all_from (completed_sent d) new d 0 before_course.report.calls ≡ true
       so_far =
@@ -173,7 +172,7 @@ module _ (granted : Draw → Bool) (old new : Traced) (whole : Invariant granted
           ∙ (ap (list_any (told_by list)) (outcomes_more ∙ ap (λ (o : List Outcome). before_course.report.outcomes ++ o) completed.told)
           ∙ (list_any-append (told_by list) before_course.report.outcomes (x ∷ [])
           ∙ or_right (list_any (told_by list) before_course.report.outcomes) (list_any (told_by list) (x ∷ []))
-          (or_left (told_by list x) false (completed_new granted old whole number n step asking completed.alive completed.input phase))))
+          (or_left (told_by list x) false (completed_new old whole number n step asking completed.alive completed.input phase))))
 
       is_now : (shown : Shown) → (first_step old.setting m inv.script.talks number n step).done.act.shown ≡ Some shown → ShownNow old.setting m inv.script.talks number n step shown
           → is_from (completed_sent d) new d (length shown_before) (slice_get d.request.calls (length shown_before)) (shown_call shown) ≡ true
@@ -182,7 +181,7 @@ module _ (granted : Draw → Bool) (old new : Traced) (whole : Invariant granted
           subst (λ (c : Option Call). is_from (completed_sent d) new d (length shown_before) c (shown_call shown) ≡ true) (sym (ap (λ (all : List Call). slice_get all (length shown_before)) request_same ∙ completed.script))
           (or_right (list_any (link_shows new d (length shown_before) completed.call (shown_call shown)) (held_in d.steps)) (is_lone_commit completed.call && (ends_committed shown.answers && completed_sent d))
           (and_from (is_lone_commit completed.call) (ends_committed shown.answers && completed_sent d)
-          (lone_now granted old whole number n step asking completed.alive completed.input phase completed.call
+          (lone_now old whole number n step asking completed.alive completed.input phase completed.call
           (ap (slice_get step.before.request.calls) (length-map shown_before shown_call) ∙ completed.script))
           (and_from (ends_committed shown.answers) (completed_sent d) (ap ends_committed completed.commits) (completed_now shown asking phase completed))))
 
@@ -239,7 +238,7 @@ from_test t course = all_from (has_completed course) t course 0 course.report.ca
 pub from_law : IsKeptOfAll are_from
 from_law = record {
   at_start = λ document. resting_none (setting_of document) 1 (from_test (traced_start document)) document.clients;
-  at_event = λ granted before after old new event note items left one inv.
+  at_event = λ before after old new event note items left one inv.
       let by : Followed old.setting old.machine event note items left new.machine = follow_happens old.setting old.machine event note items left new.machine one.follows in
       let given : list_all (given_test old) (courses_of old) ≡ true =
       weaker_all (λ course. tells_tried course && from_test old course) (given_test old) (courses_of old)
@@ -248,11 +247,11 @@ from_law = record {
       all_weaker (has_completed course) (completed_sent course) old course (tried_completed course parts.0) 0 course.report.calls parts.1) (both_all tells_tried (from_test old) (courses_of old) inv.once.tried inv.shown.shown) in
       let now : list_all (given_test new) (courses_of new) ≡ true =
       subst (λ (setting : Setting). list_all (given_test new) (courses_of_clients setting 1 new.machine.clients) ≡ true) (sym one.setting)
-      (may_give granted old new inv inv.shown.rows given
+      (may_give old new inv inv.shown.rows given
       (happens_longer old.setting (at_event old.machine) items left by.kind new.machine by.happens) (happens_step old.setting (at_event old.machine) items left by.kind new.machine by.happens)) in
       weaker_all (λ course. tells_tried course && given_test new course) (from_test new) (courses_of new)
       (λ course both.
       let parts = and_parts (tells_tried course) (given_test new course) both in
       all_weaker (completed_sent course) (has_completed course) new course (completed_tried course parts.0) 0 course.report.calls parts.1)
-      (both_all tells_tried (given_test new) (courses_of new) (tried_law.at_event granted before after old new event note items left one inv) now);
+      (both_all tells_tried (given_test new) (courses_of new) (tried_law.at_event before after old new event note items left one inv) now);
 }

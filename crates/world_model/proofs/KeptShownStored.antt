@@ -100,7 +100,7 @@ in_new test a b _ _ (There x old now is) all = in_new test a b old now is (and_p
 
 -- EVENTS ------------------------------------------------------------------------------------------
 
-module _ (granted : Draw → Bool) (t : Traced) (whole : Invariant granted t) (new : Traced) (setting : new.setting ≡ t.setting) (items left : List Served) (kind : Noted) (happens : Happens t.setting (at_event t.machine) items left kind new.machine)
+module _ (t : Traced) (whole : Invariant t) (new : Traced) (setting : new.setting ≡ t.setting) (items left : List Served) (kind : Noted) (happens : Happens t.setting (at_event t.machine) items left kind new.machine)
     (by_held : are_by_held new ≡ true) (differ : sessions_differ new ≡ true) (more : List Entry) (entries : new.entries ≡ t.entries ++ more)
     (stored : list_all (λ sending. implies (option_map_or ends_committed sending.taken false) (has_entry new.entries sending.ltxid)) (flat_map commit_sendings (courses_of_clients t.setting 1 new.machine.clients)) ≡ true) where
   abbrev m : Machine
@@ -229,18 +229,18 @@ module _ (granted : Draw → Bool) (t : Traced) (whole : Invariant granted t) (n
     -- BEHIND AN INPUT -----------------------------------------------------------------------------
 
     heard_stored : stored_from new.entries (filter commits sendings) 0 calls ≡ true → stored_from new.entries (filter commits scan_now.sendings) 0 shown ≡ true
-    heard_stored old = by shown scan_now.sendings (heard_as granted t whole new setting items left kind happens by_held who step) heard_has
+    heard_stored old = by shown scan_now.sendings (heard_as t whole new setting items left kind happens by_held who step) heard_has
       where
         length_is : length calls ≡ 0 + length calls
         length_is = omega arith
 
-        by : (list : List ShownCall) (behind : List Sending) → HeardAs granted t whole new setting items left kind happens by_held who step list behind → list_all has_its (filter commits behind) ≡ true → stored_from new.entries (filter commits behind) 0 list ≡ true
+        by : (list : List ShownCall) (behind : List Sending) → HeardAs t whole new setting items left kind happens by_held who step list behind → list_all has_its (filter commits behind) ≡ true → stored_from new.entries (filter commits behind) 0 list ≡ true
         by _ _ (Quietly none) has = old
         by _ _ (Completed shown_one asking alive heard asked committed) has =
             stored_push new.entries (filter commits sendings) 0 (length calls) calls (shown_call shown_one) length_is
             (implies_by (ends_committed shown_one.answers) (list_any (is_stored_at new.entries (length calls)) (filter commits sendings)) (λ ends.
             filter_any (is_stored_at new.entries (length calls)) commits sendings
-            (any_goes (is_unanswered asking.ltxid (length calls)) (λ s. is_stored_at new.entries (length calls) s && commits s) sent_so sendings (sent_one granted t whole who new.machine step asking true alive heard asked))))
+            (any_goes (is_unanswered asking.ltxid (length calls)) (λ s. is_stored_at new.entries (length calls) s && commits s) sent_so sendings (sent_one t whole who new.machine step asking true alive heard asked))))
             old
           where
             there : has_entry new.entries asking.ltxid ≡ true
@@ -310,15 +310,15 @@ module _ (granted : Draw → Bool) (t : Traced) (whole : Invariant granted t) (n
 pub shown_stored_law : EntryNumbers → IsKeptOfAll shown_stored
 shown_stored_law numbers = record {
   at_start = λ document. resting_none (setting_of document) 1 (λ course. stored_from (traced_start document).entries (commit_sendings course) 0 course.report.calls) document.clients;
-  at_event = λ granted before after old new event note items left one inv.
+  at_event = λ before after old new event note items left one inv.
       let by : Followed old.setting old.machine event note items left new.machine = follow_happens old.setting old.machine event note items left new.machine one.follows in
       let by_held = by_held_law.at_event before after old new event note items left one inv.orderly in
       let differ = (basic_is_kept before after old new event note items left one inv.orderly).apart in
-      let stored = (stored_law numbers).at_event granted before after old new event note items left one inv in
+      let stored = (stored_law numbers).at_event before after old new event note items left one inv in
       let stored_now = subst (λ (setting : Setting). list_all (λ sending. implies (option_map_or ends_committed sending.taken false) (has_entry new.entries sending.ltxid)) (flat_map commit_sendings (courses_of_clients setting 1 new.machine.clients)) ≡ true) one.setting stored in
-      lost_kept old inv.orderly new one.setting items left by.kind by.happens (stored_test granted old inv new one.setting items left by.kind by.happens by_held differ one.more_entries one.entries stored_now)
-      (keeps_stored granted old inv new one.setting items left by.kind by.happens by_held differ one.more_entries one.entries stored_now) inv.lost.gone
+      lost_kept old inv.orderly new one.setting items left by.kind by.happens (stored_test old inv new one.setting items left by.kind by.happens by_held differ one.more_entries one.entries stored_now)
+      (keeps_stored old inv new one.setting items left by.kind by.happens by_held differ one.more_entries one.entries stored_now) inv.lost.gone
       (happens_step old.setting (at_event old.machine) items left by.kind new.machine by.happens)
       (weaker_all (λ course. stored_from old.entries (commit_sendings course) 0 course.report.calls) (λ course. stored_from new.entries (commit_sendings course) 0 course.report.calls) (courses_of old)
-      (course_stored granted old inv new one.setting items left by.kind by.happens by_held differ one.more_entries one.entries stored_now) inv.once.shown);
+      (course_stored old inv new one.setting items left by.kind by.happens by_held differ one.more_entries one.entries stored_now) inv.once.shown);
 }

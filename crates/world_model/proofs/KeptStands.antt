@@ -17,7 +17,7 @@ use Rattle.world_model.proofs.OutcomesPass.{outcomes_pass, may_pass}
 pub stands_law : IsKeptOfAll outcomes_stand
 stands_law = record {
   at_start = λ document. resting_none (setting_of document) 1 (outcomes_pass (outcome_stands (traced_start document))) document.clients;
-  at_event = λ granted before after old new event note items left one inv.
+  at_event = λ before after old new event note items left one inv.
       let by : Followed old.setting old.machine event note items left new.machine = follow_happens old.setting old.machine event note items left new.machine one.follows in
       let still = stands_still old new one.more_entries one.more_blocked one.entries one.blocked in
       subst (λ (setting : Setting). list_all (outcomes_pass (outcome_stands new)) (courses_of_clients setting 1 new.machine.clients) ≡ true) (sym one.setting)

@@ -112,7 +112,7 @@ stored_law numbers = record {
       let t : Traced = traced_start document in
       flat_all (λ sending. implies (option_map_or ends_committed sending.taken false) (has_entry t.entries sending.ltxid)) commit_sendings (courses_of t)
       ∙ resting_none (setting_of document) 1 (λ course. list_all (λ sending. implies (option_map_or ends_committed sending.taken false) (has_entry t.entries sending.ltxid)) (commit_sendings course)) document.clients;
-  at_event = λ granted before after old new event note items left one inv.
+  at_event = λ before after old new event note items left one inv.
       all_stored new ((near_law numbers).at_event before after old new event note items left one inv.orderly) (numbered_now before after old new one.coupled_before one.coupled_after one.start inv.orderly.number.entries)
-      (fates_law.at_event granted before after old new event note items left one inv) (links_law.at_event before after old new event note items left one inv.orderly inv.once.links);
+      (fates_law.at_event before after old new event note items left one inv) (links_law.at_event before after old new event note items left one inv.orderly inv.once.links);
 }

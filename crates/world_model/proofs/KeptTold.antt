@@ -7,7 +7,6 @@ use Rattle.std.specs.Option.{option_map_or}
 use Rattle.std.proofs.lemmas.Bool.{and_parts, and_from}
 use Rattle.std.proofs.lemmas.List.{append-nil, map-append}
 use Rattle.svc_values.specs.declared.answer.Answer.{Answer}
-use Rattle.svc_values.specs.declared.draw.Draw.{Draw}
 use Rattle.svc_values.specs.declared.entry.Ltxid.{Ltxid}
 use Rattle.svc_values.specs.declared.frame.Down.TheVariants as down
 use Rattle.svc_values.specs.Calls.{has_commit}
@@ -121,7 +120,7 @@ talk_is terms doing talks busy =
     (last_talks terms doing.request.settings doing.request.calls (inputs_of doing.steps) unheard false talk (λ e. first_talks terms doing.request.settings doing.request.calls) refl talks.converses.may
     (ap (λ (one : Talk). is_idle one.phase) talks.stands ∙ busy)))
 
-module _ (granted : Draw → Bool) (t : Traced) (whole : Invariant granted t) (new : Traced) (setting : new.setting ≡ t.setting) (items left : List Served) (kind : Noted) (happens : Happens t.setting (at_event t.machine) items left kind new.machine) where
+module _ (t : Traced) (whole : Invariant t) (new : Traced) (setting : new.setting ≡ t.setting) (items left : List Served) (kind : Noted) (happens : Happens t.setting (at_event t.machine) items left kind new.machine) where
   abbrev now : Machine
   now = at_event t.machine
 
@@ -205,7 +204,7 @@ module _ (granted : Draw → Bool) (t : Traced) (whole : Invariant granted t) (n
           ap (λ (calls : List ShownCall). list_any (shows_so calls x) sendings_after) calls_are
           ∙ any_weaker (λ (s : Sending). same_ltxid s.ltxid x && (s.at == count)) (shows_so (before.report.calls ++ shown_call (completed_as asking) ∷ []) x) sendings_after shows
           (sendings_more (λ (s : Sending). same_ltxid s.ltxid x && (s.at == count)) (λ sending answers here. here)
-          (any_weaker (is_unanswered x count) (λ (s : Sending). same_ltxid s.ltxid x && (s.at == count)) (sendings_of before) sent (sent_one granted t whole who new.machine step asking true alive input phase)))
+          (any_weaker (is_unanswered x count) (λ (s : Sending). same_ltxid s.ltxid x && (s.at == count)) (sendings_of before) sent (sent_one t whole who new.machine step asking true alive input phase)))
         where
           sent : (s : Sending) → is_unanswered x count s ≡ true → (same_ltxid s.ltxid x && (s.at == count)) ≡ true
           sent s here =
@@ -241,10 +240,10 @@ module _ (granted : Draw → Bool) (t : Traced) (whole : Invariant granted t) (n
 pub told_law : IsKeptOfAll are_told
 told_law = record {
   at_start = λ document. resting_none (setting_of document) 1 (λ course. list_all (is_told course) course.report.outcomes) document.clients;
-  at_event = λ granted before after old new event note items left one inv.
+  at_event = λ before after old new event note items left one inv.
       let by : Followed old.setting old.machine event note items left new.machine = follow_happens old.setting old.machine event note items left new.machine one.follows in
-      let completed : list_all (told_test granted old inv new one.setting items left by.kind by.happens new.machine.links) (courses_of new) ≡ true =
-      lost_kept old inv.orderly new one.setting items left by.kind by.happens (told_test granted old inv new one.setting items left by.kind by.happens) (keeps_told granted old inv new one.setting items left by.kind by.happens) inv.lost.gone
+      let completed : list_all (told_test old inv new one.setting items left by.kind by.happens new.machine.links) (courses_of new) ≡ true =
+      lost_kept old inv.orderly new one.setting items left by.kind by.happens (told_test old inv new one.setting items left by.kind by.happens) (keeps_told old inv new one.setting items left by.kind by.happens) inv.lost.gone
       (happens_step old.setting (at_event old.machine) items left by.kind new.machine by.happens)
       (weaker_all (λ course. list_all (is_told course) course.report.outcomes) (λ course. list_all (completes course.report.calls (sendings_of course)) course.report.outcomes) (courses_of old)
       (λ course here. weaker_all (is_told course) (completes course.report.calls (sendings_of course)) course.report.outcomes (completed_told course) here) inv.lost.told) in
@@ -254,5 +253,5 @@ told_law = record {
       weaker_all (λ outcome. completes course.report.calls (sendings_of course) outcome && is_failed_by course outcome) (is_told course) course.report.outcomes (both_told course)
       (both_all (completes course.report.calls (sendings_of course)) (is_failed_by course) course.report.outcomes parts.0 parts.1))
       (both_all (λ course. list_all (completes course.report.calls (sendings_of course)) course.report.outcomes) (λ course. list_all (is_failed_by course) course.report.outcomes) (courses_of new) completed
-      (failed_law.at_event granted before after old new event note items left one inv));
+      (failed_law.at_event before after old new event note items left one inv));
 }

@@ -61,7 +61,7 @@ by_step t inv new by_held (Stepping who step) notes all =
 pub tried_law : IsKeptOfAll tell_tried
 tried_law = record {
   at_start = λ document. resting_none (setting_of document) 1 tells_tried document.clients;
-  at_event = λ granted before after old new event note items left one inv.
+  at_event = λ before after old new event note items left one inv.
       let by : Followed old.setting old.machine event note items left new.machine = follow_happens old.setting old.machine event note items left new.machine one.follows in
       subst (λ (setting : Setting). list_all tells_tried (courses_of_clients setting 1 new.machine.clients) ≡ true) (sym one.setting)
       (by_step old inv.orderly new (by_held_law.at_event before after old new event note items left one inv.orderly) (moving old.setting (at_event old.machine) items left by.kind new.machine by.happens) inv.once.noted inv.once.tried);
@@ -71,6 +71,6 @@ tried_law = record {
 pub lists_law : IsKeptOfAll tried_apart
 lists_law = record {
   at_start = λ document. lists_apart (courses_of (traced_start document)) (tried_law.at_start document) (apart_law.at_start document);
-  at_event = λ granted before after old new event note items left one inv.
-      lists_apart (courses_of new) (tried_law.at_event granted before after old new event note items left one inv) (apart_law.at_event granted before after old new event note items left one inv);
+  at_event = λ before after old new event note items left one inv.
+      lists_apart (courses_of new) (tried_law.at_event before after old new event note items left one inv) (apart_law.at_event before after old new event note items left one inv);
 }

@@ -118,8 +118,8 @@ module _ (t : Traced) (named : are_named t ≡ true) (apart : sessions_differ t 
 pub unasked_law : IsKeptOfAll go_unasked
 unasked_law = record {
   at_start = λ document. resting_none (setting_of document) 1 (goes_unasked (traced_start document)) document.clients;
-  at_event = λ granted before after old new event note items left one inv.
+  at_event = λ before after old new event note items left one inv.
       let basic = basic_is_kept before after old new event note items left one inv.orderly in
       let hold = hold_is_kept before after old new event note items left one inv.orderly in
-      unasked_by new basic.named basic.apart hold.held (gone_law.at_event granted before after old new event note items left one inv) (outcomes_law.at_event granted before after old new event note items left one inv);
+      unasked_by new basic.named basic.apart hold.held (gone_law.at_event before after old new event note items left one inv) (outcomes_law.at_event before after old new event note items left one inv);
 }

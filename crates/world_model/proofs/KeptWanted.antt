@@ -325,7 +325,7 @@ module _ (t : Traced) (inv : Orderly t) (next : want_next t ≡ true) (new : Tra
 pub next_law : IsKeptOfAll want_next
 next_law = record {
   at_start = λ document. resting_none (setting_of document) 1 (wants_next (traced_start document)) document.clients;
-  at_event = λ granted before after old new event note items left one inv.
+  at_event = λ before after old new event note items left one inv.
       let by : Followed old.setting old.machine event note items left new.machine = follow_happens old.setting old.machine event note items left new.machine one.follows in
       lost_kept old inv.orderly new one.setting items left by.kind by.happens (wanted_test old inv.orderly inv.lost.next new one.setting items left by.kind by.happens)
       (keeps_wanted old inv.orderly inv.lost.next new one.setting items left by.kind by.happens) inv.lost.gone (happens_step old.setting (at_event old.machine) items left by.kind new.machine by.happens) inv.lost.next;
@@ -344,6 +344,6 @@ next_wants t course here = by (wanted_in course.phase) here
 pub wanted_law : IsKeptOfAll want_lost
 wanted_law = record {
   at_start = λ document. weaker_all (wants_next (traced_start document)) (wants_lost (traced_start document)) (courses_of (traced_start document)) (next_wants (traced_start document)) (next_law.at_start document);
-  at_event = λ granted before after old new event note items left one inv.
-      weaker_all (wants_next new) (wants_lost new) (courses_of new) (next_wants new) (next_law.at_event granted before after old new event note items left one inv);
+  at_event = λ before after old new event note items left one inv.
+      weaker_all (wants_next new) (wants_lost new) (courses_of new) (next_wants new) (next_law.at_event before after old new event note items left one inv);
 }

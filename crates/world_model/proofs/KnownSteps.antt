@@ -8,7 +8,6 @@ use Rattle.std.proofs.lemmas.List.{length-map}
 use Rattle.svc_values.specs.declared.answer.Answer.{Answer}
 use Rattle.svc_values.specs.declared.answer.Answer.TheVariants as answer
 use Rattle.svc_values.specs.declared.call.Call.{Call}
-use Rattle.svc_values.specs.declared.draw.Draw.{Draw}
 use Rattle.svc_values.specs.declared.entry.Ltxid.{Ltxid}
 use Rattle.svc_values.specs.declared.frame.Down.{Down}
 use Rattle.svc_values.specs.declared.frame.Down.TheVariants as down
@@ -104,7 +103,7 @@ open_blocked t shown transaction sending here same untaken =
     by true held is here = here
     by false held is here = absurd (let none : ⊥ = cc in none)
 
-module _ (granted : Draw → Bool) (t : Traced) (whole : Invariant granted t) (new : Traced) (setting : new.setting ≡ t.setting) (items left : List Served) (kind : Noted) (happens : Happens t.setting (at_event t.machine) items left kind new.machine)
+module _ (t : Traced) (whole : Invariant t) (new : Traced) (setting : new.setting ≡ t.setting) (items left : List Served) (kind : Noted) (happens : Happens t.setting (at_event t.machine) items left kind new.machine)
     (by_held : are_by_held new ≡ true) (who : ℕ) (step : HasStepped t.setting (at_event t.machine) who new.machine) where
   abbrev m : Machine
   m = at_event t.machine
@@ -270,7 +269,7 @@ module _ (granted : Draw → Bool) (t : Traced) (whole : Invariant granted t) (n
       where
         never : one.done.act.shown ≡ None → (asking : Asking) (alive : Bool) → step.input ≡ Took (down.OutcomeIs true true) alive → step.before.talk.phase ≡ Asked asking → ⊥
         never none asking alive is asked =
-            let shows : ◌≡◌ {A = Option Shown} None (Some (completed_as asking)) = sym none ∙ shown_is granted t whole new setting items left kind happens who step asking alive is asked in
+            let shows : ◌≡◌ {A = Option Shown} None (Some (completed_as asking)) = sym none ∙ shown_is t whole new setting items left kind happens who step asking alive is asked in
             let nothing : ⊥ = cc in
             nothing
 

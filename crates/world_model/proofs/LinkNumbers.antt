@@ -81,7 +81,8 @@ commit_told commits one is commit = by (was_so commits one is)
     by (Ordinary item_is same) = opt_told one.reply (reply_of one.served.session commits one.served.item) same (reply_told one.served.session commits one.served.item commit)
     by (Halted crashed none) = let never : is_commit one.served.item ≡ false = crashed_commits one.sent.frame one.served.item crashed in absurd (let no : ⊥ = cc in no)
 
-stopped_item : (frame : Up) (one : Item) → is_item_of frame one ≡ true → is_stopped_call one ≡ false
+-- the item of a frame is none of a call that was stopped
+pub stopped_item : (frame : Up) (one : Item) → is_item_of frame one ≡ true → is_stopped_call one ≡ false
 stopped_item frame (item.CrashedCall replay call) is = by frame is
   where
     by : (other : Up) → is_item_of other (item.CrashedCall replay call) ≡ true → is_stopped_call (item.CrashedCall replay call) ≡ false

@@ -54,6 +54,17 @@ split_reps link first later ups rep =
     filter-append is_rep (map (λ (one : Handled). one.sent) link.served) link.up
     ∙ ap (λ (rest : List Sent). filter is_rep (map (λ (one : Handled). one.sent) link.served) ++ rest) (ap (filter is_rep) ups ∙ kept_one first (filter is_rep later) (is_rep first) rep)
 
+-- where each reply was taken, what is held counts what was committed
+pub all_level : (link : Link) → Known link → length link.taken ≡ length (replies_of link) → held_number link ≡ link.commits
+all_level link known all =
+    let front : is_front same_reply (link.taken ++ link.down) (replies_of link) ≡ true = (and_parts (is_front same_reply (link.taken ++ link.down) (replies_of link)) _ known.replies).0 in
+    let got : length (link.taken ++ link.down) ≤ length (replies_of link) = front_long same_reply (link.taken ++ link.down) (replies_of link) front in
+    let sum : length (link.taken ++ link.down) ≡ length link.taken + length link.down = length-append link.taken link.down in
+    let none : link.down ≡ [] = none_of link.down (omega (arith, all, got, sum)) in
+    let alone : is_front same_reply link.taken (replies_of link) ≡ true =
+    subst (λ (replies : List Reply). is_front same_reply replies (replies_of link) ≡ true) (ap (λ (d : List Reply). link.taken ++ d) none ∙ append-nil link.taken) front in
+    sym (told_same (last_told link.taken) link.held known.held) ∙ (alike_told None None link.taken (replies_of link) alone all refl ∙ (all_told 0 None link.served known.handled refl ∙ commits_all link known))
+
 module _ (link : Link) (first : Sent) (later : List Sent) (known : Known link) (ups : link.up ≡ first ∷ later) (rep : is_rep first ≡ true) where
   abbrev before : List Sent
   before = filter is_rep (map (λ (one : Handled). one.sent) link.served)
@@ -100,16 +111,6 @@ module _ (link : Link) (first : Sent) (later : List Sent) (known : Known link) (
   all_taken : length link.taken ≡ length (replies_of link)
   all_taken = omega (arith, long_sents, sum_sents, same_served, count_sent, most_sent, got_taken, sum_taken, few_taken)
 
-  none_down : link.down ≡ []
-  none_down = let zero : length link.down ≡ 0 = omega (arith, long_sents, sum_sents, same_served, count_sent, most_sent, got_taken, sum_taken, few_taken) in none_of link.down zero
-
-  level_now : held_number link ≡ link.commits
-  level_now =
-      let front : is_front same_reply link.taken (replies_of link) ≡ true =
-      subst (λ (all : List Reply). is_front same_reply all (replies_of link) ≡ true) (ap (λ (d : List Reply). link.taken ++ d) none_down ∙ append-nil link.taken) front_taken in
-      sym (told_same (last_told link.taken) link.held known.held)
-      ∙ (alike_told None None link.taken (replies_of link) front all_taken refl ∙ (all_told 0 None link.served known.handled refl ∙ commits_all link known))
-
   none_later : filter is_rep later ≡ []
   none_later = let zero : length (filter is_rep later) ≡ 0 = omega (arith, long_sents, sum_sents, same_served, count_sent, most_sent, got_taken, sum_taken, few_taken) in none_of (filter is_rep later) zero
 
@@ -119,7 +120,7 @@ module _ (link : Link) (first : Sent) (later : List Sent) (known : Known link) (
       let long : length sents ≡ length (filter is_rep link.sent) = omega (arith, long_sents, sum_sents, same_served, count_sent, most_sent, got_taken, sum_taken, few_taken) in
       let last : last_or None sents ≡ Some first = ap (λ (rest : List Sent). last_or None (before ++ first ∷ rest)) none_later ∙ last_pushed None before first in
       let z = last_alike same_sent None None sents (filter is_rep link.sent) first front_sents long (λ y never. none_first y never) last in
-      record { level = level_now; out = eq_to (count_reps link.sent) (length link.taken + 1) out; same = found_same first (out_frame link) z.0 z.1.0 z.1.1; none = none_later }
+      record { level = all_level link known all_taken; out = eq_to (count_reps link.sent) (length link.taken + 1) out; same = found_same first (out_frame link) z.0 z.1.0 z.1.1; none = none_later }
 
 -- no commit call is among frames without an answer
 pub none_commits : (later : List Sent) → filter is_rep later ≡ [] → list_any is_commit_call later ≡ false

@@ -1,83 +1,75 @@
 -- A call that an outcome shows is a lone commit: its entry is completed, and ends with the call that was sent under its identifier.
-use Rattle.std.proofs.Common.{◌≡◌, refl, sym, ap, subst, ◌∙◌, Bool, true, false, ℕ, suc, zero, ◌+◌, ◌≤◌, ◌&&◌, ◌||◌, cond, length, drop, take, List, [], ◌∷◌, map, Option, Some, None, arith}
-use Rattle.std.specs.Prelude.{◌==◌, not, slice_get, is_none, find, option_map}
-use Rattle.std.specs.List.{list_all, last_or}
+use Rattle.std.proofs.Common.{◌≡◌, refl, sym, ap, ◌∙◌, Bool, true, false, ℕ, ◌+◌, ◌&&◌, length, drop, take, List, [], ◌∷◌, ◌++◌, filter, Option, Some, None, ◌⊎◌, inl, inr}
+use Rattle.std.specs.Prelude.{◌==◌, not, slice_get, find, option_map}
+use Rattle.std.specs.List.{list_all, list_any}
 use Rattle.std.specs.Option.{option_map_or}
-use Rattle.std.proofs.lemmas.Bool.{and_parts, and_from, or_right, not-true}
+use Rattle.std.proofs.lemmas.Bool.{and_parts, and_from, or_cases, or_right, not-true}
 use Rattle.std.proofs.lemmas.List.{take-append-drop}
 use Rattle.std.proofs.lemmas.List.Folds.{list_all-append}
-use Rattle.svc_values.specs.declared.answer.Answer.{Answer}
 use Rattle.svc_values.specs.declared.call.Call.{Call}
-use Rattle.svc_values.specs.declared.draw.Draw.{Draw}
 use Rattle.svc_values.specs.declared.entry.Entry.{Entry}
 use Rattle.svc_values.specs.declared.entry.Ltxid.{Ltxid}
 use Rattle.svc_values.specs.declared.entry.Piece.{Piece}
 use Rattle.svc_values.specs.declared.frame.Down.TheVariants as down
-use Rattle.svc_values.specs.Calls.{has_commit, is_lone_commit}
-use Rattle.svc_values.specs.Endings.{ends_committed, ends_transaction}
+use Rattle.svc_values.specs.declared.frame.Up.{Up}
+use Rattle.svc_values.specs.declared.frame.Up.TheVariants as up
+use Rattle.svc_values.specs.Calls.{is_lone_commit}
 use Rattle.svc_values.specs.Identifiers.{same_ltxid, session_of}
-use Rattle.svc_values.specs.Same.{same_bool, same_call, same_calls}
-use Rattle.svc_values.specs.SameLaws.{same_bool_decides, same_call_decides, same_ltxid_decides}
-use Rattle.outage_schedule.specs.declared.request.ShownCall.{ShownCall}
+use Rattle.svc_values.specs.Same.{same_bool, same_call, same_piece}
+use Rattle.svc_values.specs.SameLaws.{same_bool_decides, same_call_decides, same_ltxid_decides, same_piece_decides}
 use Rattle.run_clauses.specs.Outcomes.{completed_of}
 use Rattle.client_model.specs.declared.input.Input.TheVariants.{Took}
 use Rattle.client_model.specs.States.{Asking}
 use Rattle.client_model.specs.Terms.{Asked}
+use Rattle.world_model.specs.Basic.{lives_rightly, none_behind}
+use Rattle.world_model.specs.Frames.{Sent}
 use Rattle.world_model.specs.Invariant.{Invariant}
 use Rattle.world_model.specs.Machines.{Machine}
-use Rattle.world_model.specs.Once.{last_lone, is_of_link, is_on_link, is_foreign, is_completed_rightly}
-use Rattle.world_model.specs.Parts.{Sending, implies, sendings_of, commit_sendings}
-use Rattle.world_model.specs.Same.{behind_ends, begins_at, calls_of, is_entry_of, is_same_sending}
-use Rattle.world_model.specs.Traced.{Traced, Course, course_now, courses_of}
-use Rattle.world_model.proofs.AllLists.{weaker_all}
+use Rattle.world_model.specs.Number.{ahead_rightly, is_ahead, is_counted, last_served_made}
+use Rattle.world_model.specs.Once.{last_lone, is_of_link, is_foreign, is_completed_rightly}
+use Rattle.world_model.specs.Parts.{held_number, implies, is_commit_call, is_commit_frame, is_out, is_rep, is_unmarked, number_of, out_frame}
+use Rattle.world_model.specs.Same.{ServedCall, are_pieces, is_piece_of, is_ran, is_stopped_piece, ran_by}
+use Rattle.world_model.specs.Sames.{owned_by}
+use Rattle.world_model.specs.Shown.{calls_on, in_row, is_call, is_scripts}
+use Rattle.world_model.specs.Traced.{Traced, Course, course_now}
+use Rattle.world_model.proofs.AllLinks.{at_link}
+use Rattle.world_model.proofs.AllLists.{filter_all, weaker_all}
 use Rattle.world_model.proofs.AskedAnswers.{told_now}
-use Rattle.world_model.proofs.AskedNear.{any_all}
-use Rattle.world_model.proofs.AskedSendings.{each_flat, unfiltered, sent_one}
+use Rattle.world_model.proofs.AskedSendings.{AskedOn, asked_on, unfiltered}
 use Rattle.world_model.proofs.ClientSteps.{HasStepped}
-use Rattle.world_model.proofs.CommittedSendings.{is_unanswered}
+use Rattle.world_model.proofs.CommittedSendings.{CommitOut, commit_out, commit_unmarked}
+use Rattle.world_model.proofs.EntryLinks.{link_ran}
 use Rattle.world_model.proofs.Happened.{at_event}
 use Rattle.world_model.proofs.KeptLost.{found_passes}
-use Rattle.world_model.proofs.KeptOnLinks.{on_from}
+use Rattle.world_model.proofs.KeptUnasked.{held_session}
+use Rattle.world_model.proofs.KnownLinks.{known_of}
 use Rattle.world_model.proofs.KnownSessions.{any_links, number_among}
+use Rattle.world_model.proofs.LastRan.{OutRan, is_call_in, out_ran}
 use Rattle.world_model.proofs.LinkLives.{implied}
 use Rattle.world_model.proofs.LostKept.{both_all}
-use Rattle.world_model.proofs.LostSteps.{before_so}
-use Rattle.world_model.proofs.Tests.{eq_from, not_both, same_session_is}
+use Rattle.world_model.proofs.Stages.{last_all}
+use Rattle.world_model.proofs.Tests.{eq_from, not_both}
 
 -- LISTS -------------------------------------------------------------------------------------------
 
--- a transaction begins at the call itself or before
-ends_few : (found index : ℕ) (shown : List ShownCall) → found ≤ index → behind_ends found index shown ≤ index + length shown
-ends_few found index [] least = omega (arith, least)
-ends_few found index (one ∷ others) least = by (ends_transaction one.answers) (λ at lower. ends_few at (index + 1) others lower)
+-- the last piece is of the call that ran last
+same_piece_call : (did : ServedCall) (piece : Piece) → is_piece_of did piece ≡ true → did.piece.call ≡ piece.call
+same_piece_call did piece is = by (or_cases (same_piece did.piece piece) (is_stopped_piece did && same_call did.piece.call piece.call) is)
   where
-    by : (test : Bool) → ((at : ℕ) → at ≤ index + 1 → behind_ends at (index + 1) others ≤ (index + 1) + length others) → behind_ends (cond test (index + 1) found) (index + 1) others ≤ index + length (one ∷ others)
-    by true again = let later : behind_ends (index + 1) (index + 1) others ≤ (index + 1) + length others = again (index + 1) (omega arith) in omega (arith, later)
-    by false again = let later : behind_ends found (index + 1) others ≤ (index + 1) + length others = again found (omega (arith, least)) in omega (arith, later)
+    by : (same_piece did.piece piece ≡ true) ⊎ ((is_stopped_piece did && same_call did.piece.call piece.call) ≡ true) → did.piece.call ≡ piece.call
+    by (inl whole) = ap (λ (one : Piece). one.call) ((same_piece_decides did.piece piece).0 whole)
+    by (inr stopped) = (same_call_decides did.piece.call piece.call).0 (and_parts (is_stopped_piece did) (same_call did.piece.call piece.call) stopped).1
 
-taken_few : (shown : List ShownCall) (index : ℕ) → length (take index shown) ≤ index
-taken_few shown zero = omega arith
-taken_few [] (suc index) = omega arith
-taken_few (one ∷ shown) (suc index) = let later : length (take index shown) ≤ index = taken_few shown index in omega (arith, later)
-
--- the last one behind its place
-last_upto : (calls : List Call) (from at : ℕ) (call : Call) (found : Option Call) → from ≤ at → slice_get calls at ≡ Some call → last_or found (drop from (take (suc at) calls)) ≡ Some call
-last_upto [] from at call found least is = absurd (let none : ⊥ = cc in none)
-last_upto (one ∷ calls) zero zero call found least is = is
-last_upto (one ∷ calls) zero (suc at) call found least is = last_upto calls zero at call (Some one) (omega arith) is
-last_upto (one ∷ calls) (suc from) zero call found least is = absurd (let none : ⊥ = omega (arith, least) in none)
-last_upto (one ∷ calls) (suc from) (suc at) call found least is = last_upto calls from at call found (omega (arith, least)) is
-
--- the last call of an entry is that of its pieces
-lone_last : (pieces : List Piece) (calls : List Call) (found : Option Call) → same_calls (map (λ (piece : Piece). piece.call) pieces) calls ≡ true → last_lone pieces ≡ true → option_map_or is_lone_commit (last_or found calls) false ≡ true
-lone_last [] calls found same lone = absurd (let none : ⊥ = cc in none)
-lone_last (piece ∷ []) [] found same lone = absurd (let none : ⊥ = cc in none)
-lone_last (piece ∷ []) (call ∷ []) found same lone =
-    let one = and_parts (same_call piece.call call) true same in subst (λ (c : Call). is_lone_commit c ≡ true) ((same_call_decides piece.call call).0 one.0) lone
-lone_last (piece ∷ []) (call ∷ next ∷ calls) found same lone = absurd (let never : false ≡ true = (and_parts (same_call piece.call call) false same).1 in let none : ⊥ = cc in none)
-lone_last (piece ∷ next ∷ pieces) [] found same lone = absurd (let none : ⊥ = cc in none)
-lone_last (piece ∷ next ∷ pieces) (call ∷ calls) found same lone =
-    lone_last (next ∷ pieces) calls (Some call) (and_parts (same_call piece.call call) (same_calls (map (λ (one : Piece). one.call) (next ∷ pieces)) calls) same).1 lone
+lone_last : (before : List ServedCall) (did : ServedCall) (pieces : List Piece) → are_pieces (before ++ did ∷ []) pieces ≡ true → last_lone pieces ≡ true → is_lone_commit did.piece.call ≡ true
+lone_last before did [] are lone = absurd (let none : ⊥ = cc in none)
+lone_last [] did (piece ∷ []) are lone = ap is_lone_commit (same_piece_call did piece (and_parts (is_piece_of did piece) true are).0) ∙ lone
+lone_last [] did (piece ∷ next ∷ pieces) are lone = absurd (let never : false ≡ true = (and_parts (is_piece_of did piece) false are).1 in let none : ⊥ = cc in none)
+lone_last (first ∷ before) did (piece ∷ []) are lone = absurd (left before (and_parts (is_piece_of first piece) (are_pieces (before ++ did ∷ []) []) are).1)
+  where
+    left : (some : List ServedCall) → are_pieces (some ++ did ∷ []) [] ≡ true → ⊥
+    left [] are = let none : ⊥ = cc in none
+    left (one ∷ some) are = let none : ⊥ = cc in none
+lone_last (first ∷ before) did (piece ∷ next ∷ pieces) are lone = lone_last before did (next ∷ pieces) (and_parts (is_piece_of first piece) (are_pieces (before ++ did ∷ []) (next ∷ pieces)) are).1 lone
 
 -- of an entry that is there, completed
 module _ (test : Entry → Bool) where
@@ -91,24 +83,14 @@ module _ (test : Entry → Bool) where
           let both = found_passes test (λ one. same_ltxid one.ltxid x) entries entry is all in
           (entry, (both.0, (both.1, sym ((same_bool_decides true entry.completed).0 here))))
 
+-- a commit is a call
+commit_call : (frame : Up) → is_commit_frame frame ≡ true → is_call frame ≡ true
+commit_call (up.Call replay kept call) is = refl
+commit_call frame is = absurd (let none : ⊥ = cc in none)
+
 -- A STEP ------------------------------------------------------------------------------------------
 
-open_entries : (granted : Draw → Bool) (t : Traced) (course : Course) (sending : Sending) → is_none sending.taken ≡ true → is_same_sending granted t course sending ≡ true
-    → list_all (λ entry. not (same_ltxid entry.ltxid sending.ltxid) || is_entry_of granted course sending entry) t.entries ≡ true
-open_entries granted t course sending none here = by sending.taken none here
-  where
-    all : Bool
-    all = list_all (λ entry. not (same_ltxid entry.ltxid sending.ltxid) || is_entry_of granted course sending entry) t.entries
-
-    by : (taken : Option (List Answer)) → is_none taken ≡ true → ((option_map_or ends_committed taken true && all) || not (option_map_or ends_committed taken true)) ≡ true → all ≡ true
-    by None none here = or_none all here
-      where
-        or_none : (test : Bool) → (test || false) ≡ true → test ≡ true
-        or_none true here = refl
-        or_none false here = here
-    by (Some answers) none here = absurd (let never : ⊥ = cc in never)
-
-module _ (granted : Draw → Bool) (t : Traced) (whole : Invariant granted t) (who : ℕ) (n : Machine) (step : HasStepped t.setting (at_event t.machine) who n) (asking : Asking) (alive : Bool)
+module _ (t : Traced) (whole : Invariant t) (who : ℕ) (n : Machine) (step : HasStepped t.setting (at_event t.machine) who n) (asking : Asking) (alive : Bool)
     (input : step.input ≡ Took (down.OutcomeIs true true) alive) (phase : step.before.talk.phase ≡ Asked asking) where
   abbrev before : Course
   before = course_now t.setting who (length step.client.past) step.before
@@ -116,71 +98,103 @@ module _ (granted : Draw → Bool) (t : Traced) (whole : Invariant granted t) (w
   abbrev count : ℕ
   count = length before.report.calls
 
-  -- all its entries are of the sending, and its identifier is one of its connection's session
-  abbrev is_known_sending : Sending → Bool
-  is_known_sending s = is_same_sending granted t before s && is_on_link t s
+  abbrev x : Ltxid
+  x = asking.ltxid
 
-  known : list_all (λ (s : Sending). implies (has_commit s.call) (is_known_sending s)) (sendings_of before) ≡ true
-  known =
-      unfiltered is_known_sending (λ (s : Sending). has_commit s.call) (sendings_of before)
-      (both_all (is_same_sending granted t before) (is_on_link t) (commit_sendings before)
-      (before_so t whole.orderly who n step (λ course. list_all (is_same_sending granted t course) (commit_sendings course)) whole.same.entries (λ request. refl))
-      (before_so t whole.orderly who n step (λ course. list_all (is_on_link t) (commit_sendings course)) (each_flat (is_on_link t) commit_sendings (courses_of t) whole.once.links) (λ request. refl)))
+  on : AskedOn t whole who n step asking true alive input phase
+  on = asked_on t whole who n step asking true alive input phase
 
-  -- an entry of a connection's session is one of this run
-  run_entry : (sending : Sending) → is_on_link t sending ≡ true → list_all (λ entry. implies (same_ltxid entry.ltxid sending.ltxid) (is_completed_rightly entry)) t.entries ≡ true
-  run_entry sending on_so =
-      ap (list_all (λ entry. implies (same_ltxid entry.ltxid sending.ltxid) (is_completed_rightly entry))) (sym (take-append-drop t.image t.entries))
-      ∙ (list_all-append (λ (entry : Entry). implies (same_ltxid entry.ltxid sending.ltxid) (is_completed_rightly entry)) (take t.image t.entries) (drop t.image t.entries)
-      ∙ and_from (list_all (λ entry. implies (same_ltxid entry.ltxid sending.ltxid) (is_completed_rightly entry)) (take t.image t.entries)) (list_all (λ entry. implies (same_ltxid entry.ltxid sending.ltxid) (is_completed_rightly entry)) (drop t.image t.entries))
-      (weaker_all (is_foreign t) (λ entry. implies (same_ltxid entry.ltxid sending.ltxid) (is_completed_rightly entry)) (take t.image t.entries) outside parts.0)
-      (weaker_all is_completed_rightly (λ entry. implies (same_ltxid entry.ltxid sending.ltxid) (is_completed_rightly entry)) (drop t.image t.entries)
-      (λ entry here. or_right (not (same_ltxid entry.ltxid sending.ltxid)) (is_completed_rightly entry) here) parts.1))
+  named : on.link.session ≡ Some (session_of x)
+  named = held_session t whole.orderly.basic.named whole.orderly.basic.apart on.number on.link x on.there on.held
+
+  ahead : ahead_rightly t on.link ≡ true
+  ahead = at_link (ahead_rightly t) t.machine.links on.number on.link whole.orderly.number.ahead on.there
+
+  -- an entry of the connection's session is one of this run
+  run_entry : list_all (λ entry. implies (same_ltxid entry.ltxid x) (is_completed_rightly entry)) t.entries ≡ true
+  run_entry =
+      ap (list_all (λ entry. implies (same_ltxid entry.ltxid x) (is_completed_rightly entry))) (sym (take-append-drop t.image t.entries))
+      ∙ (list_all-append (λ (entry : Entry). implies (same_ltxid entry.ltxid x) (is_completed_rightly entry)) (take t.image t.entries) (drop t.image t.entries)
+      ∙ and_from (list_all (λ entry. implies (same_ltxid entry.ltxid x) (is_completed_rightly entry)) (take t.image t.entries)) (list_all (λ entry. implies (same_ltxid entry.ltxid x) (is_completed_rightly entry)) (drop t.image t.entries))
+      (weaker_all (is_foreign t) (λ entry. implies (same_ltxid entry.ltxid x) (is_completed_rightly entry)) (take t.image t.entries) outside parts.0)
+      (weaker_all is_completed_rightly (λ entry. implies (same_ltxid entry.ltxid x) (is_completed_rightly entry)) (drop t.image t.entries)
+      (λ entry here. or_right (not (same_ltxid entry.ltxid x)) (is_completed_rightly entry) here) parts.1))
     where
       parts : (list_all (is_foreign t) (take t.image t.entries) ≡ true) × (list_all is_completed_rightly (drop t.image t.entries) ≡ true)
       parts = and_parts (list_all (is_foreign t) (take t.image t.entries)) (list_all is_completed_rightly (drop t.image t.entries)) whole.once.completed
 
-      outside : (entry : Entry) → is_foreign t entry ≡ true → implies (same_ltxid entry.ltxid sending.ltxid) (is_completed_rightly entry) ≡ true
-      outside entry foreign = by (same_ltxid entry.ltxid sending.ltxid) refl
+      outside : (entry : Entry) → is_foreign t entry ≡ true → implies (same_ltxid entry.ltxid x) (is_completed_rightly entry) ≡ true
+      outside entry foreign = by (same_ltxid entry.ltxid x) refl
         where
-          by : (same : Bool) → same_ltxid entry.ltxid sending.ltxid ≡ same → implies same (is_completed_rightly entry) ≡ true
+          by : (same : Bool) → same_ltxid entry.ltxid x ≡ same → implies same (is_completed_rightly entry) ≡ true
           by false is = refl
           by true is =
-              let on = on_from t sending on_so in
-              let session : session_of entry.ltxid ≡ on.session = ap session_of ((same_ltxid_decides entry.ltxid sending.ltxid).0 is) ∙ same_session_is (session_of sending.ltxid) on.session on.of in
+              let session : session_of entry.ltxid ≡ session_of x = ap session_of ((same_ltxid_decides entry.ltxid x).0 is) in
               let here : is_of_link t entry ≡ true =
-              any_links (session_of entry.ltxid) t.machine.links ∙ number_among t.machine.links sending.connection on.link (session_of entry.ltxid) on.there (on.has ∙ ap Some (sym session)) in
+              any_links (session_of entry.ltxid) t.machine.links ∙ number_among t.machine.links on.number on.link (session_of entry.ltxid) on.there (named ∙ ap Some (sym session)) in
               absurd (not_both (is_of_link t entry) here (not-true (is_of_link t entry) foreign))
 
-  pub lone_now : (call : Call) → slice_get step.before.request.calls count ≡ Some call → is_lone_commit call ≡ true
-  lone_now call is =
-      let found = any_all (is_unanswered asking.ltxid count) (λ (s : Sending). implies (has_commit s.call) (is_known_sending s)) (sendings_of before) (sent_one granted t whole who n step asking true alive input phase) known in
-      by found.0 found.1.0 found.1.1
-    where
-      entry_so : (sending : Sending) (entry : Entry) → sending.at ≡ count → is_entry_of granted before sending entry ≡ true → last_lone entry.pieces ≡ true → is_lone_commit call ≡ true
-      entry_so sending entry at of lone =
-          let from : ℕ = begins_at before.report.calls sending.at in
-          let calls : same_calls (calls_of entry) (drop from (take (sending.at + 1) step.before.request.calls)) ≡ true = (and_parts (same_calls (calls_of entry) (drop from (take (sending.at + 1) step.before.request.calls))) _ of).0 in
-          let next : sending.at + 1 ≡ suc sending.at = omega arith in
-          let one : from ≤ 0 + length (take sending.at before.report.calls) = ends_few 0 0 (take sending.at before.report.calls) (omega arith) in
-          let two : length (take sending.at before.report.calls) ≤ sending.at = taken_few before.report.calls sending.at in
-          let last : last_or None (drop from (take (sending.at + 1) step.before.request.calls)) ≡ Some call =
-          ap (λ (k : ℕ). last_or None (drop from (take k step.before.request.calls))) next ∙ last_upto step.before.request.calls from sending.at call None (omega (arith, one, two)) (ap (slice_get step.before.request.calls) at ∙ is) in
-          sym (ap (λ (found : Option Call). option_map_or is_lone_commit found false) last) ∙ lone_last entry.pieces (drop from (take (sending.at + 1) step.before.request.calls)) None calls lone
+  -- what ran last under the identifier is what is out
+  ran : OutRan on.link
+  ran =
+      out_ran on.link (known_of t whole.orderly on.number on.link on.there)
+      (and_parts (none_behind on.link.served) _ (at_link lives_rightly t.machine.links on.number on.link whole.orderly.basic.life on.there)).0 (number_of t.entries on.link)
+      (eq_from (number_of t.entries on.link) (held_number on.link + 1) on.ahead) (at_link (is_counted t) t.machine.links on.number on.link whole.orderly.number.counted on.there)
+      (and_parts (last_served_made on.link) (not (list_any is_commit_call on.link.up))
+      (and_parts (is_out on.link) _ (implied (is_ahead t on.link) (is_out on.link && (last_served_made on.link && not (list_any is_commit_call on.link.up))) on.ahead ahead)).1).0
 
-      by : (sending : Sending) → is_unanswered asking.ltxid count sending ≡ true → implies (has_commit sending.call) (is_known_sending sending) ≡ true → is_lone_commit call ≡ true
-      by sending here so =
-          let one = and_parts (same_ltxid sending.ltxid asking.ltxid) ((sending.at == count) && (has_commit sending.call && is_none sending.taken)) here in
-          let two = and_parts (sending.at == count) (has_commit sending.call && is_none sending.taken) one.1 in
-          let three = and_parts (has_commit sending.call) (is_none sending.taken) two.1 in
-          let mine = and_parts (is_same_sending granted t before sending) (is_on_link t sending) (implied (has_commit sending.call) (is_known_sending sending) three.0 so) in
-          let equal : sending.ltxid ≡ asking.ltxid = (same_ltxid_decides sending.ltxid asking.ltxid).0 one.0 in
-          let all : list_all (λ entry. not (same_ltxid entry.ltxid sending.ltxid) || is_entry_of granted before sending entry) t.entries ≡ true = open_entries granted t before sending three.1 mine.0 in
-          let found = completed_passes (λ entry. implies (same_ltxid entry.ltxid sending.ltxid) (is_entry_of granted before sending entry) && implies (same_ltxid entry.ltxid sending.ltxid) (is_completed_rightly entry)) t.entries asking.ltxid
-          (both_all (λ entry. implies (same_ltxid entry.ltxid sending.ltxid) (is_entry_of granted before sending entry)) (λ entry. implies (same_ltxid entry.ltxid sending.ltxid) (is_completed_rightly entry)) t.entries all (run_entry sending mine.1))
-          (told_now t whole.orderly whole.shown.answers who n step asking true true alive input phase) in
-          let parts = and_parts (implies (same_ltxid found.0.ltxid sending.ltxid) (is_entry_of granted before sending found.0)) (implies (same_ltxid found.0.ltxid sending.ltxid) (is_completed_rightly found.0)) found.1.0 in
-          let its : same_ltxid found.0.ltxid sending.ltxid ≡ true = (same_ltxid_decides found.0.ltxid sending.ltxid).1 ((same_ltxid_decides found.0.ltxid asking.ltxid).0 found.1.1.0 ∙ sym equal) in
-          let completed : is_completed_rightly found.0 ≡ true = implied (same_ltxid found.0.ltxid sending.ltxid) (is_completed_rightly found.0) its parts.1 in
-          entry_so sending found.0 (eq_from sending.at count two.0) (implied (same_ltxid found.0.ltxid sending.ltxid) (is_entry_of granted before sending found.0) its parts.0)
-          (sym ((same_bool_decides found.0.completed (last_lone found.0.pieces)).0 completed) ∙ found.1.1.1)
+  -- and is a lone commit
+  ran_lone : is_lone_commit ran.did.piece.call ≡ true
+  ran_lone =
+      let found = completed_passes (λ entry. is_ran t entry && implies (same_ltxid entry.ltxid x) (is_completed_rightly entry)) t.entries x
+      (both_all (is_ran t) (λ entry. implies (same_ltxid entry.ltxid x) (is_completed_rightly entry)) t.entries whole.ran run_entry) (told_now t whole.orderly whole.shown.answers who n step asking true true alive input phase) in
+      let parts = and_parts (is_ran t found.0) (implies (same_ltxid found.0.ltxid x) (is_completed_rightly found.0)) found.1.0 in
+      let its : found.0.ltxid ≡ x = (same_ltxid_decides found.0.ltxid x).0 found.1.1.0 in
+      let rightly : is_completed_rightly found.0 ≡ true = implied (same_ltxid found.0.ltxid x) (is_completed_rightly found.0) found.1.1.0 parts.1 in
+      let pieces = link_ran t whole.orderly.basic.apart found.0 on.number on.link on.there (named ∙ ap (λ (y : Ltxid). Some (session_of y)) (sym its)) parts.0 in
+      let number : found.0.ltxid.number ≡ held_number on.link = ap (λ (y : Ltxid). y.number) its ∙ sym (ap (λ (held : Option Ltxid). option_map_or (λ (y : Ltxid). y.number) held 0) on.held) in
+      let over : slice_get (ran_by on.link).over found.0.ltxid.number ≡ Some (ran.before ++ ran.did ∷ []) = ap (slice_get (ran_by on.link).over) number ∙ ran.over in
+      lone_last ran.before ran.did found.0.pieces (sym (ap (λ (some : Option (List ServedCall)). option_map_or (λ dids. are_pieces dids found.0.pieces) some false) over) ∙ pieces)
+      (sym ((same_bool_decides found.0.completed (last_lone found.0.pieces)).0 rightly) ∙ found.1.1.1)
+
+  pub lone_now : (call : Call) → slice_get step.before.request.calls count ≡ Some call → is_lone_commit call ≡ true
+  lone_now call is = ap is_lone_commit (sym same) ∙ ran_lone
+    where
+      out : CommitOut on.link
+      out = commit_out t on.link on.ahead ahead
+
+      at : out.sent.call ≡ count
+      at =
+          eq_from out.sent.call count
+          (implied (is_unmarked out.sent) (out.sent.call == count) (commit_unmarked out.sent.frame out.commits)
+          (sym (ap (λ (found : Option Sent). option_map_or (λ sent. implies (is_unmarked sent) (sent.call == count)) found true) out.is)
+          ∙ implied (is_out on.link) (option_map_or (λ sent. implies (is_unmarked sent) (sent.call == count)) (out_frame on.link) true)
+          (and_parts (is_out on.link) _ (implied (is_ahead t on.link) (is_out on.link && (last_served_made on.link && not (list_any is_commit_call on.link.up))) on.ahead ahead)).0 on.next))
+
+      mine : owned_by before.owner out.sent ≡ true
+      mine = sym (ap (λ (found : Option Sent). option_map_or (owned_by before.owner) found false) out.is) ∙ on.own
+
+      -- it is of the script's call
+      scripts : list_all (λ (sent : Sent). is_scripts before sent sent.frame) (calls_on before on.link) ≡ true
+      scripts = (and_parts (list_all (λ (sent : Sent). is_scripts before sent sent.frame) (calls_on before on.link)) _ (and_parts (in_row _ (calls_on before on.link)) _ on.row).1).0
+
+      script : is_scripts before out.sent out.sent.frame ≡ true
+      script =
+          implied (owned_by before.owner out.sent && is_call out.sent.frame) (is_scripts before out.sent out.sent.frame)
+          (and_from (owned_by before.owner out.sent) (is_call out.sent.frame) mine (commit_call out.sent.frame out.commits))
+          (last_all (λ (sent : Sent). implies (owned_by before.owner sent && is_call sent.frame) (is_scripts before sent sent.frame)) (filter is_rep on.link.sent) out.sent out.is
+          (filter_all (λ (sent : Sent). implies (owned_by before.owner sent && is_call sent.frame) (is_scripts before sent sent.frame)) is_rep on.link.sent
+          (unfiltered (λ (sent : Sent). is_scripts before sent sent.frame) (λ (sent : Sent). owned_by before.owner sent && is_call sent.frame) on.link.sent scripts)))
+
+      -- and so is what ran
+      called : is_call_in ran.did.piece.call out.sent.frame ≡ true
+      called = sym (ap (λ (found : Option Sent). option_map_or (λ (sent : Sent). is_call_in ran.did.piece.call sent.frame) found false) out.is) ∙ ran.called
+
+      same : ran.did.piece.call ≡ call
+      same = by out.sent.frame called script
+        where
+          by : (frame : Up) → is_call_in ran.did.piece.call frame ≡ true → is_scripts before out.sent frame ≡ true → ran.did.piece.call ≡ call
+          by (up.Call replay kept sent) called script =
+              let here : slice_get before.request.calls out.sent.call ≡ Some call = ap (slice_get before.request.calls) at ∙ is in
+              (same_call_decides ran.did.piece.call sent).0 called ∙ (same_call_decides sent call).0 (sym (ap (λ (found : Option Call). option_map_or (same_call sent) found false) here) ∙ script)
+          by frame called script = absurd (let none : ⊥ = cc in none)

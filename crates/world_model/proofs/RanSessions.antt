@@ -198,7 +198,7 @@ ending_same (Some answer.RolledBack) = refl
 ending_same (Some answer.CommitInReplay) = refl
 ending_same (Some other) = refl
 
-over_same : (ran : Ran) (called : Call) → (with_call ran called).over ≡ ran.over
+pub over_same : (ran : Ran) (called : Call) → (with_call ran called).over ≡ ran.over
 over_same ran (call.Set name x) = refl
 over_same ran called = refl
 

@@ -1,6 +1,5 @@
 -- The invariant of a run.
-use Rattle.std.specs.Prelude.{Bool}
-use Rattle.svc_values.specs.declared.draw.Draw.{Draw}
+use Rattle.std.specs.Prelude.{IsTrue}
 use Rattle.world_model.specs.Traced.{Traced}
 use Rattle.world_model.specs.Ready.{IsOfCalls}
 use Rattle.world_model.specs.Basic.{Basic}
@@ -11,7 +10,7 @@ use Rattle.world_model.specs.Number.{Number}
 use Rattle.world_model.specs.Shown.{Shown}
 use Rattle.world_model.specs.Lost.{Lost}
 use Rattle.world_model.specs.Once.{Once}
-use Rattle.world_model.specs.Same.{Same}
+use Rattle.world_model.specs.Same.{entries_ran}
 
 -- What stands on itself: it is kept with nothing of the rest, and is all that serving and sending need.
 pub record Orderly (t : Traced) : Type 0 where
@@ -22,9 +21,11 @@ pub record Orderly (t : Traced) : Type 0 where
   pub script : Script t
   pub number : Number t
 
-pub record Invariant (granted : Draw → Bool) (t : Traced) : Type 0 where
+-- What is kept as a whole: behind an event each part needs the others before it.
+pub record Invariant (t : Traced) : Type 0 where
   pub orderly : Orderly t
   pub shown : Shown t
   pub lost : Lost t
   pub once : Once t
-  pub same : Same granted t
+  -- each entry has the pieces of what its session ran
+  pub ran : IsTrue (entries_ran t)

@@ -1,6 +1,5 @@
 -- What of the invariant is kept: it holds of the start, and of the state behind each event if what is orderly held before.
 use Rattle.std.specs.Prelude.{Bool, IsTrue, List}
-use Rattle.svc_values.specs.declared.draw.Draw.{Draw}
 use Rattle.server_model.specs.Seen.{Seen}
 use Rattle.outage_schedule.specs.declared.document.Document.{Document}
 use Rattle.outage_schedule.specs.declared.event.Event.{Event}
@@ -80,8 +79,8 @@ pub record StaysTrue (test : Traced → Bool) : Type 0 where
 -- a test of the state, kept where the whole invariant held before
 pub record IsKeptOfAll (test : Traced → Bool) : Type 0 where
   pub at_start : (document : Document) → IsTrue (test (traced_start document))
-  pub at_event : (granted : Draw → Bool) (before after : Seen) (old new : Traced) (event : Event) (note : Note) (items left : List Served)
-      → OneEvent before old event note items left after new → Invariant granted old → IsTrue (test new)
+  pub at_event : (before after : Seen) (old new : Traced) (event : Event) (note : Note) (items left : List Served)
+      → OneEvent before old event note items left after new → Invariant old → IsTrue (test new)
 
 -- the record of identifiers and entries as a whole
 abbrev pub NumberBegins : Type 0

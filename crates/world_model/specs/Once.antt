@@ -344,5 +344,3 @@ pub record Once (t : Traced) : Type 0 where
   pub tried : IsTrue (tell_tried t)
   pub lists : IsTrue (tried_apart t)
   pub copies : IsTrue (copies_once t)
-  pub owner : IsTrue (owned t)
-  pub foreign : IsTrue (none_foreign t)

@@ -233,8 +233,8 @@ over_same granted t = list_all (λ course. implies course.is_over (is_same_reque
 abbrev pub granted_by : Document → Draw → Bool
 granted_by document = grants (service_base document)
 
+-- These stand beside the invariant, which has of entries that their sessions ran them.
 pub record Same (granted : Draw → Bool) (t : Traced) : Type 0 where
-  pub ran : IsTrue (entries_ran t)
   pub opens : IsTrue (opens_known granted t)
   pub entries : IsTrue (entries_same granted t)
   pub over : IsTrue (over_same granted t)
