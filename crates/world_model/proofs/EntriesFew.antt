@@ -1,7 +1,7 @@
 -- No two entries have one identifier, and those of one transaction of a request are at most one.
-use Rattle.std.proofs.Common.{◌≡◌, refl, sym, ap, subst, ◌∙◌, Bool, true, false, ℕ, suc, zero, ◌+◌, ◌≤◌, ◌&&◌, ◌||◌, cond, length, List, [], ◌∷◌, map, ◌⊎◌, inl, inr, if◌then◌else◌, arith}
+use Rattle.std.proofs.Common.{◌≡◌, refl, sym, ap, subst, ◌∙◌, Bool, true, false, ℕ, suc, zero, ◌+◌, ◌≤◌, ◌&&◌, ◌||◌, cond, length, List, [], ◌∷◌, ◌⊎◌, inl, inr, if◌then◌else◌, arith}
 use Rattle.std.specs.Prelude.{◌==◌, not, nat_le}
-use Rattle.std.specs.Cmp.Lexicographic.{pointwise, pointwise_decides}
+use Rattle.std.specs.Cmp.Lexicographic.{pointwise}
 use Rattle.std.specs.List.{list_all, list_any}
 use Rattle.std.proofs.lemmas.Bool.{and_parts, and_from, or_cases, or_left, or_right, not-true, not_from_false}
 use Rattle.commit_log.specs.Keeping.{EachKeeps}
@@ -13,11 +13,11 @@ use Rattle.outage_schedule.specs.declared.request.ShownCall.{ShownCall}
 use Rattle.client_model.specs.Tried.{Trying, trying_of, tried_in, tried_upto}
 use Rattle.run_clauses.specs.EntryEvents.{entries_of}
 use Rattle.run_clauses.specs.Once.{entries_differ, entries_in}
-use Rattle.run_clauses.specs.Tried.{holds, tried_of}
+use Rattle.run_clauses.specs.Tried.{holds}
 use Rattle.server_model.specs.Laws.{EntryNumbers}
 use Rattle.world_model.specs.KeptLaws.{IsKeptOfAll}
 use Rattle.world_model.specs.Number.{entries_numbered, none_blocked, numbered_after}
-use Rattle.world_model.specs.Once.{all_but_last, earlier_settled, is_noted, is_open_or_committed, is_settled, later_settled, note_sendings, notes_sendings, reverse_onto, tell_tried, tells_tried, transaction_at, transactions_have_one, tried_one}
+use Rattle.world_model.specs.Once.{all_but_last, earlier_settled, is_noted, is_open_or_committed, is_settled, later_settled, note_sendings, notes_sendings, tell_tried, tells_tried, transaction_at, transactions_have_one}
 use Rattle.world_model.specs.Parts.{Sending, commit_sendings, scan_of, sendings_of}
 use Rattle.world_model.specs.Reached.{traced_start}
 use Rattle.world_model.specs.Settings.{setting_of}
@@ -37,7 +37,7 @@ use Rattle.world_model.proofs.NotedParts.{lists_told}
 use Rattle.world_model.proofs.Numbered.{entries_cons, numbered_parts}
 use Rattle.world_model.proofs.SettledLists.{is_later, later_all}
 use Rattle.world_model.proofs.Tests.{eq_from, le_to, not_both, session_self}
-use Rattle.world_model.proofs.TriedApart.{false_by, is_under, tried_sent, under_at}
+use Rattle.world_model.proofs.TriedApart.{false_by, is_under, lists_of, tried_sent, under_at}
 
 not_to : (test : Bool) → (test ≡ true → ⊥) → not test ≡ true
 not_to test never = not_from_false test (false_by test never)
@@ -171,7 +171,7 @@ module _ (course : Course) (tells : tells_tried course ≡ true) (notes : notes_
   -- its lists are those that it noted, transaction by transaction
   pub lists_are : course.report.tried ≡ tried_upto (suc trying.over) 0 trying.sendings
   lists_are =
-      (pointwise_decides (pointwise_decides same_ltxid_decides) course.report.tried (tried_of calls (map tried_one (reverse_onto (sendings_of course) [])))).0 tells
+      lists_of course tells
       ∙ sym (lists_told calls trying.sendings (sendings_of course) agrees.1 trying.over (eq_from trying.over (transaction_at calls (length calls)) agrees.0))
 
   -- what stands in one is of its sendings

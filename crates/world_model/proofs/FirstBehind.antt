@@ -153,7 +153,7 @@ pub none_any : {A : Type 0} (test : A → Bool) (all : List A) → NoneBehind te
 none_any test [] none = refl
 none_any test (x ∷ xs) none = none_or (test x) (list_any test xs) (none 0 x (omega arith) refl) (none_any test xs (λ other one least at. none (suc other) one (omega arith) at))
 
-at_any : {A : Type 0} (test : A → Bool) (xs : List A) (index : ℕ) (x : A) → slice_get xs index ≡ Some x → test x ≡ true → list_any test xs ≡ true
+pub at_any : {A : Type 0} (test : A → Bool) (xs : List A) (index : ℕ) (x : A) → slice_get xs index ≡ Some x → test x ≡ true → list_any test xs ≡ true
 at_any test [] index x at meets = absurd (let none : ⊥ = cc in none)
 at_any test (y ∷ ys) zero x at meets = let same : y ≡ x = cc in or_left (test y) (list_any test ys) (ap test same ∙ meets)
 at_any test (y ∷ ys) (suc index) x at meets = or_right (test y) (list_any test ys) (at_any test ys index x at meets)

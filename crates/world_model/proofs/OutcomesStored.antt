@@ -112,7 +112,7 @@ module _ (test : RequestReport → Bool) (setting : Setting) where
       and_from (test one.report) (list_all test (reports_of past)) parts.0 (over_pass client (place + 1) past now parts.1)
 
   -- each report passes where each request does
-  transcripts_pass : (number : ℕ) (clients : List Client) → list_all (λ course. test course.report) (courses_of_clients setting number clients) ≡ true → list_all (list_all test) (map (λ client. reports_of client.past) clients) ≡ true
+  pub transcripts_pass : (number : ℕ) (clients : List Client) → list_all (λ course. test course.report) (courses_of_clients setting number clients) ≡ true → list_all (list_all test) (map (λ client. reports_of client.past) clients) ≡ true
   transcripts_pass number [] all = refl
   transcripts_pass number (client ∷ clients) all =
       let parts = and_parts (list_all (λ (course : Course). test course.report) (courses_from setting number 0 client.past client.now)) (list_all (λ (course : Course). test course.report) (courses_of_clients setting (number + 1) clients))

@@ -157,6 +157,10 @@ pairs_front (s ∷ front) back pairs =
 
 -- ONE REQUEST -------------------------------------------------------------------------------------
 
+-- its lists are those of its sendings
+pub lists_of : (course : Course) → tells_tried course ≡ true → course.report.tried ≡ tried_of course.report.calls (map tried_one (reverse_onto (sendings_of course) []))
+lists_of course tells = (pointwise_decides (pointwise_decides same_ltxid_decides) course.report.tried (tried_of course.report.calls (map tried_one (reverse_onto (sendings_of course) [])))).0 tells
+
 module _ (x : Ltxid) (is_of : ℕ → Bool) where
   abbrev pub may_at : Tried → Bool
   may_at one = is_of one.at && may_have_committed one
@@ -280,11 +284,8 @@ one_more course courses tells pairs rest = record {
     halves : (each_pair share (commit_sendings course) ≡ true) × (each_pair share (flat_map commit_sendings courses) ≡ true)
     halves = pairs_front (commit_sendings course) (flat_map commit_sendings courses) pairs
 
-    lists : course.report.tried ≡ tried_of course.report.calls (map tried_one (reverse_onto (sendings_of course) []))
-    lists = (pointwise_decides (pointwise_decides same_ltxid_decides) course.report.tried (tried_of course.report.calls (map tried_one (reverse_onto (sendings_of course) [])))).0 tells
-
     placed : FromPlace (sendings_of course) halves.0 0 (ids_tried course.report)
-    placed = subst (λ (all : List (List Ltxid)). FromPlace (sendings_of course) halves.0 0 (flat_map (λ ids. ids) all)) (sym lists) (from_place (sendings_of course) halves.0 0 (txns course.report.calls))
+    placed = subst (λ (all : List (List Ltxid)). FromPlace (sendings_of course) halves.0 0 (flat_map (λ ids. ids) all)) (sym (lists_of course tells)) (from_place (sendings_of course) halves.0 0 (txns course.report.calls))
 
     mine_differ : ids_differ (ids_tried course.report) ≡ true
     mine_differ = placed.differ

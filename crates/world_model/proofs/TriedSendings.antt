@@ -1,7 +1,6 @@
 -- What a request has as tried are the identifiers of its sendings with a commit that are open or committed, and of no others.
 use Rattle.std.proofs.Common.{◌≡◌, refl, sym, subst, ◌∙◌, Bool, true, false, ℕ, ◌+◌, ◌&&◌, ◌||◌, filter, fold, length, map, List, [], ◌∷◌, ◌++◌, ◌⊎◌, inl, inr, if◌then◌else◌, arith}
 use Rattle.std.specs.Prelude.{nat_le, nat_lt}
-use Rattle.std.specs.Cmp.Lexicographic.{pointwise_decides}
 use Rattle.std.specs.List.{list_any}
 use Rattle.std.proofs.lemmas.Bool.{and_parts, and_from, or_cases, or_left, or_right}
 use Rattle.std.proofs.lemmas.Bool.Decides.{nat_tests}
@@ -11,14 +10,14 @@ use Rattle.svc_values.specs.Identifiers.{same_ltxid}
 use Rattle.svc_values.specs.SameLaws.{same_ltxid_decides}
 use Rattle.outage_schedule.specs.declared.request.ShownCall.{ShownCall}
 use Rattle.run_clauses.specs.Transactions.{txns}
-use Rattle.run_clauses.specs.Tried.{Sending as Tried, holds, may_have_committed, tried_among, tried_from, tried_of, with_new}
+use Rattle.run_clauses.specs.Tried.{Sending as Tried, holds, may_have_committed, tried_among, tried_from, with_new}
 use Rattle.world_model.specs.Once.{is_open_or_committed, reverse_onto, tells_tried, tried_one}
 use Rattle.world_model.specs.Parts.{Sending, commit_sendings, sendings_of}
 use Rattle.world_model.specs.Traced.{Course}
 use Rattle.world_model.proofs.CommittedSendings.{any_goes}
 use Rattle.world_model.proofs.NotedParts.{some_part}
 use Rattle.world_model.proofs.Tests.{le_to}
-use Rattle.world_model.proofs.TriedApart.{commits, holds_append, is_under, may_at, sent_under, tried_sent, under_at}
+use Rattle.world_model.proofs.TriedApart.{commits, holds_append, is_under, lists_of, may_at, sent_under, tried_sent, under_at}
 
 -- IDENTIFIERS -------------------------------------------------------------------------------------
 
@@ -168,16 +167,13 @@ module _ (x : Ltxid) (ys : List Sending) where
       by (inr later) again = again later
 
 module _ (course : Course) (tells : tells_tried course ≡ true) (x : Ltxid) where
-  lists : course.report.tried ≡ tried_of course.report.calls (map tried_one (reverse_onto (sendings_of course) []))
-  lists = (pointwise_decides (pointwise_decides same_ltxid_decides) course.report.tried (tried_of course.report.calls (map tried_one (reverse_onto (sendings_of course) [])))).0 tells
-
   pub sent_of_tried : list_any (λ ids. holds ids x) course.report.tried ≡ true → list_any (is_under x) (commit_sendings course) ≡ true
-  sent_of_tried any = of_from x (sendings_of course) 0 (txns course.report.calls) (subst (λ (all : List (List Ltxid)). list_any (λ ids. holds ids x) all ≡ true) lists any)
+  sent_of_tried any = of_from x (sendings_of course) 0 (txns course.report.calls) (subst (λ (all : List (List Ltxid)). list_any (λ ids. holds ids x) all ≡ true) (lists_of course tells) any)
 
   pub tried_of_sent : list_any (is_under x) (commit_sendings course) ≡ true → list_any (λ ids. holds ids x) course.report.tried ≡ true
   tried_of_sent any =
       let part = some_part course.report.calls in
-      subst (λ (all : List (List Ltxid)). list_any (λ ids. holds ids x) all ≡ true) (sym lists)
+      subst (λ (all : List (List Ltxid)). list_any (λ ids. holds ids x) all ≡ true) (sym (lists_of course tells))
       (subst (λ (parts : List (List ShownCall)). list_any (λ ids. holds ids x) (tried_from 0 parts (map tried_one (reverse_onto (sendings_of course) []))) ≡ true) (sym part.1)
       (from_of x (sendings_of course) 0 part.0.first part.0.rest
       (any_goes (is_under x) (under_at (λ at. nat_le 0 at) x) (λ s so. and_from (nat_le 0 s.at) (is_under x s) (le_to 0 s.at (omega arith)) so) (commit_sendings course) any)))

@@ -52,3 +52,4 @@ pub mod FinishShort
 pub mod Judged
 pub mod Reported
 pub mod StoredLaws
+pub mod OnceLaws
