@@ -86,9 +86,12 @@ drop_front (one ∷ front) back = drop_front front back
 behind : {A : Type 0} (front back all later : List A) (count : ℕ) → all ≡ front ++ back → count ≡ length front → later ≡ drop count all → later ≡ back
 behind front back all later count is many dropped = dropped ∙ (ap (λ (n : ℕ). drop n all) many ∙ (ap (λ (one : List _). drop (length front) one) is ∙ drop_front front back))
 
--- the store has the horizon of its journal
+-- the store has the horizon and the entries of its journal
 horizon_in : (read : Result Journal ℕ) (records : ℕ) (journal : Journal) → read ≡ Ok journal → (store_in read records).horizon ≡ journal.horizon
 horizon_in read records journal is = ap (λ (found : Result Journal ℕ). (store_in found records).horizon) is
+
+entries_in : (read : Result Journal ℕ) (records : ℕ) (journal : Journal) → read ≡ Ok journal → (store_in read records).entries ≡ journal.entries
+entries_in read records journal is = ap (λ (found : Result Journal ℕ). (store_in found records).entries) is
 
 same_number : (a b : ℕ) → (a == b) ≡ true → a ≡ b
 same_number a b is = grind (arith, nat_tests)
@@ -132,26 +135,6 @@ module _ (document : Document) (ran : Ran Within) (before : Before) (report : Re
     printed = printed;
   }
 
-  store_horizon : has.seen.state.store.horizon ≡ off.journal.horizon
-  store_horizon =
-      ap (λ (state : ServiceState). state.store.horizon) has.place.seen_so.sees.state_is
-      ∙ horizon_in (journal_of (bytes_in ran.service)) _ off.journal off.reads
-
-  reported : IsReported document report has.seen has.traced gained.server
-  reported = record {
-    run = is_run;
-    clients = off.clients ∙ has.clients;
-    runs = gained.runs;
-    entries = entries_are;
-    blocked = blocked_are;
-    alerts = alerts_are;
-    forgotten = off.forgotten ∙ sym store_horizon;
-  }
-
-  printed_as : (print : Bool) → report.image ≡ image_if print (bytes_in ran.service) → IsPrinted off.journal print report.image
-  printed_as true is = (bytes_in ran.service, (is, off.reads))
-  printed_as false is = is
-
   -- what the journal at the end says of the report
   read_from : IsReadFrom document report off.journal
   read_from = record {
@@ -162,6 +145,32 @@ module _ (document : Document) (ran : Ran Within) (before : Before) (report : Re
     tables = off.tables;
     horizon = off.forgotten;
   }
+
+  store_horizon : has.seen.state.store.horizon ≡ off.journal.horizon
+  store_horizon =
+      ap (λ (state : ServiceState). state.store.horizon) has.place.seen_so.sees.state_is
+      ∙ horizon_in (journal_of (bytes_in ran.service)) _ off.journal off.reads
+
+  store_entries : has.seen.state.store.entries ≡ off.journal.entries
+  store_entries =
+      ap (λ (state : ServiceState). state.store.entries) has.place.seen_so.sees.state_is
+      ∙ entries_in (journal_of (bytes_in ran.service)) _ off.journal off.reads
+
+  reported : IsReported document report has.seen has.traced gained.server
+  reported = record {
+    run = is_run;
+    clients = off.clients ∙ has.clients;
+    runs = gained.runs;
+    entries = entries_are;
+    gained = store_entries ∙ read_from.entries;
+    blocked = blocked_are;
+    alerts = alerts_are;
+    forgotten = off.forgotten ∙ sym store_horizon;
+  }
+
+  printed_as : (print : Bool) → report.image ≡ image_if print (bytes_in ran.service) → IsPrinted off.journal print report.image
+  printed_as true is = (bytes_in ran.service, (is, off.reads))
+  printed_as false is = is
 
   stored_so : RunsHold → all_have_calls document ≡ true → stored document report ≡ true
   stored_so laws calls =

@@ -32,7 +32,7 @@ use Rattle.world_model.specs.Invariant.{Orderly}
 use Rattle.world_model.specs.Links.{Link, link_at}
 use Rattle.world_model.specs.Number.{is_of_run, is_session}
 use Rattle.world_model.specs.Once.{Once, copies_have, copies_once, has_sending, is_completed_rightly, is_foreign, is_of_link, is_on_link, reverse_onto, tells_tried, tried_one, with_now}
-use Rattle.world_model.specs.OnceLaws.{HasGained, ReportsAreOnce}
+use Rattle.world_model.specs.OnceLaws.{ReportsAreOnce}
 use Rattle.world_model.specs.Parts.{commit_sendings, implies, sendings_of}
 use Rattle.world_model.specs.Reported.{IsReported}
 use Rattle.world_model.specs.Settings.{Setting, setting_of}
@@ -164,7 +164,7 @@ module _ (t : Traced) (image gained : List Entry) (all_entries : t.entries ≡ i
 -- THE REPORT --------------------------------------------------------------------------------------
 
 module _ (document : Document) (report : Report) (seen : Seen) (t : Traced) (server : Server) (is : IsReported document report seen t server)
-    (gained : HasGained document report seen) (inv : Orderly t) (so : Once t) where
+    (inv : Orderly t) (so : Once t) where
   abbrev image : List Entry
   image = (journal_before document).entries
 
@@ -172,7 +172,7 @@ module _ (document : Document) (report : Report) (seen : Seen) (t : Traced) (ser
   coupled = finishing_coupled document is.run.place report.notes report.served seen t is.run.finishing
 
   all_entries : t.entries ≡ image ++ report.entries
-  all_entries = coupled.entries ∙ gained
+  all_entries = coupled.entries ∙ is.gained
 
   count : t.image ≡ length image
   count = coupled.image ∙ ap (λ (base : Base). length base.entries) (finishing_start document is.run.place report.notes report.served seen t is.run.finishing)
@@ -278,9 +278,9 @@ module _ (document : Document) (report : Report) (seen : Seen) (t : Traced) (ser
           (subst (λ (entries : List Entry). request_ends entries course.report ≡ true) all_entries (implied course.is_over (request_ends t.entries course.report) next.0 first.0))
 
 pub reports_once : ReportsAreOnce
-reports_once document report seen t server is gained inv so have =
-    and_from (tried_fits report) _ (fits document report seen t server is gained inv so)
-    (and_from (entries_tried_once report) _ (tried_once document report seen t server is gained inv so)
-    (and_from (entries_differ report.entries) _ (entries_apart document report seen t server is gained inv so)
-    (and_from (no_list_has_two report) _ (none_has_two document report seen t server is gained inv so)
-    (and_from (all_copies_have_one document report) (requests_end report) (copies_one document report seen t server is gained inv so have) (ends document report seen t server is gained inv so)))))
+reports_once document report seen t server is inv so have =
+    and_from (tried_fits report) _ (fits document report seen t server is inv so)
+    (and_from (entries_tried_once report) _ (tried_once document report seen t server is inv so)
+    (and_from (entries_differ report.entries) _ (entries_apart document report seen t server is inv so)
+    (and_from (no_list_has_two report) _ (none_has_two document report seen t server is inv so)
+    (and_from (all_copies_have_one document report) (requests_end report) (copies_one document report seen t server is inv so have) (ends document report seen t server is inv so)))))

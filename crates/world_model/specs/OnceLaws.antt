@@ -1,8 +1,7 @@
 -- At the end of a run each transaction stands in the journal at most once.
-use Rattle.std.specs.Prelude.{◌≡◌, IsTrue, ◌++◌}
+use Rattle.std.specs.Prelude.{IsTrue}
 use Rattle.outage_schedule.specs.declared.document.Document.{Document}
 use Rattle.outage_schedule.specs.declared.report.Report.{Report}
-use Rattle.run_clauses.specs.Before.{journal_before}
 use Rattle.run_clauses.specs.Once.{once}
 use Rattle.server_model.specs.Runs.{Server}
 use Rattle.server_model.specs.Seen.{Seen}
@@ -11,13 +10,8 @@ use Rattle.world_model.specs.Once.{Once, copies_once}
 use Rattle.world_model.specs.Reported.{IsReported}
 use Rattle.world_model.specs.Traced.{Traced}
 
--- The report's entries are those that the store has gained since the time before event 1. (The history alone does not tell them: a commit
--- that was stopped has its entry or not, and each is a run of the plain server.)
-abbrev pub HasGained : Document → Report → Seen → Type 0
-HasGained document report seen = seen.state.store.entries ≡ (journal_before document).entries ++ report.entries
-
 -- Each transaction of a report stands in its journal at most once, where the state at the end of its run is as the invariant says.
 abbrev pub ReportsAreOnce : Type 0
 ReportsAreOnce =
     (document : Document) (report : Report) (seen : Seen) (t : Traced) (server : Server)
-    → IsReported document report seen t server → HasGained document report seen → Orderly t → Once t → IsTrue (copies_once t) → IsTrue (once document report)
+    → IsReported document report seen t server → Orderly t → Once t → IsTrue (copies_once t) → IsTrue (once document report)

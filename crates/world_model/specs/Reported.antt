@@ -1,7 +1,8 @@
 -- A report that has what a whole run did and left, and what holds of it.
-use Rattle.std.specs.Prelude.{◌≡◌, IsTrue}
+use Rattle.std.specs.Prelude.{◌≡◌, ◌++◌, IsTrue}
 use Rattle.outage_schedule.specs.declared.document.Document.{Document}
 use Rattle.outage_schedule.specs.declared.report.Report.{Report}
+use Rattle.run_clauses.specs.Before.{journal_before}
 use Rattle.run_clauses.specs.Fresh.{fresh}
 use Rattle.run_clauses.specs.ServiceBase.{service_base}
 use Rattle.server_model.specs.Runs.{Server, Runs}
@@ -18,6 +19,8 @@ pub record IsReported (document : Document) (report : Report) (seen : Seen) (t :
   pub clients : report.clients ≡ transcripts_of t.machine
   pub runs : Runs (service_base document) seen.history server
   pub entries : report.entries ≡ server.core.entries
+  -- the store has gained them (a history alone does not tell them: a commit that was stopped has its entry or not)
+  pub gained : seen.state.store.entries ≡ (journal_before document).entries ++ report.entries
   pub blocked : report.blocked ≡ server.core.blocked
   pub alerts : report.alerts ≡ server.core.alerts
   pub forgotten : report.forgotten ≡ seen.state.store.horizon
