@@ -16,7 +16,8 @@ use Rattle.world_model.specs.Invariant.{Orderly, Invariant}
 use Rattle.world_model.specs.OneEvent.{OneEvent}
 use Rattle.world_model.specs.Conversing.{AllTalk}
 use Rattle.world_model.specs.Coupled.{Coupled}
-use Rattle.world_model.specs.Reached.{traced_start}
+use Rattle.world_model.specs.Finishing.{Place}
+use Rattle.world_model.specs.Reached.{traced_start, Reached, IsFinishing, IsRun}
 
 -- a test of the state
 pub record IsKept (test : Traced → Bool) : Type 0 where
@@ -96,3 +97,19 @@ pub record OrderlyIsKept : Type 0 where
   pub at_start : (document : Document) → IsTrue (all_have_calls document) → Orderly (traced_start document)
   pub at_event : (before after : Seen) (old new : Traced) (event : Event) (note : Note) (items left : List Served)
       → OneEvent before old event note items left after new → Orderly old → Orderly new
+
+-- wherever a run has come to, the invariant holds as a whole
+abbrev pub RunsKeepInvariant : Type 0
+RunsKeepInvariant =
+    (document : Document) (events : List Event) (notes : List Note) (items : List Served) (seen : Seen) (t : Traced)
+    → IsTrue (all_have_calls document) → Reached document events notes items seen t → Invariant t
+
+-- and so it does wherever its finish has come to
+abbrev pub FinishesKeepInvariant : Type 0
+FinishesKeepInvariant =
+    (document : Document) (place : Place) (notes : List Note) (items : List Served) (seen : Seen) (t : Traced)
+    → IsTrue (all_have_calls document) → IsFinishing document place notes items seen t → Invariant t
+
+-- and at the end of a whole run
+abbrev pub WholeRunsKeepInvariant : Type 0
+WholeRunsKeepInvariant = (document : Document) (notes : List Note) (items : List Served) (seen : Seen) (t : Traced) → IsTrue (all_have_calls document) → IsRun document notes items seen t → Invariant t
