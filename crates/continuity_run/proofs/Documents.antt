@@ -5,6 +5,7 @@ use Rattle.std.specs.List.{list_all, flat_map, AllByRecursion}
 use Rattle.std.proofs.lemmas.Bool.Decides.{nat_tests}
 use Rattle.json_form.proofs.Offered.{first_true, second_true, both_true}
 use Rattle.svc_values.specs.declared.call.Call.{Call}
+use Rattle.svc_values.specs.declared.call.Call.TheVariants as call
 use Rattle.svc_values.specs.declared.entry.Ltxid.{Ltxid}
 use Rattle.svc_values.specs.Identifiers.{IsLtxid}
 use Rattle.svc_values.specs.Calls.{is_made, IsMade}
@@ -17,10 +18,11 @@ use Rattle.outage_schedule.specs.declared.event.Event.TheVariants as event
 use Rattle.doc_reader.specs.Counts.{is_small, calls_in_event, has_few_names, calls_in}
 use Rattle.doc_reader.specs.Keeping.{is_service, is_request, is_client, is_event, is_pick, IsDocument}
 use Rattle.doc_reader.specs.Numbers.{is_between, is_count, is_small_ltxid}
-use Rattle.doc_reader.specs.Scripts.{is_one_transaction}
+use Rattle.doc_reader.specs.Scripts.{is_inside, is_one_transaction}
 use Rattle.server_model.specs.ServiceCalls.{is_failover}
 use Rattle.world_model.specs.FinishShort.{AreLimits, calls_of_scripts, is_repeated_little}
-use Rattle.world_model.specs.Ready.{has_calls}
+use Rattle.world_model.specs.Ready.{has_calls, is_rightly_repeated, is_right_request}
+use Rattle.world_model.specs.Ready as ready
 use Rattle.world_core.specs.Allowing.{IsAllowed}
 use Rattle.world_core.specs.Among.{IsFitScript}
 use Rattle.world_core.specs.Coursing.{IsFit}
@@ -88,6 +90,7 @@ record KeepsRequest (request : Request) : Type 0 where
   made : list_all is_made request.calls ≡ true
   calls : is_between 1 1024 (length request.calls) ≡ true
   again : nat_le request.again 4 ≡ true
+  whole : ((request.again == 0) || is_one_transaction request.calls) ≡ true
 
 keeps_request : (request : Request) → is_request request ≡ true → KeepsRequest request
 unfolding is_request
@@ -98,6 +101,7 @@ keeps_request request is =
       made = first_true (list_all is_made request.calls) _ is;
       calls = first_true (is_between 1 1024 (length request.calls)) _ behind_made;
       again = second_true (nat_le 0 request.again) (nat_le request.again 4) (first_true (is_between 0 4 request.again) ((request.again == 0) || is_one_transaction request.calls) behind_calls);
+      whole = second_true (is_between 0 4 request.again) ((request.again == 0) || is_one_transaction request.calls) behind_calls;
     }
 
 made_all : (calls : List Call) → list_all is_made calls ≡ true → AllByRecursion IsMade calls
@@ -112,6 +116,28 @@ has_call : (request : Request) → is_request request ≡ true → has_calls req
 has_call request is =
     let some : 1 ≤ length request.calls = low 1 1024 (length request.calls) (keeps_request request is).calls in
     grind (arith, nat_tests)
+
+-- world_model's words for one transaction are the reader's
+inside : (one : Call) → is_inside one ≡ true → ready.is_inside one ≡ true
+inside call.Rollback is = absurd (let none : ⊥ = cc in none)
+inside (call.Alter line) is = absurd (let none : ⊥ = cc in none)
+inside one is = is
+
+one_transaction : (calls : List Call) → is_one_transaction calls ≡ true → ready.is_one_transaction calls ≡ true
+one_transaction [] is = absurd (let none : ⊥ = cc in none)
+one_transaction (one ∷ []) is = is
+one_transaction (one ∷ next ∷ calls) is =
+    both_true _ _ (inside one (first_true (is_inside one) (is_one_transaction (next ∷ calls)) is)) (one_transaction (next ∷ calls) (second_true (is_inside one) (is_one_transaction (next ∷ calls)) is))
+
+rightly_repeated : (request : Request) → is_request request ≡ true → is_rightly_repeated request ≡ true
+rightly_repeated request is = by (request.again == 0) (keeps_request request is).whole
+  where
+    by : (once : Bool) → (once || is_one_transaction request.calls) ≡ true → (once || ready.is_one_transaction request.calls) ≡ true
+    by true whole = refl
+    by false whole = one_transaction request.calls whole
+
+right_request : (request : Request) → is_request request ≡ true → is_right_request request ≡ true
+right_request request is = both_true _ _ (has_call request is) (rightly_repeated request is)
 
 repeated_little : (request : Request) → is_request request ≡ true → is_repeated_little request ≡ true
 repeated_little request is = (keeps_request request is).again
@@ -145,7 +171,7 @@ are_limits document is =
       recorded = keeps.recorded;
       clients = is.few_clients;
       calls = few_calls document is.small;
-      have_calls = all_imply is_client (λ client. list_all has_calls client.requests) (of_requests has_calls has_call) document.clients is.clients;
+      have_calls = all_imply is_client (λ client. list_all is_right_request client.requests) (of_requests is_right_request right_request) document.clients is.clients;
       again = all_imply is_client (λ client. list_all is_repeated_little client.requests) (of_requests is_repeated_little repeated_little) document.clients is.clients;
     }
 

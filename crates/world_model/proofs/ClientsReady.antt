@@ -51,14 +51,14 @@ placed_calls script (Some place) all = by (slice_get script place) refl
 pub next_calls : (script : List Request) (reports : List RequestReport) → list_all has_calls script ≡ true → option_map_or has_calls (next_of script reports) true ≡ true
 next_calls script reports all = placed_calls script (next_place script reports) all
 
-got_calls : (scripts : List (List Request)) (index : ℕ) → list_all (list_all has_calls) scripts ≡ true → list_all has_calls (get_or scripts index []) ≡ true
-got_calls [] index all = refl
-got_calls (script ∷ scripts) zero all = (and_parts (list_all has_calls script) (list_all (list_all has_calls) scripts) all).0
-got_calls (script ∷ scripts) (suc index) all = got_calls scripts index (and_parts (list_all has_calls script) (list_all (list_all has_calls) scripts) all).1
+got_all : (test : Request → Bool) (scripts : List (List Request)) (index : ℕ) → list_all (list_all test) scripts ≡ true → list_all test (get_or scripts index []) ≡ true
+got_all test [] index all = refl
+got_all test (script ∷ scripts) zero all = (and_parts (list_all test script) (list_all (list_all test) scripts) all).0
+got_all test (script ∷ scripts) (suc index) all = got_all test scripts index (and_parts (list_all test script) (list_all (list_all test) scripts) all).1
 
-script_calls : (setting : Setting) (number : ℕ) → list_all (list_all has_calls) setting.scripts ≡ true → list_all has_calls (script_at setting number) ≡ true
-script_calls setting zero all = refl
-script_calls setting (suc index) all = got_calls setting.scripts index all
+pub script_all : (test : Request → Bool) (setting : Setting) (number : ℕ) → list_all (list_all test) setting.scripts ≡ true → list_all test (script_at setting number) ≡ true
+script_all test setting zero all = refl
+script_all test setting (suc index) all = got_all test setting.scripts index all
 
 -- PHASES ------------------------------------------------------------------------------------------
 
@@ -217,8 +217,8 @@ module _ (setting : Setting) (right : AreRight setting.terms.rules) (scripts : l
       → is_ready_client setting.terms (after_hold setting number client doing held) ≡ true
   held_ready number client doing hold.Keep here ready =
       and_from (is_ready setting.terms doing) (option_map_or has_calls client.next true) (ready refl) (and_parts (option_map_or (is_ready setting.terms) client.now true) (option_map_or has_calls client.next true) here).1
-  held_ready number client doing hold.GiveBack here ready = next_calls (script_at setting number) (reports_of (client.past ++ past_of setting.terms doing ∷ [])) (script_calls setting number scripts)
-  held_ready number client doing hold.Drop here ready = next_calls (script_at setting number) (reports_of (client.past ++ past_of setting.terms doing ∷ [])) (script_calls setting number scripts)
+  held_ready number client doing hold.GiveBack here ready = next_calls (script_at setting number) (reports_of (client.past ++ past_of setting.terms doing ∷ [])) (script_all has_calls setting number scripts)
+  held_ready number client doing hold.Drop here ready = next_calls (script_at setting number) (reports_of (client.past ++ past_of setting.terms doing ∷ [])) (script_all has_calls setting number scripts)
 
   step_ready : (clients : List Client) (number : ℕ) (client : Client) (doing : Doing) (held : Hold) → client_at clients number ≡ Some client → all_ready clients ≡ true → (held ≡ hold.Keep → is_ready setting.terms doing ≡ true)
       → all_ready (after_step setting clients number doing held) ≡ true

@@ -14,7 +14,7 @@ use Rattle.world_model.proofs.FirstBehind.{position_any}
 -- FURTHER COPIES ----------------------------------------------------------------------------------
 
 -- what one report more does to the copies of a request
-data OneMore (allowed : ℕ) (copy : RequestReport) (mine rest : List RequestReport) (report : RequestReport) : List RequestReport × List RequestReport → Type 0 where
+pub data OneMore (allowed : ℕ) (copy : RequestReport) (mine rest : List RequestReport) (report : RequestReport) : List RequestReport × List RequestReport → Type 0 where
   -- it is a further copy, since the request was not over
   IsMine : are_all_copies allowed (copy ∷ mine) ≡ false → length mine < allowed → rest ≡ [] → OneMore allowed copy mine rest report (mine ++ report ∷ [], [])
   -- it is of a later request, since the request was over
@@ -25,7 +25,7 @@ repeated_some allowed copy is =
     let some : nat_lt 0 allowed ≡ true = (and_parts (nat_lt 0 allowed) (may_be_repeated copy.failed && is_last_uncommitted copy.outcomes) is).0 in
     grind (arith, nat_tests)
 
-one_more : (allowed : ℕ) (copy : RequestReport) (reports : List RequestReport) (report : RequestReport)
+pub one_more : (allowed : ℕ) (copy : RequestReport) (reports : List RequestReport) (report : RequestReport)
     → OneMore allowed copy (further_copies allowed copy reports).0 (further_copies allowed copy reports).1 report (further_copies allowed copy (reports ++ report ∷ []))
 one_more allowed copy [] report = by (is_repeated allowed copy) refl
   where

@@ -1,7 +1,7 @@
 -- No two entries have one identifier, and those of one transaction of a request are at most one.
-use Rattle.std.proofs.Common.{◌≡◌, refl, sym, ap, subst, ◌∙◌, Bool, true, false, ℕ, suc, zero, ◌+◌, ◌≤◌, ◌&&◌, ◌||◌, cond, length, List, [], ◌∷◌, ◌⊎◌, inl, inr, if◌then◌else◌, arith}
-use Rattle.std.specs.Prelude.{◌==◌, not, nat_le}
-use Rattle.std.specs.Cmp.Lexicographic.{pointwise}
+use Rattle.std.proofs.Common.{◌≡◌, refl, sym, ap, subst, ◌∙◌, Bool, true, false, ℕ, suc, zero, ◌+◌, ◌≤◌, ◌&&◌, ◌||◌, cond, length, List, [], ◌∷◌, ◌⊎◌, inl, inr, if◌then◌else◌, arith, map}
+use Rattle.std.specs.Prelude.{◌==◌, not, nat_le, flat_map}
+use Rattle.std.specs.Cmp.Lexicographic.{pointwise, pointwise_decides}
 use Rattle.std.specs.List.{list_all, list_any}
 use Rattle.std.proofs.lemmas.Bool.{and_parts, and_from, or_cases, or_left, or_right, not-true, not_from_false}
 use Rattle.commit_log.specs.Keeping.{EachKeeps}
@@ -13,7 +13,7 @@ use Rattle.outage_schedule.specs.declared.request.ShownCall.{ShownCall}
 use Rattle.client_model.specs.Tried.{Trying, trying_of, tried_in, tried_upto}
 use Rattle.run_clauses.specs.EntryEvents.{entries_of}
 use Rattle.run_clauses.specs.Once.{entries_differ, entries_in}
-use Rattle.run_clauses.specs.Tried.{holds}
+use Rattle.run_clauses.specs.Tried.{holds, ids_tried, tried_of}
 use Rattle.server_model.specs.Laws.{EntryNumbers}
 use Rattle.world_model.specs.KeptLaws.{IsKeptOfAll}
 use Rattle.world_model.specs.Number.{entries_numbered, none_blocked, numbered_after}
@@ -35,9 +35,10 @@ use Rattle.world_model.proofs.LostKept.{both_all}
 use Rattle.world_model.proofs.NotedLists.{one_part}
 use Rattle.world_model.proofs.NotedParts.{lists_told}
 use Rattle.world_model.proofs.Numbered.{entries_cons, numbered_parts}
+use Rattle.world_model.proofs.OverLists.{sent_tried}
 use Rattle.world_model.proofs.SettledLists.{is_later, later_all}
 use Rattle.world_model.proofs.Tests.{eq_from, le_to, not_both, session_self}
-use Rattle.world_model.proofs.TriedApart.{false_by, is_under, lists_of, tried_sent, under_at}
+use Rattle.world_model.proofs.TriedApart.{false_by, is_under, lists_of, tried_sent, under_at, holds_append}
 
 not_to : (test : Bool) → (test ≡ true → ⊥) → not test ≡ true
 not_to test never = not_from_false test (false_by test never)
@@ -179,6 +180,31 @@ module _ (course : Course) (tells : tells_tried course ≡ true) (notes : notes_
   list_sent k x here =
       tried_sent x (λ at. transaction_at calls at == k) (sendings_of course)
       (subst (λ (ids : List Ltxid). holds ids x ≡ true) (one_part calls trying.sendings (sendings_of course) agrees.1 k (λ at. transaction_at calls at == k) (λ at. refl)) here)
+
+  -- and what is of these stands there
+  pub sent_list : (k : ℕ) (x : Ltxid) → list_any (under_at (λ at. transaction_at calls at == k) x) (commit_sendings course) ≡ true → holds (tried_in k trying.sendings) x ≡ true
+  sent_list k x any =
+      subst (λ (ids : List Ltxid). holds ids x ≡ true) (sym (one_part calls trying.sendings (sendings_of course) agrees.1 k (λ at. transaction_at calls at == k) (λ at. refl)))
+      (sent_tried x (λ at. transaction_at calls at == k) (sendings_of course) any)
+
+  -- what stands in any of them
+  pub ids_sent : (x : Ltxid) → holds (ids_tried course.report) x ≡ true → (k : ℕ) × (list_any (under_at (λ at. transaction_at calls at == k) x) (commit_sendings course) ≡ true)
+  ids_sent x here = upto (suc trying.over) 0 (ap (λ (lists : List (List Ltxid)). holds (flat_map (λ ids. ids) lists) x) (sym lists_are) ∙ here)
+    where
+      upto : (left from : ℕ) → holds (flat_map (λ ids. ids) (tried_upto left from trying.sendings)) x ≡ true → (k : ℕ) × (list_any (under_at (λ at. transaction_at calls at == k) x) (commit_sendings course) ≡ true)
+      upto zero from held = absurd (let none : ⊥ = cc in none)
+      upto (suc left) from held =
+          by (or_cases (holds (tried_in from trying.sendings) x) (holds (flat_map (λ ids. ids) (tried_upto left (suc from) trying.sendings)) x) (sym (holds_append (tried_in from trying.sendings) (flat_map (λ ids. ids) (tried_upto left (suc from) trying.sendings)) x) ∙ held))
+          (upto left (suc from))
+        where
+          by : (holds (tried_in from trying.sendings) x ≡ true) ⊎ (holds (flat_map (λ ids. ids) (tried_upto left (suc from) trying.sendings)) x ≡ true)
+              → (holds (flat_map (λ ids. ids) (tried_upto left (suc from) trying.sendings)) x ≡ true → (k : ℕ) × (list_any (under_at (λ at. transaction_at calls at == k) x) (commit_sendings course) ≡ true))
+              → (k : ℕ) × (list_any (under_at (λ at. transaction_at calls at == k) x) (commit_sendings course) ≡ true)
+          by (inl mine) again = (from, list_sent from x mine)
+          by (inr later) again = again later
+
+  pub over_is : trying.over ≡ transaction_at calls (length calls)
+  over_is = eq_from trying.over (transaction_at calls (length calls)) agrees.0
 
   pub each_list : (test : List Ltxid → Bool) → ((k : ℕ) → test (tried_in k trying.sendings) ≡ true) → list_all test course.report.tried ≡ true
   each_list test one = ap (list_all test) lists_are ∙ upto (suc trying.over) 0

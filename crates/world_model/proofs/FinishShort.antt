@@ -16,7 +16,7 @@ use Rattle.world_model.specs.Finishing.{AtServer}
 use Rattle.world_model.specs.FinishShort.{is_repeated_little, AreLimits, FinishIsShort}
 use Rattle.world_model.specs.Machines.{Machine}
 use Rattle.world_model.specs.Reached.{Reached, Begins, GoesOn}
-use Rattle.world_model.specs.Ready.{has_calls}
+use Rattle.world_model.specs.Ready.{is_right_request}
 use Rattle.world_model.specs.Remaining.{once_if, links_work, round_work, rounds_from}
 use Rattle.world_model.specs.RunLaws.{RunsAreOrderly}
 use Rattle.world_model.specs.Settings.{setting_of}
@@ -24,6 +24,7 @@ use Rattle.world_model.specs.Traced.{Traced}
 use Rattle.world_model.proofs.ClientRounds.{once_most}
 use Rattle.world_model.proofs.ClientsLong.{happens_long}
 use Rattle.world_model.proofs.Happened.{at_event, Followed, follow_happens}
+use Rattle.world_model.proofs.KeptReady.{have_calls}
 use Rattle.world_model.proofs.LinksShort.{AddsFew, happens_adds}
 use Rattle.world_model.proofs.RoundsShort.{IsScript, scripts_count, AreShort, rounds_few}
 use Rattle.world_model.proofs.RunsFollowed.{reached_setting}
@@ -59,11 +60,11 @@ reached_small document _ _ _ _ _ (GoesOn events notes items more before after ol
 
 -- THE DOCUMENT ------------------------------------------------------------------------------------
 
-script_is : (clients : List Client) (index : ℕ) → list_all (λ client. list_all has_calls client.requests) clients ≡ true → list_all (λ client. list_all is_repeated_little client.requests) clients ≡ true
+script_is : (clients : List Client) (index : ℕ) → list_all (λ client. list_all is_right_request client.requests) clients ≡ true → list_all (λ client. list_all is_repeated_little client.requests) clients ≡ true
     → IsScript (get_or (map (λ client. client.requests) clients) index [])
 script_is [] index calls again = (refl, refl)
-script_is (client ∷ clients) zero calls again = ((and_parts _ _ calls).0, (and_parts _ _ again).0)
-script_is (client ∷ clients) (suc index) calls again = script_is clients index (and_parts (list_all has_calls client.requests) _ calls).1 (and_parts (list_all is_repeated_little client.requests) _ again).1
+script_is (client ∷ clients) zero calls again = (have_calls client.requests (and_parts _ _ calls).0, (and_parts _ _ again).0)
+script_is (client ∷ clients) (suc index) calls again = script_is clients index (and_parts (list_all is_right_request client.requests) _ calls).1 (and_parts (list_all is_repeated_little client.requests) _ again).1
 
 limits_short : (document : Document) → AreLimits document → AreShort (setting_of document)
 limits_short document limits = record {

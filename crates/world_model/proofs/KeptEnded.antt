@@ -30,10 +30,9 @@ use Rattle.client_model.specs.declared.act.Shown.{Shown}
 use Rattle.client_model.specs.declared.input.Input.{Input}
 use Rattle.client_model.specs.declared.input.Input.TheVariants.{Start, Waiting, Lent, Opened, TryFailed, Took, Gone}
 use Rattle.client_model.specs.Account.{Account}
-use Rattle.client_model.specs.Conversation.{is_wanted, is_gone}
-use Rattle.client_model.specs.Talk.{takes, talk_step, wants_of}
+use Rattle.client_model.specs.Talk.{takes, talk_step}
 use Rattle.client_model.specs.Terms.{Phase, Idle, Unbegun, Queued, Seeking, Greeting, Asked, Running, Replaying}
-use Rattle.client_model.proofs.Offered.{Fits, next_left}
+use Rattle.client_model.proofs.Offered.{Fits}
 use Rattle.world_model.specs.Clients.{Step, Doing}
 use Rattle.world_model.specs.Frames.{Owner}
 use Rattle.world_model.specs.Hold.{are_by_held}
@@ -53,6 +52,7 @@ use Rattle.world_model.proofs.AllLists.{filter_all, weaker_all}
 use Rattle.world_model.proofs.ApartSteps.{PushedAs, NoMore, OneMade, answered_as, commits, pushed_as}
 use Rattle.world_model.proofs.AskedAnswers.{never_ahead, told_now}
 use Rattle.world_model.proofs.AskedSendings.{each_flat, sent_one}
+use Rattle.world_model.proofs.CallLeft.{call_left}
 use Rattle.world_model.proofs.ClientSteps.{HasStepped, happens_step, is_frame}
 use Rattle.world_model.proofs.CommittedSendings.{any_goes, filter_any, is_unanswered}
 use Rattle.world_model.proofs.FateSteps.{IsFated, Taking, fated, fated_from}
@@ -71,14 +71,13 @@ use Rattle.world_model.proofs.KeptTold.{talk_is}
 use Rattle.world_model.proofs.KnownSteps.{taking_at}
 use Rattle.world_model.proofs.LostBlocked.{not_last}
 use Rattle.world_model.proofs.LostKept.{both_all, course_before, course_ended, KeepsLost, lost_kept}
-use Rattle.world_model.proofs.LostSteps.{act_on, before_so, has_one, held_none, last_is, lent_keeps, over_failed, over_first, over_lets, same_held, tried_has}
+use Rattle.world_model.proofs.LostSteps.{act_on, before_so, has_one, held_none, last_is, lent_keeps, over_failed, over_first, over_lets, same_held, tried_has, wanted}
 use Rattle.world_model.proofs.Moves.{Happens}
 use Rattle.world_model.proofs.SendingSteps.{scan_by, heard_scan, after_sendings}
 use Rattle.world_model.proofs.StepFacts.{account_now, first_step, first_doing, before_talks, request_after}
 use Rattle.world_model.proofs.RowSteps.{before_fits}
 use Rattle.world_model.proofs.OutcomesTold.{input_fits}
-use Rattle.world_model.proofs.TalkEnds.{ToldSo, has_left, incomplete_told, never_bad, none_left}
-use Rattle.world_model.proofs.TalkRuns.{is_idle}
+use Rattle.world_model.proofs.TalkEnds.{ToldSo, has_left, incomplete_told, never_bad, none_left, some_left}
 use Rattle.world_model.proofs.Tests.{eq_from, or_second}
 use Rattle.world_model.proofs.Turning.{some_same}
 use Rattle.world_model.specs.Basic.{sessions_differ}
@@ -188,17 +187,24 @@ module _ (t : Traced) (whole : Invariant t) (new : Traced) (setting : new.settin
 
     -- WITHOUT AN ERROR ----------------------------------------------------------------------------
 
-    script_done : one.done.act.failed ≡ None → is_none (slice_get ended.request.calls (length ended.report.calls)) ≡ true
-    script_done plain =
-        let busy = idle_wants t.setting.terms step.before.talk step.before.talk.phase m.tick step.input (and_parts (is_wanted (wants_of t.setting.terms step.before.talk m.tick) step.input) (is_gone step.input || not false) step.may).0 in
+    -- what is left of its script is what was left of it before, but for the call that was shown
+    left_is : slice_get ended.request.calls (length ended.report.calls) ≡ slice_get step.before.talk.left (cond (is_some one.done.act.shown) 1 0)
+    left_is =
+        let busy = idle_wants t.setting.terms step.before.talk step.before.talk.phase m.tick step.input (wanted t whole.orderly who new.machine step) in
         let talk = talk_is t.setting.terms step.before (before_talks t.setting m whole.orderly.script.talks who new.machine step) busy in
         let count : length ended.report.calls ≡ length account_before.shown + cond (is_some one.done.act.shown) 1 0 =
         ap length calls_are ∙ (length_is ∙ ap (λ (n : ℕ). n + cond (is_some one.done.act.shown) 1 0) (length-map account_before.shown shown_call)) in
-        ap is_none
-        (ap (λ (all : List Call). slice_get all (length ended.report.calls)) (ap (λ (request : Request). request.calls) (request_after t.setting m whole.orderly.script.talks who new.machine step))
+        ap (λ (all : List Call). slice_get all (length ended.report.calls)) (ap (λ (request : Request). request.calls) (request_after t.setting m whole.orderly.script.talks who new.machine step))
         ∙ (ap (slice_get step.before.request.calls) count
-        ∙ (sym (get_behind (length account_before.shown) step.before.request.calls (cond (is_some one.done.act.shown) 1 0)) ∙ ap (λ (all : List Call). slice_get all (cond (is_some one.done.act.shown) 1 0)) (sym talk.left_are))))
-        ∙ none_left t.setting.terms step.before.talk step.input m.tick lets plain
+        ∙ (sym (get_behind (length account_before.shown) step.before.request.calls (cond (is_some one.done.act.shown) 1 0)) ∙ ap (λ (all : List Call). slice_get all (cond (is_some one.done.act.shown) 1 0)) (sym talk.left_are)))
+
+    script_done : one.done.act.failed ≡ None → is_none (slice_get ended.request.calls (length ended.report.calls)) ≡ true
+    script_done plain = ap is_none left_is ∙ none_left t.setting.terms step.before.talk (call_left t whole.orderly who new.machine step) step.input m.tick lets plain
+
+    -- WITH AN ERROR -------------------------------------------------------------------------------
+
+    call_behind : (fault : Failed) → one.done.act.failed ≡ Some fault → is_some (slice_get ended.request.calls (length ended.report.calls)) ≡ true
+    call_behind fault is = ap is_some left_is ∙ some_left t.setting.terms step.before.talk (call_left t whole.orderly who new.machine step) step.input m.tick fault is
 
     -- WITH INCOMPLETE -----------------------------------------------------------------------------
 
@@ -241,12 +247,12 @@ module _ (t : Traced) (whole : Invariant t) (new : Traced) (setting : new.settin
             (and_from (s.at == length ended.report.calls) (is_none s.taken) (ap (λ (n : ℕ). s.at == n) count ∙ two.0) three.1)) three.0
 
     -- a call is left where one is awaited
-    some_left : has_left step.before.talk step.before.talk.phase ≡ true
-    some_left = by (before_fits t.setting m whole.orderly.script.talks who new.machine step).gone step.before.talk.phase refl (before_fits t.setting m whole.orderly.script.talks who new.machine step).fits
+    some_awaited : has_left step.before.talk step.before.talk.phase ≡ true
+    some_awaited = by (before_fits t.setting m whole.orderly.script.talks who new.machine step).gone step.before.talk.phase refl (before_fits t.setting m whole.orderly.script.talks who new.machine step).fits
       where
         by : (gone : Bool) (p : Phase) → step.before.talk.phase ≡ p → Fits t.setting.terms step.before.request.calls account_before gone p → has_left step.before.talk p ≡ true
-        by gone (Running state) is fits = ap is_some (sym (next_left t.setting.terms step.before.request.settings step.before.request.calls account_before step.before.talk state.track (talk_is t.setting.terms step.before (before_talks t.setting m whole.orderly.script.talks who new.machine step) (ap is_idle is)) fits.0.tracked) ∙ fits.0.left.is)
-        by gone (Asked asking) is fits = ap is_some (sym (next_left t.setting.terms step.before.request.settings step.before.request.calls account_before step.before.talk asking.track (talk_is t.setting.terms step.before (before_talks t.setting m whole.orderly.script.talks who new.machine step) (ap is_idle is)) fits.0.tracked) ∙ fits.0.left.is)
+        by gone (Running state) is fits = call_left t whole.orderly who new.machine step
+        by gone (Asked asking) is fits = call_left t whole.orderly who new.machine step
         by gone (Replaying state) is fits = ap is_some fits.2.is
         by gone Idle is fits = refl
         by gone Unbegun is fits = refl
@@ -260,14 +266,14 @@ module _ (t : Traced) (whole : Invariant t) (new : Traced) (setting : new.settin
         by : (fault : Option Failed) → one.done.act.failed ≡ fault → ends_so new.entries ended (option_and_then failure_of fault) ≡ true
         by None is = script_done is
         by (Some (failed.Incomplete x)) is = sent_under x is
-        by (Some (failed.Disabled reason event)) is = refl
-        by (Some (failed.Replays limit event)) is = refl
-        by (Some (failed.Retries tries)) is = refl
-        by (Some (failed.PoolWait since until)) is = refl
-        by (Some (failed.Mismatch call seen now)) is = refl
-        by (Some (failed.ReplayTimeout since ready)) is = refl
-        by (Some (failed.Unknown x)) is = refl
-        by (Some (failed.BadPeer tag)) is = absurd (never_bad t.setting.terms step.before.talk m.tick step.input tag (input_fits t whole.orderly who new.machine step) (never_ahead t whole.orderly whole.shown.answers who new.machine step) some_left is)
+        by (Some (failed.Disabled reason event)) is = call_behind (failed.Disabled reason event) is
+        by (Some (failed.Replays limit event)) is = call_behind (failed.Replays limit event) is
+        by (Some (failed.Retries tries)) is = call_behind (failed.Retries tries) is
+        by (Some (failed.PoolWait since until)) is = call_behind (failed.PoolWait since until) is
+        by (Some (failed.Mismatch call seen now)) is = call_behind (failed.Mismatch call seen now) is
+        by (Some (failed.ReplayTimeout since ready)) is = call_behind (failed.ReplayTimeout since ready) is
+        by (Some (failed.Unknown x)) is = call_behind (failed.Unknown x) is
+        by (Some (failed.BadPeer tag)) is = absurd (never_bad t.setting.terms step.before.talk m.tick step.input tag (input_fits t whole.orderly who new.machine step) (never_ahead t whole.orderly whole.shown.answers who new.machine step) some_awaited is)
 
     -- WHERE A CALL IS OPEN ------------------------------------------------------------------------
 

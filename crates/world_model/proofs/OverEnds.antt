@@ -1,7 +1,6 @@
 -- Of Once: the lines on each transaction of a request that is over, by what is known of its sendings.
 use Rattle.std.proofs.Common.{◌≡◌, refl, sym, ap, subst, ◌∙◌, Bool, true, false, ℕ, ◌+◌, ◌<◌, ◌≤◌, ◌&&◌, ◌||◌, length, List, Option, Some, None, if◌then◌else◌, arith}
 use Rattle.std.specs.Prelude.{◌==◌, not, slice_get, is_none, is_some}
-use Rattle.std.specs.Cmp.Lexicographic.{pointwise}
 use Rattle.std.specs.List.{list_all, list_any, last_or}
 use Rattle.std.specs.Option.{option_map_or}
 use Rattle.std.proofs.lemmas.Bool.{and_parts, and_from, not-true}
@@ -20,8 +19,8 @@ use Rattle.run_clauses.specs.Once.{committed_has_one, count_in, dropped_has_none
 use Rattle.run_clauses.specs.Transactions.{is_shown_committed, is_shown_dropped, txns, with_tried}
 use Rattle.run_clauses.specs.Tried.{holds}
 use Rattle.world_model.specs.Lost.{ends_unknown, fails_incomplete, is_failed_by, is_wanted, lost_links, lost_rightly, outcome_on}
-use Rattle.world_model.specs.Once.{all_but_last, are_known, ends_so, is_known, is_left_lost, is_noted, is_open_at, is_open_or_committed, is_placed, is_stored_at, notes_sendings, shows_at, stored_from, tells_completed, tells_tried, transaction_at}
-use Rattle.world_model.specs.Parts.{Sending, commit_sendings, has_entry, scan_of, sendings_of}
+use Rattle.world_model.specs.Once.{all_but_last, are_known, ends_so, is_known, is_left_lost, is_open_at, is_open_or_committed, is_placed, is_stored_at, notes_sendings, shows_at, stored_from, tells_completed, tells_tried, transaction_at}
+use Rattle.world_model.specs.Parts.{Sending, commit_sendings, has_entry}
 use Rattle.world_model.specs.Sames.{same_owner}
 use Rattle.world_model.specs.Traced.{Traced, Course}
 use Rattle.world_model.specs.Wanted.{wanted_in}
@@ -29,14 +28,13 @@ use Rattle.world_model.specs.Words.{dones_of, held_in}
 use Rattle.world_model.proofs.AskedNear.{any_all}
 use Rattle.world_model.proofs.CommittedSendings.{any_goes}
 use Rattle.world_model.proofs.EndedCalls.{committed_ends, ended_before, shown_same, shows_weaker}
-use Rattle.world_model.proofs.EntriesFew.{few_in, list_sent, lists_are}
+use Rattle.world_model.proofs.EntriesFew.{few_in, list_sent, lists_are, over_is, sent_list}
 use Rattle.world_model.proofs.FateSteps.{IsFated, fated, fated_from}
 use Rattle.world_model.proofs.Fates.{none_is}
 use Rattle.world_model.proofs.KnownLists.{IsNext, Known, IsAnswered, IsLast, IsBlocked, IsCommitted, known_from}
 use Rattle.world_model.proofs.LostBlocked.{Ended, Pends, Blocks, Completes, Fails, lost_ends}
 use Rattle.world_model.proofs.LostKept.{both_all}
-use Rattle.world_model.proofs.NotedLists.{one_part}
-use Rattle.world_model.proofs.OverLists.{LastOf, dropped_ends, dropped_not, last_of, none_in, sent_tried, some_in, stored_id, stored_there}
+use Rattle.world_model.proofs.OverLists.{LastOf, dropped_ends, dropped_not, last_of, none_in, some_in, stored_id, stored_there}
 use Rattle.world_model.proofs.Strangers.{same_owner_is}
 use Rattle.world_model.proofs.Tests.{eq_from, eq_to, le_to, not_both, or_second}
 use Rattle.world_model.proofs.TransactionParts.{IsTxn, each_txn, is_ended}
@@ -69,9 +67,6 @@ module _ (t : Traced) (unblocked : list_all (λ entry. not (holds t.blocked entr
 
   abbrev sent : List Sending
   sent = commit_sendings course
-
-  over_is : trying.over ≡ transaction_at calls (length calls)
-  over_is = eq_from trying.over (transaction_at calls (length calls)) (and_parts (trying.over == transaction_at calls (length calls)) _ (and_parts ((scan_of course).shown == length calls) _ facts.notes).1).0
 
   module _ (k : ℕ) (part : List ShownCall) (txn : IsTxn calls k part) where
     abbrev ids : List Ltxid
@@ -131,11 +126,6 @@ module _ (t : Traced) (unblocked : list_all (λ entry. not (holds t.blocked entr
         let never : ⊥ = omega (arith, below, here, same) in
         never
 
-    held_at : (x : Ltxid) → list_any (under_at in_it x) sent ≡ true → holds ids x ≡ true
-    held_at x any =
-        subst (λ (all : List Ltxid). holds all x ≡ true) (sym (one_part calls trying.sendings (sendings_of course) (and_parts (trying.over == transaction_at calls (length calls)) (pointwise (is_noted calls) trying.sendings (sendings_of course)) (and_parts ((scan_of course).shown == length calls) _ facts.notes).1).1 k in_it (λ at. refl)))
-        (sent_tried x in_it (sendings_of course) any)
-
     committed_so : committed_has_one t.entries (record { shown = part; tried = ids }) ≡ true
     committed_so = by (is_shown_committed (record { shown = part; tried = ids })) refl
       where
@@ -148,7 +138,7 @@ module _ (t : Traced) (unblocked : list_all (λ entry. not (holds t.blocked entr
             let found = stored_id t.entries (0 + at.0) sent stored in
             let plain : 0 + at.0 ≡ at.0 = omega arith in
             let held : holds ids found.0 ≡ true =
-            held_at found.0
+            sent_list course facts.tells facts.notes k found.0
             (any_goes (λ s. (s.at == 0 + at.0) && is_under found.0 s) (under_at in_it found.0)
             (λ s here.
             let parts = and_parts (s.at == 0 + at.0) (is_under found.0 s) here in
@@ -242,7 +232,7 @@ module _ (t : Traced) (unblocked : list_all (λ entry. not (holds t.blocked entr
         ends_at (Some (failure.Incomplete x)) is is_open =
             let parts = and_parts (has_entry t.entries x) (list_any (is_open_at x (length calls)) sent) (subst (λ (f : Option Failure). ends_so t.entries course f ≡ true) is facts.ends) in
             and_from (holds ids x) (list_any (λ entry. same_ltxid entry.ltxid x) t.entries)
-            (held_at x (any_goes (is_open_at x (length calls)) (under_at in_it x)
+            (sent_list course facts.tells facts.notes k x (any_goes (is_open_at x (length calls)) (under_at in_it x)
             (λ s here.
             let one = and_parts (same_ltxid s.ltxid x) ((s.at == length calls) && is_none s.taken) here in
             let two = and_parts (s.at == length calls) (is_none s.taken) one.1 in
@@ -269,4 +259,4 @@ module _ (t : Traced) (unblocked : list_all (λ entry. not (holds t.blocked entr
   pub course_ends : request_ends t.entries course.report ≡ true
   course_ends =
       ap (λ (lists : List (List Ltxid)). list_all (λ txn. committed_has_one t.entries txn && (dropped_has_none t.entries txn && last_ends t.entries course.report.failed txn)) (with_tried (txns calls) lists)) (lists_are course facts.tells facts.notes)
-      ∙ each_txn calls (λ txn. committed_has_one t.entries txn && (dropped_has_none t.entries txn && last_ends t.entries course.report.failed txn)) trying.sendings trying.over over_is (λ k part txn. txn_so k part txn)
+      ∙ each_txn calls (λ txn. committed_has_one t.entries txn && (dropped_has_none t.entries txn && last_ends t.entries course.report.failed txn)) trying.sendings trying.over (over_is course facts.tells facts.notes) (λ k part txn. txn_so k part txn)

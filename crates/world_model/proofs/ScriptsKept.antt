@@ -76,7 +76,7 @@ held_follows setting number client doing held here follows = by held
     by hold.Drop = rests
 
 module _ (t : Traced) where
-  follows_get : (start : ℕ) (clients : List Client) (index number : ℕ) (client : Client) → number ≡ start + index → follow_scripts_from t start clients ≡ true → slice_get clients index ≡ Some client
+  pub follows_get : (start : ℕ) (clients : List Client) (index number : ℕ) (client : Client) → number ≡ start + index → follow_scripts_from t start clients ≡ true → slice_get clients index ≡ Some client
       → follows_script t number client ≡ true
   follows_get start [] index number client same all is = absurd (let none : ⊥ = cc in none)
   follows_get start (first ∷ clients) zero number client same all is =

@@ -1,4 +1,5 @@
--- How a request ends: without an error it has no call left, and it shows Incomplete at an outcome that says committed and not completed.
+-- How a request ends: without an error it has no call left, and with one it has; and it shows Incomplete at an outcome that says committed and
+-- not completed.
 use Rattle.std.proofs.Common.{◌≡◌, refl, sym, ap, subst, ◌∙◌, Bool, true, false, ℕ, ◌+◌, ◌-◌, ◌||◌, cond, drop, List, [], ◌∷◌, Option, Some, None, if◌then◌else◌}
 use Rattle.std.specs.Prelude.{◌&&◌, not, nat_le, slice_get, is_some, is_none, Ok, Err}
 use Rattle.std.specs.Option.{option_map_or}
@@ -40,9 +41,13 @@ keeps_on hold.Keep = true
 keeps_on hold.GiveBack = false
 keeps_on hold.Drop = false
 
--- where it ends without an error, none of these is left behind what it shows
+-- where it fails one of these is left behind what it shows, and where it ends without an error none is
+abbrev ends_by : List Call → Option Shown → Hold → Option Failed → Bool
+ends_by left shown held None = keeps_on held || is_none (slice_get left (cond (is_some shown) 1 0))
+ends_by left shown held (Some fault) = is_some (slice_get left (cond (is_some shown) 1 0))
+
 abbrev EndsSo : List Call → Step → Type 0
-EndsSo left step = (keeps_on step.1.hold || (is_some step.1.failed || is_none (slice_get left (cond (is_some step.1.shown) 1 0)))) ≡ true
+EndsSo left step = ends_by left step.1.shown step.1.hold step.1.failed ≡ true
 
 behind_first : (left : List Call) → slice_get (drop 1 left) 0 ≡ slice_get left 1
 behind_first [] = refl
@@ -58,7 +63,7 @@ module _ (left : List Call) where
   ends_next terms talk state false before shown now None none = none refl
   ends_next terms talk state alive before shown now (Some call) none = ends_call terms talk state alive before shown now call
 
-module _ (terms : Terms) (talk : Talk) where
+module _ (terms : Terms) (talk : Talk) (some : is_some (next_call talk) ≡ true) where
   -- where no call was shown
   last_call : next_call talk ≡ None → is_none (slice_get talk.left 0) ≡ true
   last_call none = ap is_none none
@@ -73,7 +78,7 @@ module _ (terms : Terms) (talk : Talk) where
   ends_hello (Some lost) x true now = refl
 
   ends_reply : (state : Living) (answers : List Answer) (draws : List Draw) (x : Ltxid) (alive : Bool) (now : ℕ) (call : Option Call) → EndsSo talk.left (on_reply terms talk state answers draws x alive now call)
-  ends_reply state answers draws x alive now None = refl
+  ends_reply state answers draws x alive now None = some
   ends_reply state answers draws x alive now (Some call) =
       let after : Talk = talk_shown terms talk call answers in
       ends_next talk.left terms after (record { track = with_shown terms state.track call answers draws; ltxid = x }) alive [] (Some (record { answers = answers; draws = draws; ltxid = x })) now (next_call after) (last_shown call answers)
@@ -84,39 +89,39 @@ module _ (terms : Terms) (talk : Talk) where
 
   ends_compared : (state : Repeating) (alive : Bool) (seen answers : List ℕ) (now : ℕ) (test : Bool) → EndsSo talk.left (on_compared terms talk alive now (if test then Ok (verified_more state) else Err (mismatch state seen answers)))
   ends_compared state alive seen answers now true = ends_marked (verified_more state) alive [] now (next_of (verified_more state))
-  ends_compared state alive seen answers now false = refl
+  ends_compared state alive seen answers now false = some
 
   ends_repeated : (state : Repeating) (answers : List Answer) (draws : List Draw) (x : Ltxid) (alive : Bool) (now : ℕ) (one : Option Recorded) → EndsSo talk.left (on_repeated terms talk state answers draws x alive now one)
-  ends_repeated state answers draws x alive now None = refl
+  ends_repeated state answers draws x alive now None = some
   ends_repeated state answers draws x alive now (Some one) = ends_compared state alive one.seen.digest (terms.digest answers) now (bytes_eq one.seen.digest (terms.digest answers))
 
   ends_behind : (call : Call) (state : Living) (event : ℕ) (alive : Bool) (shown : Shown) (now : ℕ) (next : Option Call) → next_call (talk_shown terms talk call (answer.Committed ∷ [])) ≡ next
       → EndsSo talk.left (after_completed terms (talk_shown terms talk call (answer.Committed ∷ [])) state event alive shown now next)
   ends_behind call state event true shown now None none = last_shown call (answer.Committed ∷ []) none
   ends_behind call state event false shown now None none = last_shown call (answer.Committed ∷ []) none
-  ends_behind call state event alive shown now (Some next) some = by (state.track.set_shown && not terms.rules.keeps)
+  ends_behind call state event alive shown now (Some next) follows = by (state.track.set_shown && not terms.rules.keeps)
     where
       by : (gone : Bool) → EndsSo talk.left (if gone then fails (talk_shown terms talk call (answer.Committed ∷ [])) alive (Some shown) (failed.Disabled (why.StateLost state.track.call) event) else sends_call terms (talk_shown terms talk call (answer.Committed ∷ [])) state alive (begin_of (talk_shown terms talk call (answer.Committed ∷ [])) ∷ []) (Some shown) now next)
-      by true = refl
+      by true = ap is_some (sym (behind_first talk.left) ∙ follows)
       by false = ends_call talk.left terms (talk_shown terms talk call (answer.Committed ∷ [])) state alive (begin_of (talk_shown terms talk call (answer.Committed ∷ [])) ∷ []) (Some shown) now next
 
   ends_completed : (state : Living) (event : ℕ) (alive : Bool) (now : ℕ) (call : Option Call) → EndsSo talk.left (on_completed terms talk state event alive now call)
-  ends_completed state event alive now None = refl
+  ends_completed state event alive now None = some
   ends_completed state event alive now (Some call) =
       ends_behind call (record state { track = with_shown terms state.track call (answer.Committed ∷ []) [] }) event alive (record { answers = answer.Committed ∷ []; draws = []; ltxid = state.ltxid }) now (next_call (talk_shown terms talk call (answer.Committed ∷ []))) refl
 
   ends_uncommitted : (asking : Asking) (alive : Bool) (now : ℕ) (reason : Option Why) → EndsSo talk.left (on_told terms talk asking alive now (uncommitted reason asking terms.limits now))
-  ends_uncommitted asking alive now (Some reason) = refl
+  ends_uncommitted asking alive now (Some reason) = some
   ends_uncommitted asking alive now None = by (nat_le terms.limits.replays asking.track.replays) (is_late terms.limits.timeout asking.track.first now)
     where
       by : (many late : Bool) → EndsSo talk.left (on_told terms talk asking alive now (if many then told.Replays (over asking) else (if late then told.Late (over asking) else told.Replay (repeated asking))))
-      by true late = refl
-      by false true = refl
+      by true late = some
+      by false true = some
       by false false = ends_marked (repeated asking) alive (begin_of talk ∷ []) now (next_of (repeated asking))
 
   ends_told : (asking : Asking) (alive : Bool) (now : ℕ) (committed completed : Bool) → EndsSo talk.left (on_told terms talk asking alive now (told_of asking committed completed terms.limits now))
   ends_told asking alive now true true = ends_completed (resumed (completed_on asking)) asking.event alive now (next_call talk)
-  ends_told asking alive now true false = refl
+  ends_told asking alive now true false = some
   ends_told asking alive now false completed = ends_uncommitted asking alive now asking.track.why
 
   ends_taken : (phase : Phase) (frame : Down) (alive : Bool) (now : ℕ) → EndsSo talk.left (takes terms talk phase frame alive now)
@@ -124,36 +129,42 @@ module _ (terms : Terms) (talk : Talk) where
   ends_taken phase (down.Refused cause) alive now = refl
   ends_taken (Greeting lost) (down.Hello x) alive now = ends_hello lost x alive now
   ends_taken (Asked asking) (down.OutcomeIs committed completed) alive now = ends_told asking alive now committed completed
-  ends_taken (Asked asking) (down.OutcomeRefused ahead.Forgotten horizon) alive now = refl
+  ends_taken (Asked asking) (down.OutcomeRefused ahead.Forgotten horizon) alive now = some
   ends_taken (Running state) (down.Reply answers draws x) alive now = ends_reply state answers draws x alive now (next_call talk)
   ends_taken (Replaying state) (down.Reply answers draws x) alive now = ends_repeated state answers draws x alive now (next_of state)
-  ends_taken phase frame alive now = refl
+  ends_taken phase frame alive now = some
 
   pub ends_at : (input : Input) (now : ℕ) → EndsSo talk.left (talk_step terms talk input now)
   ends_at Start now = refl
   ends_at Waiting now = by (nat_le terms.limits.wait (now - waits_from talk.phase now))
     where
       by : (long : Bool) → EndsSo talk.left (if long then fails talk false None (failed.PoolWait (waits_from talk.phase now) now) else (stands talk (Queued (Some (waits_from talk.phase now))), quiet))
-      by true = refl
+      by true = some
       by false = refl
   ends_at (Lent connection x) now = ends_hello None x true now
   ends_at (Opened connection) now = refl
   ends_at TryFailed now = by (nat_le terms.limits.retries (talk.tries + 1))
     where
       by : (many : Bool) → EndsSo talk.left (if many then fails (with_tried talk now) false None (failed.Retries (talk.tries + 1)) else (stands (with_tried talk now) (Seeking (lost_of talk.phase)), quiet))
-      by true = refl
+      by true = some
       by false = refl
   ends_at (Took frame alive) now = ends_taken talk.phase frame alive now
   ends_at (Gone event) now = refl
 
-pub none_left : (terms : Terms) (talk : Talk) (input : Input) (now : ℕ) → ((talk_step terms talk input now).1.hold ≡ hold.Keep → ⊥) → (talk_step terms talk input now).1.failed ≡ None → is_none (slice_get talk.left (cond (is_some (talk_step terms talk input now).1.shown) 1 0)) ≡ true
-none_left terms talk input now lets plain = by (talk_step terms talk input now).1.hold (talk_step terms talk input now).1.failed lets plain (ends_at terms talk input now)
+pub none_left : (terms : Terms) (talk : Talk) → is_some (next_call talk) ≡ true → (input : Input) (now : ℕ) → ((talk_step terms talk input now).1.hold ≡ hold.Keep → ⊥) → (talk_step terms talk input now).1.failed ≡ None
+    → is_none (slice_get talk.left (cond (is_some (talk_step terms talk input now).1.shown) 1 0)) ≡ true
+none_left terms talk some input now lets plain =
+    by (talk_step terms talk input now).1.hold lets (ap (ends_by talk.left (talk_step terms talk input now).1.shown (talk_step terms talk input now).1.hold) (sym plain) ∙ ends_at terms talk some input now)
   where
-    by : (held : Hold) (fault : Option Failed) → (held ≡ hold.Keep → ⊥) → fault ≡ None → (keeps_on held || (is_some fault || is_none (slice_get talk.left (cond (is_some (talk_step terms talk input now).1.shown) 1 0)))) ≡ true → is_none (slice_get talk.left (cond (is_some (talk_step terms talk input now).1.shown) 1 0)) ≡ true
-    by hold.Keep fault lets plain here = absurd (lets refl)
-    by hold.GiveBack None lets plain here = here
-    by hold.Drop None lets plain here = here
-    by held (Some one) lets plain here = absurd (let none : ⊥ = cc in none)
+    by : (held : Hold) → (held ≡ hold.Keep → ⊥) → (keeps_on held || is_none (slice_get talk.left (cond (is_some (talk_step terms talk input now).1.shown) 1 0))) ≡ true → is_none (slice_get talk.left (cond (is_some (talk_step terms talk input now).1.shown) 1 0)) ≡ true
+    by hold.Keep lets here = absurd (lets refl)
+    by hold.GiveBack lets here = here
+    by hold.Drop lets here = here
+
+pub some_left : (terms : Terms) (talk : Talk) → is_some (next_call talk) ≡ true → (input : Input) (now : ℕ) (fault : Failed) → (talk_step terms talk input now).1.failed ≡ Some fault
+    → is_some (slice_get talk.left (cond (is_some (talk_step terms talk input now).1.shown) 1 0)) ≡ true
+some_left terms talk some input now fault fails_so =
+    ap (ends_by talk.left (talk_step terms talk input now).1.shown (talk_step terms talk input now).1.hold) (sym fails_so) ∙ ends_at terms talk some input now
 
 -- ERRORS ------------------------------------------------------------------------------------------
 

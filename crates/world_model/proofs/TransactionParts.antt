@@ -3,7 +3,7 @@ use Rattle.std.proofs.Common.{◌≡◌, refl, sym, ap, subst, ◌∙◌, Bool, 
 use Rattle.std.specs.Prelude.{◌==◌, nat_le, slice_get}
 use Rattle.std.specs.List.{list_all, last_or}
 use Rattle.std.specs.Option.{option_map_or}
-use Rattle.std.proofs.lemmas.Bool.{and_from}
+use Rattle.std.proofs.lemmas.Bool.{and_parts, and_from}
 use Rattle.std.proofs.lemmas.Bool.Decides.{nat_tests}
 use Rattle.std.proofs.lemmas.List.{take_all}
 use Rattle.svc_values.specs.declared.answer.Answer.{Answer}
@@ -12,7 +12,7 @@ use Rattle.outage_schedule.specs.declared.request.ShownCall.{ShownCall}
 use Rattle.client_model.specs.Tried.{Sending as Noted, tried_in, tried_upto}
 use Rattle.run_clauses.specs.Transactions.{Txn, put_first, txns, with_tried}
 use Rattle.world_model.specs.Once.{shows_at, transaction_at}
-use Rattle.world_model.proofs.EndedCalls.{ended_below}
+use Rattle.world_model.proofs.EndedCalls.{ended_before, ended_below}
 use Rattle.world_model.proofs.NotedParts.{ends_counted, ends_in}
 use Rattle.world_model.proofs.Tests.{eq_from, le_from}
 
@@ -233,3 +233,49 @@ module _ (whole : List ShownCall) where
       let ends : over ≡ ends_in whole = is ∙ (ap (count_by (λ (call : ShownCall). ends_transaction call.answers)) (take_all (length whole) whole (omega arith)) ∙ ends_counted whole) in
       let many : length (txns whole) ≡ suc over = parts_many whole ∙ ap suc (sym ends) in
       each_with test noted one (txns whole) (suc over) 0 many all_txns
+
+  -- what holds of each holds of the one with this number
+  txn_at : (test : Txn → Bool) (noted : List Noted) (parts : List (List ShownCall)) (left k j : ℕ) → length parts ≡ left → AllTxns k parts → k ≤ j → j < k + left → list_all test (with_tried parts (tried_upto left k noted)) ≡ true
+      → (part : List ShownCall) × (IsTxn j part × (test (record { shown = part; tried = tried_in j noted }) ≡ true))
+  txn_at test noted [] left k j long all least below here = absurd (let never : ⊥ = omega (arith, long, least, below) in never)
+  txn_at test noted (part ∷ parts) zero k j long all least below here = absurd (let never : ⊥ = omega (arith, long) in never)
+  txn_at test noted (part ∷ parts) (suc left) k j long all least below here =
+      by (later_at k j least)
+      (λ more.
+      let rest : length parts ≡ left = omega (arith, long) in
+      let less : j < suc k + left = omega (arith, below) in
+      txn_at test noted parts left (suc k) j rest all.1 more less tests.1)
+    where
+      tests : (test (record { shown = part; tried = tried_in k noted }) ≡ true) × (list_all test (with_tried parts (tried_upto left (suc k) noted)) ≡ true)
+      tests = and_parts (test (record { shown = part; tried = tried_in k noted })) (list_all test (with_tried parts (tried_upto left (suc k) noted))) here
+
+      by : (k ≡ j) ⊎ ((k + 1) ≤ j) → (suc k ≤ j → (one : List ShownCall) × (IsTxn j one × (test (record { shown = one; tried = tried_in j noted }) ≡ true))) → (one : List ShownCall) × (IsTxn j one × (test (record { shown = one; tried = tried_in j noted }) ≡ true))
+      by (inl same) again = (part, (subst (λ (n : ℕ). IsTxn n part) same all.0, subst (λ (n : ℕ). test (record { shown = part; tried = tried_in n noted }) ≡ true) same tests.0))
+      by (inr later) again = again (omega (arith, later))
+
+  -- the last one, which no call ended
+  pub last_txn : (test : Txn → Bool) (noted : List Noted) (over : ℕ) → over ≡ transaction_at whole (length whole) → list_all test (with_tried (txns whole) (tried_upto (suc over) 0 noted)) ≡ true
+      → (part : List ShownCall) × ((is_ended part ≡ false) × (test (record { shown = part; tried = tried_in over noted }) ≡ true))
+  last_txn test noted over is here = (found.0, (still_open found.0 found.1.0 (last_or None found.0) refl, found.1.1))
+    where
+      ends : over ≡ ends_in whole
+      ends = is ∙ (ap (count_by (λ (call : ShownCall). ends_transaction call.answers)) (take_all (length whole) whole (omega arith)) ∙ ends_counted whole)
+
+      found : (part : List ShownCall) × (IsTxn over part × (test (record { shown = part; tried = tried_in over noted }) ≡ true))
+      found =
+          let many : length (txns whole) ≡ suc over = parts_many whole ∙ ap suc (sym ends) in
+          let less : over < 0 + suc over = omega arith in
+          txn_at test noted (txns whole) (suc over) 0 over many all_txns (omega arith) less here
+
+      still_open : (part : List ShownCall) → IsTxn over part → (last : Option ShownCall) → last_or None part ≡ last → option_map_or (λ call. ends_transaction call.answers) last false ≡ false
+      still_open part txn None last = refl
+      still_open part txn (Some call) last = by (ends_transaction call.answers) refl
+        where
+          by : (test : Bool) → ends_transaction call.answers ≡ test → test ≡ false
+          by false goes = refl
+          by true goes =
+              let at = txn.ended call last goes in
+              let below : transaction_at whole at.0 < transaction_at whole (length whole) = ended_before whole at.0 (ap (λ (one : Option ShownCall). option_map_or (λ c. ends_transaction c.answers) one false) at.1.0 ∙ goes) in
+              let here_at : transaction_at whole at.0 ≡ over = at.1.1 in
+              let same : over ≡ transaction_at whole (length whole) = is in
+              absurd (let never : ⊥ = omega (arith, below, here_at, same) in never)

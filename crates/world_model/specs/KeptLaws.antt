@@ -25,7 +25,7 @@ pub record IsKept (test : Traced → Bool) : Type 0 where
   pub at_event : (before after : Seen) (old new : Traced) (event : Event) (note : Note) (items left : List Served)
       → OneEvent before old event note items left after new → Orderly old → IsTrue (test new)
 
--- a test of the state, in runs of documents whose requests each have a call
+-- a test of the state, in runs of documents whose requests are right
 pub record IsKeptOfCalls (test : Traced → Bool) : Type 0 where
   pub at_start : (document : Document) → IsTrue (all_have_calls document) → IsTrue (test (traced_start document))
   pub at_event : (before after : Seen) (old new : Traced) (event : Event) (note : Note) (items left : List Served)
@@ -92,7 +92,7 @@ NumberIsKept =
     (before after : Seen) (old new : Traced) (event : Event) (note : Note) (items left : List Served)
     → OneEvent before old event note items left after new → Orderly old → Number new
 
--- what is orderly, as a whole, in runs of documents whose requests each have a call
+-- what is orderly, as a whole, in runs of documents whose requests are right
 pub record OrderlyIsKept : Type 0 where
   pub at_start : (document : Document) → IsTrue (all_have_calls document) → Orderly (traced_start document)
   pub at_event : (before after : Seen) (old new : Traced) (event : Event) (note : Note) (items left : List Served)

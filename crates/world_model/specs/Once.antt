@@ -182,15 +182,16 @@ all_but_last t shown (sending ∷ earlier) = later_settled t shown (transaction_
 abbrev pub earlier_settled : Traced → Bool
 earlier_settled t = list_all (λ course. all_but_last t course.report.calls (commit_sendings course)) (courses_of t)
 
--- O3d: How a request that is over ended: without an error no call of its script is left. With Incomplete it had sent the next call, under
--- the identifier of the error, which has its entry. A sending of the next call that was not answered is on a connection that it lost
+-- O3d: How a request that is over ended: without an error no call of its script is left, and with an error one is. With Incomplete it had
+-- sent that call, under the identifier of the error, which has its entry. A sending of the next call that was not answered is on a connection
+-- that it lost
 abbrev pub is_open_at : Ltxid → ℕ → Sending → Bool
 is_open_at x count sending = same_ltxid sending.ltxid x && ((sending.at == count) && is_none sending.taken)
 
 abbrev pub ends_so : List Entry → Course → Option Failure → Bool
 ends_so entries course None = is_none (slice_get course.request.calls (length course.report.calls))
 ends_so entries course (Some (failure.Incomplete x)) = has_entry entries x && list_any (is_open_at x (length course.report.calls)) (commit_sendings course)
-ends_so entries course (Some other) = true
+ends_so entries course (Some other) = is_some (slice_get course.request.calls (length course.report.calls))
 
 abbrev pub is_left_lost : ℕ → List ℕ → Sending → Bool
 is_left_lost count lost sending = is_some sending.taken || (not (sending.at == count) || list_any (λ number. number == sending.connection) lost)

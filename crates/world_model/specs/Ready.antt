@@ -1,8 +1,11 @@
 -- What a request in course is ready for: what it says next fits the grammar of its connection.
-use Rattle.std.specs.Prelude.{◌≡◌, ◌==◌, ◌&&◌, Bool, true, false, not, IsTrue, List, [], ◌∷◌, length, None, is_none}
+use Rattle.std.specs.Prelude.{◌≡◌, ◌==◌, ◌&&◌, ◌||◌, Bool, true, false, not, IsTrue, List, [], ◌∷◌, length, None, is_none}
 use Rattle.std.specs.List.{list_all}
 use Rattle.std.specs.Option.{option_map_or}
 use Rattle.svc_values.specs.declared.answer.Answer.TheVariants as answer
+use Rattle.svc_values.specs.declared.call.Call.{Call}
+use Rattle.svc_values.specs.declared.call.Call.TheVariants as call
+use Rattle.svc_values.specs.Calls.{has_commit}
 use Rattle.request_bounds.specs.declared.rule.After.{After}
 use Rattle.request_bounds.specs.declared.rule.After.TheVariants as after
 use Rattle.call_recorder.specs.declared.recorded.Recorded.{Recorded}
@@ -22,9 +25,28 @@ use Rattle.world_model.specs.Wire.{is_alter}
 abbrev pub has_calls : Request → Bool
 has_calls request = not (length request.calls == 0)
 
--- each request of the document has a call
+-- a call that may stand before the last one of a transaction: it ends nothing, and stores nothing by itself
+abbrev pub is_inside : Call → Bool
+is_inside call.Rollback = false
+is_inside (call.Alter line) = false
+is_inside one = not (has_commit one)
+
+-- one transaction: its last call commits, and the others stand inside it
+abbrev pub is_one_transaction : List Call → Bool
+is_one_transaction [] = false
+is_one_transaction (one ∷ []) = has_commit one
+is_one_transaction (one ∷ calls) = is_inside one && is_one_transaction calls
+
+-- only a request that is one transaction is submitted again
+abbrev pub is_rightly_repeated : Request → Bool
+is_rightly_repeated request = (request.again == 0) || is_one_transaction request.calls
+
+abbrev pub is_right_request : Request → Bool
+is_right_request request = has_calls request && is_rightly_repeated request
+
+-- each request of the document has a call, and is one transaction where it is submitted again
 abbrev pub all_have_calls : Document → Bool
-all_have_calls document = list_all (λ client. list_all has_calls client.requests) document.clients
+all_have_calls document = list_all (λ client. list_all is_right_request client.requests) document.clients
 
 -- the setting is that of such a document
 pub record IsOfCalls (setting : Setting) : Type 0 where

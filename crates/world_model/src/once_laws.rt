@@ -1,7 +1,7 @@
 //! What of entries and of the sendings that they are of holds of the start and is kept in each event. Each law is the clause of a function
 //! with nothing to run.
 ghost use Rattle.world_model.specs.KeptLaws.{IsKeptOfAll, StaysTrue};
-ghost use Rattle.world_model.specs.Once.{completed_rightly, on_links, have_fates, outs_wait, entries_sent, committed_stored, are_apart, note_sendings, tell_tried, tried_apart, all_placed, all_known, earlier_settled, transactions_have_one, shown_stored, all_end, over_ends};
+ghost use Rattle.world_model.specs.Once.{completed_rightly, on_links, have_fates, outs_wait, entries_sent, committed_stored, are_apart, note_sendings, tell_tried, tried_apart, all_placed, all_known, earlier_settled, transactions_have_one, shown_stored, all_end, over_ends, copies_once};
 
 /// The identifier of each sending with a commit is one of its connection's session.
 pub fn sendings_are_of_sessions()
@@ -70,9 +70,9 @@ pub fn committed_calls_are_stored()
     server_model::laws::runs_number();
 }
 
-/// A request that is over and shows no error has no call of its script left; one that shows Incomplete had sent the next call, under the
-/// identifier of the error, which has its entry. A sending of the next call that was not answered is on a connection that was lost. It is
-/// so if the whole invariant held before.
+/// A request that is over and shows no error has no call of its script left, and one that shows an error has; one that shows Incomplete had
+/// sent the next call, under the identifier of the error, which has its entry. A sending of the next call that was not answered is on a
+/// connection that was lost. It is so if the whole invariant held before.
 pub fn requests_end_rightly()
     ensures { IsKeptOfAll all_end }
 {}
@@ -113,6 +113,16 @@ pub fn transactions_have_one_entry()
 /// committed has one entry, one that was dropped has none, and the last one has what the error of the request says.
 pub fn reports_tell_entries()
     ensures { IsKeptOfAll over_ends }
+{
+    commit_log::laws::keeps_journal();
+    server_model::laws::runs_number();
+}
+
+/// All copies of a request that is submitted again have one entry at most, and it is of the last copy, in runs of documents in which such a
+/// request is one transaction, if the whole invariant held before: a copy that a further one follows ended with an error before its commit
+/// was shown, and its last transaction has no entry.
+pub fn copies_have_one_entry()
+    ensures { IsKeptOfAll copies_once }
 {
     commit_log::laws::keeps_journal();
     server_model::laws::runs_number();
