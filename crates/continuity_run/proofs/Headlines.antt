@@ -34,7 +34,7 @@ use Rattle.service_core.specs.Sound.{IsSound as IsSoundIn}
 use Rattle.service_core.specs.Within.{Within}
 use Rattle.world_model.specs.Reached.{IsRun}
 use Rattle.world_model.specs.Reported.{IsReported}
-use Rattle.world_model.specs.Ready.{all_have_calls}
+use Rattle.world_model.specs.Ready.{all_requests_right}
 use Rattle.world_model.proofs.Offered.{finishing_start}
 use Rattle.world_run.specs.declared.world.Ran.{Ran}
 use Rattle.continuity_run.specs.declared.store.Before.{Before}
@@ -172,7 +172,7 @@ module _ (document : Document) (ran : Ran Within) (before : Before) (report : Re
   printed_as true is = (bytes_in ran.service, (is, off.reads))
   printed_as false is = is
 
-  stored_so : RunsHold → all_have_calls document ≡ true → stored document report ≡ true
+  stored_so : RunsHold → all_requests_right document ≡ true → stored document report ≡ true
   stored_so laws calls =
       let told = laws.horizons document report has.seen has.traced gained.server reported in
       both_true _ _ (laws.outcomes document report has.seen has.traced gained.server calls reported)
@@ -183,13 +183,14 @@ module _ (document : Document) (ran : Ran Within) (before : Before) (report : Re
       (both_true _ _ (laws.answered document report has.seen has.traced gained.server reported) (laws.ordered document report has.seen has.traced gained.server reported))
       (image_is document report off.journal read_from (sym off.forgotten ∙ same_number report.forgotten (last_horizon document report) told) (printed_as document.print_image off.image))))))
 
-  headline : RunsHold → all_have_calls document ≡ true → Headline document report
+  headline : RunsHold → all_requests_right document ≡ true → Headline document report
   headline laws calls = record {
     followed_so = laws.followed document report has.seen has.traced is_run (off.clients ∙ has.clients);
     serial = serial_of laws.serial;
     legal = laws.legal document report has.seen has.traced gained.server reported;
     fresh_new = laws.fresh_new document report has.seen has.traced gained.server reported;
     fresh = laws.fresh document report has.seen has.traced gained.server reported;
+    once_so = laws.once document report has.seen has.traced gained.server calls reported;
     stored_so = stored_so laws calls;
     journal = off.journal;
     read = read_from;
@@ -197,7 +198,7 @@ module _ (document : Document) (ran : Ran Within) (before : Before) (report : Re
   }
 
 pub headline_if : {E : Type 0} (document : Document) (ran : Ran Within) (before : Before) (result : Result Report E) → HasRun SeesIn document ran → Counts (journal_before document) before
-    → IfOk result (IsReadOff (bytes_in ran.service) before document.print_image ran) → (bytes : List ℕ) → journal_of bytes ≡ Ok (journal_before document) → HaveOneBase bytes (bytes_in ran.service) → RunsHold → all_have_calls document ≡ true
+    → IfOk result (IsReadOff (bytes_in ran.service) before document.print_image ran) → (bytes : List ℕ) → journal_of bytes ≡ Ok (journal_before document) → HaveOneBase bytes (bytes_in ran.service) → RunsHold → all_requests_right document ≡ true
     → IfOk result (Headline document)
 headline_if document ran before (Ok report) has counts off bytes reads kept laws calls =
     headline document ran before report has counts off (kept (journal_before document) off.journal reads off.reads) laws calls

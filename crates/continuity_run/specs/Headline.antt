@@ -6,6 +6,7 @@ use Rattle.outage_schedule.specs.declared.document.Document.{Document}
 use Rattle.outage_schedule.specs.declared.report.Report.{Report}
 use Rattle.run_clauses.specs.Before.{journal_before, tables_of}
 use Rattle.run_clauses.specs.Fresh.{fresh}
+use Rattle.run_clauses.specs.Once.{once}
 use Rattle.run_clauses.specs.Serial.{IsSerial, printed_tables}
 use Rattle.run_clauses.specs.Stored.{stored}
 use Rattle.world_model.specs.Followed.{followed}
@@ -39,6 +40,9 @@ pub record Headline (document : Document) (report : Report) : Type 0 where
   pub fresh_new : IsTrue (has_room_for document report) → IsTrue (is_fresh_new document report)
   -- where no call was repeated, no value stands twice among what the entries drew
   pub fresh : IsTrue (has_room_for document report) → IsTrue (none_repeated report) → IsTrue (fresh report)
+  -- each transaction stands in the journal at most once: exactly once where it was shown as committed, and not at all where it was shown as
+  -- dropped
+  pub once_so : IsTrue (once document report)
   -- each outcome that was told is the stored one, by the table and the horizon of then; blocks and entries never share an identifier
   pub stored_so : IsTrue (stored document report)
   -- it is read from what the store holds at the end

@@ -1,5 +1,6 @@
 -- What is proved of whole runs and of their reports, before any is made.
 use Rattle.server_model.specs.Laws.{RunsSerial}
+use Rattle.world_model.specs.OnceLaws.{ReportsAreOnce}
 use Rattle.world_model.specs.Reported.{RunsAreLegal, RunsAreFreshNew, RunsAreFresh}
 use Rattle.world_model.specs.RunLaws.{RunsAreFollowed}
 use Rattle.world_model.specs.StoredLaws.{OutcomesAreStored, AnswersAreRight, HorizonsAreTold, BlocksStayApart, BlocksAreAnswered, BlocksComeInOrder}
@@ -10,6 +11,7 @@ pub record RunsHold : Type 0 where
   pub legal : RunsAreLegal
   pub fresh_new : RunsAreFreshNew
   pub fresh : RunsAreFresh
+  pub once : ReportsAreOnce
   pub outcomes : OutcomesAreStored
   pub answers : AnswersAreRight
   pub horizons : HorizonsAreTold

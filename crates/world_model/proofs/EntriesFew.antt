@@ -1,7 +1,7 @@
 -- No two entries have one identifier, and those of one transaction of a request are at most one.
-use Rattle.std.proofs.Common.{◌≡◌, refl, sym, ap, subst, ◌∙◌, Bool, true, false, ℕ, suc, zero, ◌+◌, ◌≤◌, ◌&&◌, ◌||◌, cond, length, List, [], ◌∷◌, ◌⊎◌, inl, inr, if◌then◌else◌, arith, map}
+use Rattle.std.proofs.Common.{◌≡◌, refl, sym, ap, subst, ◌∙◌, Bool, true, false, ℕ, suc, zero, ◌+◌, ◌≤◌, ◌&&◌, ◌||◌, cond, length, List, [], ◌∷◌, ◌⊎◌, inl, inr, if◌then◌else◌, arith}
 use Rattle.std.specs.Prelude.{◌==◌, not, nat_le, flat_map}
-use Rattle.std.specs.Cmp.Lexicographic.{pointwise, pointwise_decides}
+use Rattle.std.specs.Cmp.Lexicographic.{pointwise}
 use Rattle.std.specs.List.{list_all, list_any}
 use Rattle.std.proofs.lemmas.Bool.{and_parts, and_from, or_cases, or_left, or_right, not-true, not_from_false}
 use Rattle.commit_log.specs.Keeping.{EachKeeps}
@@ -13,7 +13,7 @@ use Rattle.outage_schedule.specs.declared.request.ShownCall.{ShownCall}
 use Rattle.client_model.specs.Tried.{Trying, trying_of, tried_in, tried_upto}
 use Rattle.run_clauses.specs.EntryEvents.{entries_of}
 use Rattle.run_clauses.specs.Once.{entries_differ, entries_in}
-use Rattle.run_clauses.specs.Tried.{holds, ids_tried, tried_of}
+use Rattle.run_clauses.specs.Tried.{holds, ids_tried}
 use Rattle.server_model.specs.Laws.{EntryNumbers}
 use Rattle.world_model.specs.KeptLaws.{IsKeptOfAll}
 use Rattle.world_model.specs.Number.{entries_numbered, none_blocked, numbered_after}

@@ -299,12 +299,12 @@ starts_once document =
 pub copies_law : EachKeeps → EntryNumbers → IsKeptOfAll copies_once
 copies_law keeps numbers = record {
   at_start = starts_once;
-  at_event = λ granted before after old new event note items left one inv.
+  at_event = λ before after old new event note items left one inv.
       copies_by new
       (subst (λ (setting : Setting). list_all (list_all is_right_request) setting.scripts ≡ true) (sym (one.setting ∙ inv.orderly.setting.same)) (of_document inv.orderly.setting.document inv.orderly.setting.calls).scripts)
       (scripts_law.at_event before after old new event note items left one inv.orderly)
       (are_right new ((unblocked_law keeps).at_event before after old new event note items left one inv.orderly) ((entries_law keeps).at_event before after old new event note items left one inv.orderly)
-      (tried_law.at_event granted before after old new event note items left one inv) (noted_law.at_event before after old new event note items left one inv.orderly inv.once.noted)
-      ((settled_law keeps numbers).at_event granted before after old new event note items left one inv) (placed_law.at_event granted before after old new event note items left one inv)
-      (ended_law.at_event granted before after old new event note items left one inv) ((over_law keeps numbers).at_event granted before after old new event note items left one inv));
+      (tried_law.at_event before after old new event note items left one inv) (noted_law.at_event before after old new event note items left one inv.orderly inv.once.noted)
+      ((settled_law keeps numbers).at_event before after old new event note items left one inv) (placed_law.at_event before after old new event note items left one inv)
+      (ended_law.at_event before after old new event note items left one inv) ((over_law keeps numbers).at_event before after old new event note items left one inv));
 }

@@ -12,7 +12,7 @@ use Rattle.outage_schedule.specs.declared.document.Request.{Request}
 use Rattle.world_model.specs.Settings.{Setting, rules_of, setting_of}
 use Rattle.world_model.specs.Clients.{resting}
 use Rattle.world_model.specs.KeptLaws.{IsKeptOfCalls}
-use Rattle.world_model.specs.Ready.{has_calls, is_rightly_repeated, is_right_request, all_have_calls, is_ready_client, are_ready}
+use Rattle.world_model.specs.Ready.{has_calls, is_rightly_repeated, is_right_request, all_requests_right, is_ready_client, are_ready}
 use Rattle.world_model.proofs.AllLists.{map_all, weaker_all}
 use Rattle.world_model.proofs.Happened.{Followed, follow_happens, at_event}
 use Rattle.world_model.proofs.TalkReady.{AreRight}
@@ -29,7 +29,7 @@ pub record HasRightCalls (setting : Setting) : Type 0 where
   pub right : AreRight setting.terms.rules
   pub scripts : list_all (list_all is_right_request) setting.scripts ≡ true
 
-pub of_document : (document : Document) → all_have_calls document ≡ true → HasRightCalls (setting_of document)
+pub of_document : (document : Document) → all_requests_right document ≡ true → HasRightCalls (setting_of document)
 of_document document calls = record {
   right = right_rules document.service.failover document.service.consistency;
   scripts = map_all (λ (client : Scripted). list_all is_right_request client.requests) (list_all is_right_request) (λ (client : Scripted). client.requests) document.clients (λ client here. here) calls;

@@ -29,6 +29,7 @@ use Rattle.server_model.specs.Seen.{Seen}
 use Rattle.world_model.specs.Clients.{Client, is_unfinished, reports_of, script_at}
 use Rattle.world_model.specs.Coupled.{Coupled}
 use Rattle.world_model.specs.Invariant.{Orderly}
+use Rattle.world_model.specs.KeptLaws.{WholeRunsKeepInvariant}
 use Rattle.world_model.specs.Links.{Link, link_at}
 use Rattle.world_model.specs.Number.{is_of_run, is_session}
 use Rattle.world_model.specs.Once.{Once, copies_have, copies_once, has_sending, is_completed_rightly, is_foreign, is_of_link, is_on_link, reverse_onto, tells_tried, tried_one, with_now}
@@ -277,10 +278,11 @@ module _ (document : Document) (report : Report) (seen : Seen) (t : Traced) (ser
           later_ends image report.entries course.report (apart_from t image foreign course last.0 last.1)
           (subst (λ (entries : List Entry). request_ends entries course.report ≡ true) all_entries (implied course.is_over (request_ends t.entries course.report) next.0 first.0))
 
-pub reports_once : ReportsAreOnce
-reports_once document report seen t server is inv so have =
-    and_from (tried_fits report) _ (fits document report seen t server is inv so)
-    (and_from (entries_tried_once report) _ (tried_once document report seen t server is inv so)
-    (and_from (entries_differ report.entries) _ (entries_apart document report seen t server is inv so)
-    (and_from (no_list_has_two report) _ (none_has_two document report seen t server is inv so)
-    (and_from (all_copies_have_one document report) (requests_end report) (copies_one document report seen t server is inv so have) (ends document report seen t server is inv so)))))
+pub reports_once : WholeRunsKeepInvariant → ReportsAreOnce
+reports_once keeps document report seen t server calls is =
+    let inv = keeps document report.notes report.served seen t calls is.run in
+    and_from (tried_fits report) _ (fits document report seen t server is inv.orderly inv.once)
+    (and_from (entries_tried_once report) _ (tried_once document report seen t server is inv.orderly inv.once)
+    (and_from (entries_differ report.entries) _ (entries_apart document report seen t server is inv.orderly inv.once)
+    (and_from (no_list_has_two report) _ (none_has_two document report seen t server is inv.orderly inv.once)
+    (and_from (all_copies_have_one document report) (requests_end report) (copies_one document report seen t server is inv.orderly inv.once inv.once.copies) (ends document report seen t server is inv.orderly inv.once)))))

@@ -36,7 +36,7 @@ use Rattle.world_model.specs.Invariant.{Orderly}
 use Rattle.world_model.specs.KeptLaws.{OrderlyIsKept}
 use Rattle.world_model.specs.OneEvent.{OneEvent}
 use Rattle.world_model.specs.Reached.{traced_start, Reached, Begins, GoesOn, IsFinishing, Scheduled, Finishes}
-use Rattle.world_model.specs.Ready.{all_have_calls}
+use Rattle.world_model.specs.Ready.{all_requests_right}
 use Rattle.world_model.specs.Serving.{outcome_frame}
 use Rattle.world_model.specs.Settings.{Setting, setting_of}
 use Rattle.world_model.specs.StoredLaws.{AnswersAreRight, BlocksStayApart, OutcomesAreStored}
@@ -56,7 +56,7 @@ use Rattle.world_model.proofs.ServedPass.{served_pass, still_pass}
 abbrev pub IsByItems : (Item → Bool) → (Outcome → Bool) → Type 0
 IsByItems passes right = (x : Ltxid) (result : AskResult) (committed completed : Bool) → outcome_frame result ≡ down.OutcomeIs committed completed → passes (item.Outcome x result) ≡ true → right (record { ltxid = x; committed = committed; completed = completed }) ≡ true
 
-module _ (kept : OrderlyIsKept) (document : Document) (calls : IsTrue (all_have_calls document)) (passes : Item → Bool) (right : Outcome → Bool) (by_items : IsByItems passes right) where
+module _ (kept : OrderlyIsKept) (document : Document) (calls : IsTrue (all_requests_right document)) (passes : Item → Bool) (right : Outcome → Bool) (by_items : IsByItems passes right) where
   -- what was served so far passes, and so does what was told
   record SoFar (t : Traced) : Type 0 where
     orderly : Orderly t

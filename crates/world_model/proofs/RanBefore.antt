@@ -19,7 +19,7 @@ use Rattle.world_model.specs.Machines.{next_session}
 use Rattle.world_model.specs.Number.{is_known, is_of_run}
 use Rattle.world_model.specs.OneEvent.{OneEvent}
 use Rattle.world_model.specs.Reached.{Reached, Begins, GoesOn}
-use Rattle.world_model.specs.Ready.{all_have_calls}
+use Rattle.world_model.specs.Ready.{all_requests_right}
 use Rattle.world_model.specs.RunLaws.{RunsAreOrderly}
 use Rattle.world_model.specs.Serving.{Front, front_at, is_of_front}
 use Rattle.world_model.specs.Traced.{Traced}
@@ -97,7 +97,7 @@ module _ (before after : Seen) (old new : Traced) (event : Event) (note : Note) 
       by (AddsFrame at front served is of_front happened turned) = by_front at front served is of_front (turned.all number link here)
       by (AddsNone none alone) = by_alone (alone number link here)
 
-pub none_before : RunsAreOrderly → (document : Document) (events : List Event) (notes : List Note) (items : List Served) (seen : Seen) (t : Traced) → all_have_calls document ≡ true → Reached document events notes items seen t → NoneBefore seen t
+pub none_before : RunsAreOrderly → (document : Document) (events : List Event) (notes : List Note) (items : List Served) (seen : Seen) (t : Traced) → all_requests_right document ≡ true → Reached document events notes items seen t → NoneBefore seen t
 none_before orderly document _ _ _ _ _ calls (Begins seen start history horizon coupled) = λ number link session there its. none_at number link there
 none_before orderly document _ _ _ _ _ calls (GoesOn events notes items more before after old new event note reached one forgets) =
     none_now before after old new event note more [] one (orderly document events notes items before old calls reached) (none_before orderly document events notes items before old calls reached)

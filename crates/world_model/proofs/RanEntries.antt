@@ -20,7 +20,7 @@ use Rattle.world_model.specs.Invariant.{Orderly}
 use Rattle.world_model.specs.Links.{Link, link_at}
 use Rattle.world_model.specs.Parts.{implies}
 use Rattle.world_model.specs.Reached.{Reached}
-use Rattle.world_model.specs.Ready.{all_have_calls}
+use Rattle.world_model.specs.Ready.{all_requests_right}
 use Rattle.world_model.specs.RunLaws.{RunsAreOrderly}
 use Rattle.world_model.specs.Same.{ran_by, are_pieces, is_session_of, link_of, is_ran, entries_ran}
 use Rattle.world_model.specs.SameLaws.{RunsServe, RunsRan}
@@ -37,7 +37,7 @@ use Rattle.world_model.proofs.RunStarts.{reached_coupled}
 use Rattle.world_model.proofs.Stages.{last_all}
 use Rattle.world_model.proofs.Tests.{eq_from, eq_to}
 
-module _ (orderly : RunsAreOrderly) (serve : RunsServe) (legal : RunsLegal) (document : Document) (events : List Event) (notes : List Note) (items : List Served) (seen : Seen) (t : Traced) (calls : all_have_calls document ≡ true)
+module _ (orderly : RunsAreOrderly) (serve : RunsServe) (legal : RunsLegal) (document : Document) (events : List Event) (notes : List Note) (items : List Served) (seen : Seen) (t : Traced) (calls : all_requests_right document ≡ true)
     (reached : Reached document events notes items seen t) where
   inv : Orderly t
   inv = orderly document events notes items seen t calls reached

@@ -19,6 +19,7 @@ use Rattle.world_model.specs.SameLaws.{RunsRan}
 use Rattle.world_model.specs.Shown.{Shown}
 use Rattle.world_model.specs.Traced.{Traced}
 use Rattle.world_model.proofs.EntriesFew.{one_law}
+use Rattle.world_model.proofs.KeptCopies.{copies_law}
 use Rattle.world_model.proofs.KeptAnswers.{answers_law}
 use Rattle.world_model.proofs.KeptApart.{apart_law}
 use Rattle.world_model.proofs.KeptAsks.{asks_law}
@@ -94,6 +95,7 @@ once_begins keeps numbers document = record {
   noted = noted_law.at_start document;
   tried = tried_law.at_start document;
   lists = lists_law.at_start document;
+  copies = (copies_law keeps numbers).at_start document;
 }
 
 -- AN EVENT ----------------------------------------------------------------------------------------
@@ -141,6 +143,7 @@ module _ (before after : Seen) (old new : Traced) (event : Event) (note : Note) 
     noted = noted_law.at_event before after old new event note items left one inv.orderly inv.once.noted;
     tried = tried_law.at_event before after old new event note items left one inv;
     lists = lists_law.at_event before after old new event note items left one inv;
+    copies = (copies_law keeps numbers).at_event before after old new event note items left one inv;
   }
 
 -- A RUN -------------------------------------------------------------------------------------------

@@ -11,7 +11,7 @@ use Rattle.outage_schedule.specs.declared.item.Served.{Served}
 use Rattle.server_model.specs.Seen.{Seen}
 use Rattle.world_model.specs.Finishing.{AtServer}
 use Rattle.world_model.specs.Reached.{Reached}
-use Rattle.world_model.specs.Ready.{all_have_calls}
+use Rattle.world_model.specs.Ready.{all_requests_right}
 use Rattle.world_model.specs.Remaining.{remaining}
 use Rattle.world_model.specs.Traced.{Traced}
 
@@ -34,7 +34,7 @@ pub record AreLimits (document : Document) : Type 0 where
   pub recorded : document.service.record_limit ≤ 256
   pub clients : length document.clients ≤ 64
   pub calls : length (calls_of_scripts document.clients) ≤ 2048
-  pub have_calls : IsTrue (all_have_calls document)
+  pub have_calls : IsTrue (all_requests_right document)
   pub again : IsTrue (are_repeated_little document)
 
 -- Wherever a run of at most 100,000 events has come to, so much at most is left of the finish that begins there.

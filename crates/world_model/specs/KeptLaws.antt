@@ -7,7 +7,7 @@ use Rattle.outage_schedule.specs.declared.note.Note.{Note}
 use Rattle.outage_schedule.specs.declared.item.Served.{Served}
 use Rattle.world_model.specs.Settings.{setting_of}
 use Rattle.world_model.specs.Traced.{Traced}
-use Rattle.world_model.specs.Ready.{all_have_calls}
+use Rattle.world_model.specs.Ready.{all_requests_right}
 use Rattle.world_model.specs.Basic.{Basic}
 use Rattle.world_model.specs.Wire.{Wire}
 use Rattle.world_model.specs.Hold.{Hold}
@@ -27,7 +27,7 @@ pub record IsKept (test : Traced → Bool) : Type 0 where
 
 -- a test of the state, in runs of documents whose requests are right
 pub record IsKeptOfCalls (test : Traced → Bool) : Type 0 where
-  pub at_start : (document : Document) → IsTrue (all_have_calls document) → IsTrue (test (traced_start document))
+  pub at_start : (document : Document) → IsTrue (all_requests_right document) → IsTrue (test (traced_start document))
   pub at_event : (before after : Seen) (old new : Traced) (event : Event) (note : Note) (items left : List Served)
       → OneEvent before old event note items left after new → Orderly old → IsTrue (test new)
 
@@ -94,7 +94,7 @@ NumberIsKept =
 
 -- what is orderly, as a whole, in runs of documents whose requests are right
 pub record OrderlyIsKept : Type 0 where
-  pub at_start : (document : Document) → IsTrue (all_have_calls document) → Orderly (traced_start document)
+  pub at_start : (document : Document) → IsTrue (all_requests_right document) → Orderly (traced_start document)
   pub at_event : (before after : Seen) (old new : Traced) (event : Event) (note : Note) (items left : List Served)
       → OneEvent before old event note items left after new → Orderly old → Orderly new
 
@@ -102,14 +102,14 @@ pub record OrderlyIsKept : Type 0 where
 abbrev pub RunsKeepInvariant : Type 0
 RunsKeepInvariant =
     (document : Document) (events : List Event) (notes : List Note) (items : List Served) (seen : Seen) (t : Traced)
-    → IsTrue (all_have_calls document) → Reached document events notes items seen t → Invariant t
+    → IsTrue (all_requests_right document) → Reached document events notes items seen t → Invariant t
 
 -- and so it does wherever its finish has come to
 abbrev pub FinishesKeepInvariant : Type 0
 FinishesKeepInvariant =
     (document : Document) (place : Place) (notes : List Note) (items : List Served) (seen : Seen) (t : Traced)
-    → IsTrue (all_have_calls document) → IsFinishing document place notes items seen t → Invariant t
+    → IsTrue (all_requests_right document) → IsFinishing document place notes items seen t → Invariant t
 
 -- and at the end of a whole run
 abbrev pub WholeRunsKeepInvariant : Type 0
-WholeRunsKeepInvariant = (document : Document) (notes : List Note) (items : List Served) (seen : Seen) (t : Traced) → IsTrue (all_have_calls document) → IsRun document notes items seen t → Invariant t
+WholeRunsKeepInvariant = (document : Document) (notes : List Note) (items : List Served) (seen : Seen) (t : Traced) → IsTrue (all_requests_right document) → IsRun document notes items seen t → Invariant t

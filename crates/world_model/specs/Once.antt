@@ -264,8 +264,7 @@ tell_tried t = list_all tells_tried (courses_of t)
 abbrev pub tried_apart : Traced → Bool
 tried_apart t = ids_differ (flat_map (λ course. ids_tried course.report) (courses_of t))
 
--- O6: copies of a request with `again` above 0: an entry is of the last copy, and there is at most one. (No law has it yet, so the record below is
--- without it.)
+-- O6: copies of a request with `again` above 0: an entry is of the last copy, and there is at most one
 abbrev pub with_now : Traced → ℕ → List RequestReport
 with_now t client = map (λ course. course.report) (filter (λ course. course.owner.client == client) (courses_of t))
 
@@ -345,3 +344,4 @@ pub record Once (t : Traced) : Type 0 where
   pub noted : IsTrue (note_sendings t)
   pub tried : IsTrue (tell_tried t)
   pub lists : IsTrue (tried_apart t)
+  pub copies : IsTrue (copies_once t)

@@ -45,14 +45,14 @@ abbrev pub is_right_request : Request → Bool
 is_right_request request = has_calls request && is_rightly_repeated request
 
 -- each request of the document has a call, and is one transaction where it is submitted again
-abbrev pub all_have_calls : Document → Bool
-all_have_calls document = list_all (λ client. list_all is_right_request client.requests) document.clients
+abbrev pub all_requests_right : Document → Bool
+all_requests_right document = list_all (λ client. list_all is_right_request client.requests) document.clients
 
 -- the setting is that of such a document
 pub record IsOfCalls (setting : Setting) : Type 0 where
   pub document : Document
   pub same : setting ≡ setting_of document
-  pub calls : IsTrue (all_have_calls document)
+  pub calls : IsTrue (all_requests_right document)
 
 -- PHASES ------------------------------------------------------------------------------------------
 

@@ -10,7 +10,7 @@ use Rattle.server_model.specs.Seen.{Seen}
 use Rattle.world_model.specs.Followed.{transcripts_of, followed}
 use Rattle.world_model.specs.Invariant.{Orderly}
 use Rattle.world_model.specs.Reached.{Reached, IsRun}
-use Rattle.world_model.specs.Ready.{all_have_calls}
+use Rattle.world_model.specs.Ready.{all_requests_right}
 use Rattle.world_model.specs.Traced.{Traced}
 
 -- A report that has the notes and items of a whole run, and whose clients were shown what the run's were, is one that its events lead to.
@@ -22,7 +22,7 @@ RunsAreFollowed =
 abbrev pub RunsAreOrderly : Type 0
 RunsAreOrderly =
     (document : Document) (events : List Event) (notes : List Note) (items : List Served) (seen : Seen) (t : Traced)
-    → IsTrue (all_have_calls document) → Reached document events notes items seen t → Orderly t
+    → IsTrue (all_requests_right document) → Reached document events notes items seen t → Orderly t
 
 -- At the end of a run the store has the horizon that the openings of its report ask for.
 abbrev pub HorizonsAreStored : Type 0

@@ -8,7 +8,7 @@ use Rattle.outage_schedule.specs.declared.note.Note.{Note}
 use Rattle.server_model.specs.Seen.{Seen}
 use Rattle.world_model.specs.Links.{Link, link_at}
 use Rattle.world_model.specs.Reached.{Reached}
-use Rattle.world_model.specs.Ready.{all_have_calls}
+use Rattle.world_model.specs.Ready.{all_requests_right}
 use Rattle.world_model.specs.Same.{entries_ran}
 use Rattle.world_model.specs.SessionHistory.{served_in, served_on}
 use Rattle.world_model.specs.Traced.{Traced}
@@ -17,11 +17,11 @@ use Rattle.world_model.specs.Traced.{Traced}
 abbrev pub RunsServe : Type 0
 RunsServe =
     (document : Document) (events : List Event) (notes : List Note) (items : List Served) (seen : Seen) (t : Traced)
-    → IsTrue (all_have_calls document) → Reached document events notes items seen t
+    → IsTrue (all_requests_right document) → Reached document events notes items seen t
     → (number : ℕ) (link : Link) (session : SessionId) → link_at t.machine.links number ≡ Some link → link.session ≡ Some session → served_in seen.history session ≡ served_on link
 
 -- Wherever it has come to, the entry of a number of a connection's session has the pieces of the transaction of this number that the connection ran.
 abbrev pub RunsRan : Type 0
 RunsRan =
     (document : Document) (events : List Event) (notes : List Note) (items : List Served) (seen : Seen) (t : Traced)
-    → IsTrue (all_have_calls document) → Reached document events notes items seen t → IsTrue (entries_ran t)
+    → IsTrue (all_requests_right document) → Reached document events notes items seen t → IsTrue (entries_ran t)

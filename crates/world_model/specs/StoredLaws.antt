@@ -8,7 +8,7 @@ use Rattle.run_clauses.specs.Moments.{moments}
 use Rattle.run_clauses.specs.Stored.{kept_by, outcomes_stored, answers_right, forgotten_fits, blocked_or_entry}
 use Rattle.server_model.specs.Runs.{Server}
 use Rattle.server_model.specs.Seen.{Seen}
-use Rattle.world_model.specs.Ready.{all_have_calls}
+use Rattle.world_model.specs.Ready.{all_requests_right}
 use Rattle.world_model.specs.Reported.{IsReported}
 use Rattle.world_model.specs.Traced.{Traced}
 
@@ -36,8 +36,8 @@ BlocksAreAnswered = HoldsOfReports (λ document report. blocks_answered (answere
 abbrev pub BlocksComeInOrder : Type 0
 BlocksComeInOrder = HoldsOfReports (λ document report. blocks_in_order (journal_before document).blocked (answered_in (moments report)) report.blocked)
 
--- Each outcome that a client was told is the stored one, where each request of the document has a call.
+-- Each outcome that a client was told is the stored one, where the requests of the document are right.
 abbrev pub OutcomesAreStored : Type 0
 OutcomesAreStored =
     (document : Document) (report : Report) (seen : Seen) (t : Traced) (server : Server)
-    → IsTrue (all_have_calls document) → IsReported document report seen t server → IsTrue (outcomes_stored (kept_by document report) report)
+    → IsTrue (all_requests_right document) → IsReported document report seen t server → IsTrue (outcomes_stored (kept_by document report) report)

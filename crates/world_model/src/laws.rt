@@ -89,7 +89,7 @@ pub fn wire_is_kept()
     ensures event { WireIsKept }
 {}
 
-/// In runs of documents whose requests each have a call: a request in course that sent no Begin has a call to send, one without a
+/// In runs of documents whose requests are right: a request in course that sent no Begin has a call to send, one without a
 /// slot had no connection, and no call that alters the service is among those that are repeated.
 pub fn requests_stay_ready()
     ensures { IsKeptOfCalls are_ready }
@@ -324,7 +324,7 @@ pub fn number_is_kept()
     server_model::laws::runs_number();
 }
 
-/// What is orderly, as a whole, in runs of documents whose requests each have a call: it holds of the start, and behind each event if it
+/// What is orderly, as a whole, in runs of documents whose requests are right: it holds of the start, and behind each event if it
 /// held before it.
 pub fn orderly_is_kept()
     ensures { OrderlyIsKept }
@@ -333,7 +333,7 @@ pub fn orderly_is_kept()
     server_model::laws::runs_number();
 }
 
-/// Wherever a run of a document whose requests each have a call has come to, it is orderly.
+/// Wherever a run of a document whose requests are right has come to, it is orderly.
 pub fn runs_are_orderly()
     ensures { RunsAreOrderly }
 {

@@ -2,7 +2,7 @@
 //! function with nothing to run.
 ghost use Rattle.world_model.specs.SameLaws.{RunsRan, RunsServe};
 
-/// Wherever a run of a document whose requests each have a call has come to, what the service's history has of a connection's session is
+/// Wherever a run of a document whose requests are right has come to, what the service's history has of a connection's session is
 /// what the connection served: frame by frame, with what was told.
 pub fn runs_serve()
     ensures { RunsServe }

@@ -31,7 +31,7 @@ pub fn horizons_are_told()
     ensures { HorizonsAreTold }
 {}
 
-/// Each outcome that a client was told is the stored one, where each request of the document has a call: it has committed exactly where
+/// Each outcome that a client was told is the stored one, where the requests of the document are right: it has committed exactly where
 /// the journal has an entry of its identifier, and completed is that entry's; where it has not, it is not completed, and its identifier is
 /// blocked.
 pub fn outcomes_are_stored()

@@ -11,7 +11,7 @@ use Rattle.server_model.specs.Seen.{Seen, IsNew}
 use Rattle.world_model.specs.Forgets.{first_of}
 use Rattle.world_model.specs.Machines.{per_record_of}
 use Rattle.world_model.specs.Reached.{Reached, traced_start}
-use Rattle.world_model.specs.Ready.{all_have_calls}
+use Rattle.world_model.specs.Ready.{all_requests_right}
 use Rattle.world_model.specs.Settings.{rules_of}
 use Rattle.world_run.specs.Running.{Parts, Stands}
 
@@ -20,7 +20,7 @@ use Rattle.world_run.specs.Running.{Parts, Stands}
 pub record IsOf (sees : Seen → Type 0) (rules : Rules) (of : ServiceOf) (scripts : List Script) (opened : Bool) (document : Document) (seen : Seen) : Type 0 where
   pub service : document.service ≡ of
   pub clients : document.clients ≡ scripts
-  pub calls : IsTrue (all_have_calls document)
+  pub calls : IsTrue (all_requests_right document)
   pub rules_are : rules ≡ rules_of of.failover of.consistency
   pub opened_is : opened ≡ was_opened document
   pub seen_so : sees seen

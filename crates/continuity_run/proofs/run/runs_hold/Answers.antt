@@ -7,6 +7,7 @@ returns c = record {
   legal = c.runs_are_legal.ensures;
   fresh_new = c.runs_are_fresh_new.ensures;
   fresh = c.runs_are_fresh.ensures;
+  once = c.reports_are_once.ensures;
   outcomes = c.outcomes_are_stored.ensures;
   answers = c.answers_are_right.ensures;
   horizons = c.horizons_are_told.ensures;
