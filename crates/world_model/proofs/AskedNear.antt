@@ -42,7 +42,7 @@ front_all test alike (x ∷ xs) (z ∷ zs) front all =
     and_from (test x) (list_all test xs) (alike x z one.0 two.0) (front_all test alike xs zs one.1 two.1)
 
 -- what holds of all that was sent holds of what may be served next
-first_all : (test : Sent → Bool) → ((a b : Sent) → same_sent a b ≡ true → test b ≡ true → test a ≡ true) → (link : Link) (first : Sent) (later : List Sent) → link.up ≡ first ∷ later → is_sent_front link ≡ true → list_all test link.sent ≡ true → test first ≡ true
+pub first_all : (test : Sent → Bool) → ((a b : Sent) → same_sent a b ≡ true → test b ≡ true → test a ≡ true) → (link : Link) (first : Sent) (later : List Sent) → link.up ≡ first ∷ later → is_sent_front link ≡ true → list_all test link.sent ≡ true → test first ≡ true
 first_all test alike link first later ups sent all =
     let served : List Sent = map (λ (h : Handled). h.sent) link.served in
     let whole : list_all test (served ++ first ∷ later) ≡ true =
@@ -53,7 +53,7 @@ no_owner : (owner : Option Owner) → owner ≡ None → is_some owner ≡ true 
 no_owner None is some = let none : ⊥ = cc in none
 no_owner (Some one) is some = let none : ⊥ = cc in none
 
-owners_are : (a b : Option Owner) → same_owners a b ≡ true → a ≡ b
+pub owners_are : (a b : Option Owner) → same_owners a b ≡ true → a ≡ b
 owners_are None None is = refl
 owners_are (Some a) (Some b) is = ap Some (same_owner_is a b is)
 owners_are None (Some b) is = absurd (let none : ⊥ = cc in none)
@@ -115,7 +115,7 @@ step_greeted (Rested one) owner (up.Begin settings) = stage_keeps _ (Begun owner
 step_greeted (Rested one) owner up.Close = stage_keeps _ Shut refl
 step_greeted stage owner frame = refl
 
-abbrev stages : Stage → List Sent → Stage
+abbrev pub stages : Stage → List Sent → Stage
 stages stage sents = fold (λ s sent. next_stage s sent.owner sent.frame) stage sents
 
 wrong_next : (owner : Option Owner) (frame : Up) → next_stage Wrong owner frame ≡ Wrong
@@ -125,7 +125,7 @@ wrong_stays : (sents : List Sent) → stages Wrong sents ≡ Wrong
 wrong_stays [] = refl
 wrong_stays (sent ∷ sents) = wrong_stays sents
 
-right_before : (stage : Stage) (sents : List Sent) → is_right (stages stage sents) ≡ true → is_right stage ≡ true
+pub right_before : (stage : Stage) (sents : List Sent) → is_right (stages stage sents) ≡ true → is_right stage ≡ true
 right_before Wrong sents right = ap is_right (sym (wrong_stays sents)) ∙ right
 right_before stage sents right = refl
 
@@ -148,7 +148,7 @@ any_all {A} p q (x ∷ xs) any all = by (or_cases (p x) (list_any p xs) any) (λ
     by (inl here) again = (x, (here, parts.0))
     by (inr later) again = again later
 
-any_one : {A : Type 0} (p : A → Bool) (xs : List A) → list_any p xs ≡ true → (x : A) × (p x ≡ true)
+pub any_one : {A : Type 0} (p : A → Bool) (xs : List A) → list_any p xs ≡ true → (x : A) × (p x ≡ true)
 any_one p [] any = absurd (let none : ⊥ = cc in none)
 any_one {A} p (x ∷ xs) any = by (or_cases (p x) (list_any p xs) any) (λ later. any_one p xs later)
   where
@@ -169,7 +169,7 @@ owned_from courses start (first ∷ links) (suc index) number link same all ther
     let next : number ≡ (start + 1) + index = omega arith in
     owned_from courses (start + 1) links index number link next (and_parts (list_all (λ sent. option_map_or (is_held_by courses start) sent.owner true) first.sent) (owned_rightly courses (start + 1) links) all).1 there
 
-owned_at : (t : Traced) (number : ℕ) (link : Link) → owned_rightly (courses_of t) 1 t.machine.links ≡ true → link_at t.machine.links number ≡ Some link → list_all (λ sent. option_map_or (is_held_by (courses_of t) number) sent.owner true) link.sent ≡ true
+pub owned_at : (t : Traced) (number : ℕ) (link : Link) → owned_rightly (courses_of t) 1 t.machine.links ≡ true → link_at t.machine.links number ≡ Some link → list_all (λ sent. option_map_or (is_held_by (courses_of t) number) sent.owner true) link.sent ≡ true
 owned_at t zero link all there = absurd (let none : ⊥ = cc in none)
 owned_at t (suc index) link all there = let same : suc index ≡ 1 + index = omega arith in owned_from (courses_of t) 1 t.machine.links index (suc index) link same all there
 

@@ -18,7 +18,7 @@ use Rattle.world_model.specs.Words.{held_in}
 use Rattle.world_model.proofs.CoursesGrow.{or_left}
 use Rattle.world_model.proofs.ServedGrows.{IsLonger}
 
-any_more : {A : Type 0} (test next : A → Bool) (xs : List A) → ((x : A) → test x ≡ true → next x ≡ true) → list_any test xs ≡ true → list_any next xs ≡ true
+pub any_more : {A : Type 0} (test next : A → Bool) (xs : List A) → ((x : A) → test x ≡ true → next x ≡ true) → list_any test xs ≡ true → list_any next xs ≡ true
 any_more test next [] keeps is = is
 any_more test next (x ∷ xs) keeps is =
     ⊎_elim (λ first. or_left (next x) (list_any next xs) (keeps x first)) (λ later. or_right (next x) (list_any next xs) (any_more test next xs keeps later)) (or_cases (test x) (list_any test xs) is)

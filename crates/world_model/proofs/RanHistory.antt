@@ -29,10 +29,10 @@ use Rattle.world_model.proofs.Tests.{same_session_is}
 
 -- ALL ENTRIES -------------------------------------------------------------------------------------
 
-abbrev whole_of : Walk → List Entry
+abbrev pub whole_of : Walk → List Entry
 whole_of walk = walk.stored ++ walk.left
 
-same_whole : (walk later : Walk) → IsSameWalk walk later → whole_of later ≡ whole_of walk
+pub same_whole : (walk later : Walk) → IsSameWalk walk later → whole_of later ≡ whole_of walk
 same_whole walk later same = ap (λ (stored : List Entry). stored ++ later.left) same.stored ∙ ap (λ (left : List Entry). walk.stored ++ left) same.left
 
 stores_whole : (walk later : Walk) (session : SessionId) (made : Transaction) (test : Bool) → Stores walk later session made test → whole_of later ≡ whole_of walk
@@ -40,7 +40,7 @@ stores_whole walk later session made _ (Keeps stored left) = ap (λ (all : List 
 stores_whole walk later session made _ (Takes entry rest left stored gone named pieces) =
     ap (λ (all : List Entry). all ++ later.left) stored ∙ ap (λ (all : List Entry). (walk.stored ++ entry ∷ []) ++ all) gone ∙ append_assoc walk.stored (entry ∷ []) rest ∙ ap (λ (all : List Entry). walk.stored ++ all) (sym left)
 
-moved_whole : (walk later : Walk) (session : SessionId) (thing : Thing) → Moved walk later session thing → whole_of later ≡ whole_of walk
+pub moved_whole : (walk later : Walk) (session : SessionId) (thing : Thing) → Moved walk later session thing → whole_of later ≡ whole_of walk
 moved_whole walk later session (Began settings) moved = ap (λ (all : List Entry). all ++ later.left) moved.stored ∙ ap (λ (all : List Entry). walk.stored ++ all) moved.left
 moved_whole walk later session (Called replay kept call answers draws) moved = stores_whole walk later session moved.made _ moved.stores
 moved_whole walk later session (CallStopped replay call) (IsStored answers draws calls) = stores_whole walk later session calls.made _ calls.stores
@@ -53,7 +53,7 @@ none_left (entry ∷ left) is = absurd (let never : ⊥ = cc in never)
 
 -- A QUESTION --------------------------------------------------------------------------------------
 
-asked_same : (base : Base) (walk : Walk) (n : ℕ) (x : Ltxid) (told : Telling) → IsSameWalk walk (after base (entered walk (asked_of n x told)) (asked_of n x told) (deed_of base (entered walk (asked_of n x told)) (asked_of n x told)))
+pub asked_same : (base : Base) (walk : Walk) (n : ℕ) (x : Ltxid) (told : Telling) → IsSameWalk walk (after base (entered walk (asked_of n x told)) (asked_of n x told) (deed_of base (entered walk (asked_of n x told)) (asked_of n x told)))
 asked_same base walk n x Silent = record { stored = refl; left = refl; sessions = refl }
 asked_same base walk n x (Says (down.OutcomeIs committed completed)) = tells_same walk x _
 asked_same base walk n x (Says (down.OutcomeRefused ahead next)) = tells_same walk x _
@@ -64,17 +64,17 @@ asked_same base walk n x Stopped = record { stored = refl; left = refl; sessions
 
 module _ (base : Base) (all : List Entry) (session : SessionId) where
   -- where the session's transactions are these, and the history has nothing more of it
-  abbrev Done : List (List ServedCall) → List Happened → Type 0
+  abbrev pub Done : List (List ServedCall) → List Happened → Type 0
   Done over history = (walk : Walk) (n : ℕ) → items_hold base walk (items_from n history) ≡ true → whole_of walk ≡ all → served_in history session ≡ [] → StoredRight walk session over → list_all (has_ran session over) all ≡ true
 
   abbrev item_at : ℕ → SessionId → ℕ → Up → Telling → Item
   item_at n other now frame told = Did n now other (thing_of frame told)
 
-  abbrev behind : Walk → Item → Walk
+  abbrev pub behind : Walk → Item → Walk
   behind walk one = after base (entered walk one) one (deed_of base (entered walk one) one)
 
   -- it holds, and so does the rest
-  both_hold : (walk : Walk) (one : Item) (items : List Item) → items_hold base walk (one ∷ items) ≡ true → (item_holds base (entered walk one) one (deed_of base (entered walk one) one) ≡ true) × (items_hold base (behind walk one) items ≡ true)
+  pub both_hold : (walk : Walk) (one : Item) (items : List Item) → items_hold base walk (one ∷ items) ≡ true → (item_holds base (entered walk one) one (deed_of base (entered walk one) one) ≡ true) × (items_hold base (behind walk one) items ≡ true)
   both_hold walk one items held = and_parts (item_holds base (entered walk one) one (deed_of base (entered walk one) one)) (items_hold base (behind walk one) items) held
 
   all_right : (over : List (List ServedCall)) (walk : Walk) → all_stored walk.left ≡ true → whole_of walk ≡ all → StoredRight walk session over → list_all (has_ran session over) all ≡ true
@@ -100,7 +100,7 @@ module _ (base : Base) (all : List Entry) (session : SessionId) where
           again (behind walk one) (n + 1) parts.1 (moved_whole here (behind walk one) other (thing_of frame told) moved ∙ same_whole walk here (enters walk one) ∙ whole) none
           (others_stored here (behind walk one) other session (thing_of frame told) over apart moved (same_stored walk here session over (enters walk one).stored right))
 
-  done_all : (over : List (List ServedCall)) (history : List Happened) → Done over history
+  pub done_all : (over : List (List ServedCall)) (history : List Happened) → Done over history
   done_all over [] = λ walk n held whole none right. all_right over walk held whole right
   done_all over (Asked x told ∷ history) = done_asked over x told history (done_all over history)
   done_all over (Served other now frame told ∷ history) = done_served over other now frame told history (done_all over history)
@@ -111,11 +111,11 @@ module _ (base : Base) (all : List Entry) (session : SessionId) where
   step ran one = ran_item ran one.sent one.served.item
 
   -- what is still to be served
-  record Rest (history : List Happened) (served : List Handled) (resting : Bool) (commits : ℕ) : Type 0 where
-    has : served_in history session ≡ map told_of served
-    handled : handled_from commits served ≡ true
-    lone : none_behind served ≡ true
-    rests : rests_rightly resting (map (λ one. one.sent.frame) served) ≡ true
+  pub record Rest (history : List Happened) (served : List Handled) (resting : Bool) (commits : ℕ) : Type 0 where
+    pub has : served_in history session ≡ map told_of served
+    pub handled : handled_from commits served ≡ true
+    pub lone : none_behind served ≡ true
+    pub rests : rests_rightly resting (map (λ one. one.sent.frame) served) ≡ true
 
   abbrev Runs : List Happened → Type 0
   Runs history = (walk : Walk) (n : ℕ) (served : List Handled) (ran : Ran) (resting : Bool) (commits : ℕ) → items_hold base walk (items_from n history) ≡ true → whole_of walk ≡ all → Rest history served resting commits → Stands walk session ran resting
@@ -129,13 +129,13 @@ module _ (base : Base) (all : List Entry) (session : SessionId) where
       (record { has = rest.has; handled = rest.handled; lone = rest.lone; rests = rest.rests }) (same_stands walk (behind walk one) session ran resting same stands)
 
   -- behind a call that was stopped there is none
-  stopped_last : (one : Handled) (others : List Handled) (marked : Bool) (called : _) → none_behind (one ∷ others) ≡ true → one.served.item ≡ item.CrashedCall marked called → others ≡ []
+  pub stopped_last : (one : Handled) (others : List Handled) (marked : Bool) (called : _) → none_behind (one ∷ others) ≡ true → one.served.item ≡ item.CrashedCall marked called → others ≡ []
   stopped_last one [] marked called lone is = refl
   stopped_last one (next ∷ others) marked called lone is =
       let ends : ends_life one ≡ true = ap (λ (i : ItemTold). is_last i || is_stopped i) is in
       absurd (let none : not (ends_life one) ≡ true = (and_parts (not (ends_life one)) (none_behind (next ∷ others)) lone).0 in let never : ⊥ = cc in never)
 
-  lone_later : (one : Handled) (others : List Handled) → none_behind (one ∷ others) ≡ true → none_behind others ≡ true
+  pub lone_later : (one : Handled) (others : List Handled) → none_behind (one ∷ others) ≡ true → none_behind others ≡ true
   lone_later one [] lone = refl
   lone_later one (next ∷ others) lone = (and_parts (not (ends_life one)) (none_behind (next ∷ others)) lone).1
 

@@ -79,12 +79,12 @@ abbrev Spends : Draw → Walk → Walk → List Draw → Type 0
 Spends one walk later new =
     times one (flat_map draws_of walk.left) + times one (drawn_open later.sessions) ≤ times one (flat_map draws_of later.left) + times one (drawn_open walk.sessions) + times one new
 
-all_new : (draws : List Draw) → new_among [] draws ≡ draws
+pub all_new : (draws : List Draw) → new_among [] draws ≡ draws
 all_new [] = refl
 all_new (given ∷ more) = ap (λ (all : List Draw). given ∷ all) (all_new more)
 
 -- without the mark no value is a kept one
-unmarked_new : (base : Base) (replay : Bool) (kept draws : List Draw) → replay ≡ false → new_among (kept_by base replay kept) draws ≡ draws
+pub unmarked_new : (base : Base) (replay : Bool) (kept draws : List Draw) → replay ≡ false → new_among (kept_by base replay kept) draws ≡ draws
 unmarked_new base true kept draws is = absurd (let never : ⊥ = cc in never)
 unmarked_new base false kept draws is = all_new draws
 

@@ -65,13 +65,18 @@ behind_shows terms talk state event alive shown now (Some call) = by (state.trac
     by false true = refl
     by false false = refl
 
-completed_shows : (terms : Terms) (talk : Talk) (state : Living) (event : ℕ) (alive : Bool) (now : ℕ) (shown : Shown) (call : Option Call) → (on_completed terms talk state event alive now call).1.shown ≡ Some shown → shown.answers ≡ answer.Committed ∷ []
-completed_shows terms talk state event alive now shown None is = none_shown _ shown refl is
-completed_shows terms talk state event alive now shown (Some call) is =
+-- an outcome shows a commit without a value
+completed_is : (terms : Terms) (talk : Talk) (state : Living) (event : ℕ) (alive : Bool) (now : ℕ) (shown : Shown) (call : Option Call) → (on_completed terms talk state event alive now call).1.shown ≡ Some shown
+    → record { answers = answer.Committed ∷ []; draws = []; ltxid = state.ltxid } ≡ shown
+completed_is terms talk state event alive now shown None is = none_shown _ shown refl is
+completed_is terms talk state event alive now shown (Some call) is =
     let after : Talk = talk_shown terms talk call (answer.Committed ∷ []) in
     let next : Living = record state { track = with_shown terms state.track call (answer.Committed ∷ []) [] } in
     let one : Shown = record { answers = answer.Committed ∷ []; draws = []; ltxid = state.ltxid } in
-    ap (λ (s : Shown). s.answers) (sym (same_shown (on_completed terms talk state event alive now (Some call)).1.shown one shown (behind_shows terms after next event alive one now (next_call after)) is))
+    same_shown (on_completed terms talk state event alive now (Some call)).1.shown one shown (behind_shows terms after next event alive one now (next_call after)) is
+
+pub completed_gives : (terms : Terms) (talk : Talk) (asking : Asking) (alive : Bool) (now : ℕ) (shown : Shown) → (takes terms talk (Asked asking) (down.OutcomeIs true true) alive now).1.shown ≡ Some shown → shown.draws ≡ []
+completed_gives terms talk asking alive now shown is = ap (λ (s : Shown). s.draws) (sym (completed_is terms talk (resumed (completed_on asking)) asking.event alive now shown (next_call talk) is))
 
 uncommitted_shows : (terms : Terms) (talk : Talk) (asking : Asking) (alive : Bool) (now : ℕ) (reason : Option Why) → (on_told terms talk asking alive now (uncommitted reason asking terms.limits now)).1.shown ≡ None
 uncommitted_shows terms talk asking alive now (Some reason) = refl
@@ -84,7 +89,7 @@ uncommitted_shows terms talk asking alive now None = by (nat_le terms.limits.rep
 
 told_shows : (terms : Terms) (talk : Talk) (asking : Asking) (committed completed alive : Bool) (now : ℕ) (shown : Shown) → (on_told terms talk asking alive now (told_of asking committed completed terms.limits now)).1.shown ≡ Some shown
     → (down.OutcomeIs committed completed ≡ down.OutcomeIs true true) × (shown.answers ≡ answer.Committed ∷ [])
-told_shows terms talk asking true true alive now shown is = (refl, completed_shows terms talk (resumed (completed_on asking)) asking.event alive now shown (next_call talk) is)
+told_shows terms talk asking true true alive now shown is = (refl, ap (λ (s : Shown). s.answers) (sym (completed_is terms talk (resumed (completed_on asking)) asking.event alive now shown (next_call talk) is)))
 told_shows terms talk asking true false alive now shown is = none_shown _ shown refl is
 told_shows terms talk asking false completed alive now shown is = none_shown _ shown (uncommitted_shows terms talk asking alive now asking.track.why) is
 

@@ -53,3 +53,4 @@ pub mod Judged
 pub mod Reported
 pub mod StoredLaws
 pub mod OnceLaws
+pub mod ValueLaws

@@ -25,6 +25,7 @@ use Rattle.run_clauses.specs.Tried.{Sending as Tried, is_tried, ids_tried, ids_d
 use Rattle.run_clauses.specs.Once.{request_ends, copies_have_one, entries_in}
 use Rattle.run_clauses.specs.Copies.{copies_of}
 use Rattle.run_clauses.specs.Fresh.{is_given_again}
+use Rattle.server_model.specs.Fresh.{draws_of}
 use Rattle.svc_values.specs.declared.frame.Down.{Down}
 use Rattle.svc_values.specs.declared.frame.Down.TheVariants as down
 use Rattle.world_model.specs.Frames.{Owner, Sent, Handled}
@@ -319,9 +320,10 @@ have_one_owner a b = not (is_given_again a.value b.value) || (same_owners a.owne
 abbrev pub owned : Traced → Bool
 owned t = each_pair have_one_owner (given t)
 
--- none is one that an `outside` drew, or that the image has
+-- None is one that a run from outside drew, or that such an entry has: one that the run added and that is of no connection. (An entry of the
+-- image has what its bytes say, whatever made them.)
 abbrev pub foreign_draws : Traced → List Draw
-foreign_draws t = t.outside_draws ++ flat_map (λ entry. flat_map (λ piece. piece.draws) entry.pieces) (filter (λ entry. not (is_of_link t entry)) t.entries)
+foreign_draws t = t.outside_draws ++ flat_map draws_of (filter (is_foreign t) (drop t.image t.entries))
 
 abbrev pub none_foreign : Traced → Bool
 none_foreign t = list_all (λ one. not (list_any (is_given_again one.value) (foreign_draws t))) (given t)

@@ -1,0 +1,23 @@
+-- To whom a run's values are given: each that stands once alone is given to one call of one request.
+use Rattle.std.specs.Prelude.{Bool, IsTrue, List, drop}
+use Rattle.outage_schedule.specs.declared.document.Document.{Document}
+use Rattle.outage_schedule.specs.declared.event.Event.{Event}
+use Rattle.outage_schedule.specs.declared.item.Served.{Served}
+use Rattle.outage_schedule.specs.declared.note.Note.{Note}
+use Rattle.server_model.specs.Fresh.{has_room}
+use Rattle.server_model.specs.Items.{items_of}
+use Rattle.server_model.specs.Seen.{Seen}
+use Rattle.world_model.specs.Once.{owned}
+use Rattle.world_model.specs.Reached.{Reached}
+use Rattle.world_model.specs.Ready.{all_have_calls}
+use Rattle.world_model.specs.Traced.{Traced}
+
+-- a test of each state that a run comes to, as long as identifiers can be spelled
+abbrev pub HoldsWithRoom : (Traced → Bool) → Type 0
+HoldsWithRoom test =
+    (document : Document) (events : List Event) (notes : List Note) (items : List Served) (seen : Seen) (t : Traced)
+    → IsTrue (all_have_calls document) → Reached document events notes items seen t → IsTrue (has_room seen.start (items_of seen.history) (drop t.image t.entries)) → IsTrue (test t)
+
+-- Of two that are the same value, the later one is given to a marked call, and both to one call of one request.
+abbrev pub ValuesHaveOneOwner : Type 0
+ValuesHaveOneOwner = HoldsWithRoom owned

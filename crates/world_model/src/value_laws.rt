@@ -1,0 +1,13 @@
+//! To whom the values of a run are given. Each law is the clause of a function with nothing to run.
+ghost use Rattle.world_model.specs.ValueLaws.{ValuesHaveOneOwner};
+
+/// Of two values that a run gave to calls and that are the same, the later one is given to a marked call, and both to one call of one
+/// request, as long as identifiers can be spelled. A tick of the clock may come again.
+pub fn values_have_one_owner()
+    ensures { ValuesHaveOneOwner }
+{
+    server_model::laws::runs_legal();
+    server_model::laws::runs_fresh_new();
+    crate::laws::runs_are_orderly();
+    crate::same_laws::runs_serve();
+}
