@@ -83,6 +83,14 @@ drawn_within value some base walk (item ∷ items) =
     let b = times_both value new (drawn_anew base later items) in
     omega (arith, rest, now, a, b)
 
+-- of more sessions it is more
+pub drawn_more : (value : Draw) (some more : SessionId → Bool) → ((session : SessionId) → some session ≡ true → more session ≡ true) → (base : Base) (walk : Walk) (items : List Item)
+    → times value (drawn_for some base walk items) ≤ times value (drawn_for more base walk items)
+drawn_more value some more within base walk items =
+    let kinds : AreApart some (λ session. false) more = record { apart = λ session is. refl; one = within; other = λ session never. absurd (let none : ⊥ = cc in none) } in
+    let all = drawn_apart value some (λ session. false) more kinds base walk items in
+    omega (arith, all)
+
 -- LISTS OF SESSIONS -------------------------------------------------------------------------------
 
 abbrev pub is_session : SessionId → SessionId → Bool

@@ -1,5 +1,5 @@
 -- How often a value stands among draws. None stands twice exactly where each that stands once alone does so at most once.
-use Rattle.std.proofs.Common.{◌≡◌, refl, sym, ap, ◌∙◌, subst, arith, ℕ, ◌+◌, ◌≤◌, ◌&&◌, ◌||◌, Bool, true, false, not, cond, List, [], ◌∷◌, ◌++◌}
+use Rattle.std.proofs.Common.{◌≡◌, refl, sym, ap, ◌∙◌, subst, arith, ℕ, zero, suc, ◌+◌, ◌≤◌, ◌&&◌, ◌||◌, Bool, true, false, not, cond, List, [], ◌∷◌, ◌++◌}
 use Rattle.std.specs.List.{list_any}
 use Rattle.std.proofs.lemmas.Bool.{and_parts, and_from, or_parts, not-true}
 use Rattle.svc_values.specs.declared.draw.Draw.{Draw}
@@ -72,3 +72,18 @@ each_once (other ∷ draws) once =
         let first : one_if (same_draw other other) ≡ 1 = ap one_if ((same_draw_decides other other).1 refl) in
         let all = once other is in
         ap (λ (b : Bool). b && list_any (same_draw other) draws) is ∙ none_there other draws (omega (arith, first, all))
+
+-- it stands there exactly where it does so at least once
+pub some_time : (one : Draw) (draws : List Draw) → list_any (same_draw one) draws ≡ true → 1 ≤ times one draws
+some_time one draws any = by (times one draws) refl
+  where
+    by : (count : ℕ) → times one draws ≡ count → 1 ≤ times one draws
+    by zero none = absurd (let never : false ≡ true = sym (none_there one draws none) ∙ any in let no : ⊥ = cc in no)
+    by (suc count) some = omega (arith, some)
+
+pub time_some : (one : Draw) (draws : List Draw) → 1 ≤ times one draws → list_any (same_draw one) draws ≡ true
+time_some one draws some = by (list_any (same_draw one) draws) refl
+  where
+    by : (any : Bool) → list_any (same_draw one) draws ≡ any → any ≡ true
+    by true is = refl
+    by false is = let none : times one draws ≡ 0 = no_time one draws is in absurd (let never : ⊥ = omega (arith, none, some) in never)

@@ -24,7 +24,7 @@ use Rattle.world_model.specs.Serving.{is_item_of}
 use Rattle.world_model.specs.Traced.{Traced}
 use Rattle.world_model.specs.Wire.{is_handled, counted_with, handled_from}
 use Rattle.world_model.proofs.DrawnOnce.{times, times_both}
-use Rattle.world_model.proofs.HistoryDraws.{anew, is_kept_first, are_drawn, is_drawn}
+use Rattle.world_model.proofs.FrameDraws.{anew, is_kept_first, are_drawn, is_drawn}
 use Rattle.world_model.proofs.LinkNumbers.{Was, Ordinary, Halted, was_so}
 use Rattle.world_model.proofs.OwnedLists.{is_origin, has_origin, owners_self, firsts, firsts_both}
 use Rattle.world_model.proofs.RepeatedGiven.{gave_before, kept_given, repeats_given}

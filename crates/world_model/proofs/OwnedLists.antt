@@ -54,7 +54,7 @@ stands_any {A} test (x ∷ xs) is = by (or_cases (test x) (list_any test xs) is)
     by (inr later) again = let found = again later in (found.0, (Later x xs found.1.0, found.1.1))
 
 -- one that is a first is counted
-some_first : (whole : List Given) (value : Draw) (x : Given) (xs : List Given) → Stands x xs → is_first whole value x ≡ true → 1 ≤ firsts whole value xs
+pub some_first : (whole : List Given) (value : Draw) (x : Given) (xs : List Given) → Stands x xs → is_first whole value x ≡ true → 1 ≤ firsts whole value xs
 some_first whole value x _ (Here more) is = let one : one_if (is_first whole value x) ≡ 1 = ap one_if is in omega (arith, one)
 some_first whole value x _ (Later y more stands) is = let rest = some_first whole value x more stands is in omega (arith, rest)
 
@@ -74,19 +74,19 @@ one_first whole value x y _ (Later z more one) (Later _ _ other) first second fe
 -- TWO OF THEM -------------------------------------------------------------------------------------
 
 -- the one from which a value came: itself, or the same value of the same call at an earlier event
-record From (whole : List Given) (value : Draw) (given : Given) : Type 0 where
-  one : Given
-  stands : Stands one whole
-  first : is_first whole value one ≡ true
-  owner : one.owner ≡ given.owner
-  call : one.call ≡ given.call
-  when : (one ≡ given) ⊎ ((one.event < given.event) × (given.mark ≡ true))
+pub record From (whole : List Given) (value : Draw) (given : Given) : Type 0 where
+  pub one : Given
+  pub stands : Stands one whole
+  pub first : is_first whole value one ≡ true
+  pub owner : one.owner ≡ given.owner
+  pub call : one.call ≡ given.call
+  pub when : (one ≡ given) ⊎ ((one.event < given.event) × (given.mark ≡ true))
 
 pub owners_self : (a : Option Owner) → same_owners a a ≡ true
 owners_self None = refl
 owners_self (Some a) = and_from (a.client == a.client) (a.place == a.place) (eq_to a.client a.client refl) (eq_to a.place a.place refl)
 
-from_one : (whole : List Given) (value : Draw) (given : Given) → Stands given whole → same_draw value given.value ≡ true → From whole value given
+pub from_one : (whole : List Given) (value : Draw) (given : Given) → Stands given whole → same_draw value given.value ≡ true → From whole value given
 from_one whole value given stands same = by (has_origin whole given) refl
   where
     by : (test : Bool) → has_origin whole given ≡ test → From whole value given

@@ -43,7 +43,8 @@ use Rattle.world_model.proofs.DrawnFor.{drawn_for, drawn_apart, drawn_within, fi
 use Rattle.world_model.proofs.DrawnOnce.{times, AreOnce, once_each}
 use Rattle.world_model.proofs.GivenFirsts.{served_firsts}
 use Rattle.world_model.proofs.HeldAtStop.{stopped_held}
-use Rattle.world_model.proofs.HistoryDraws.{anew, Told, history_draws}
+use Rattle.world_model.proofs.FrameDraws.{anew}
+use Rattle.world_model.proofs.HistoryDraws.{Told, history_draws}
 use Rattle.world_model.proofs.KeptRows.{rows_law}
 use Rattle.world_model.proofs.KnownLinks.{known_of}
 use Rattle.world_model.proofs.LinkHandled.{commits_behind}

@@ -47,7 +47,7 @@ moved_whole walk later session (CallStopped replay call) (IsStored answers draws
 moved_whole walk later session (CallStopped replay call) (IsNothing same) = same_whole walk later same
 moved_whole walk later session thing moved = same_whole walk later moved
 
-none_left : (left : List Entry) → all_stored left ≡ true → left ≡ []
+pub none_left : (left : List Entry) → all_stored left ≡ true → left ≡ []
 none_left [] is = refl
 none_left (entry ∷ left) is = absurd (let never : ⊥ = cc in never)
 

@@ -37,7 +37,7 @@ use Rattle.world_model.proofs.Tests.{session_self, same_session_is}
 
 -- TRANSACTIONS OF SESSIONS ------------------------------------------------------------------------
 
-transaction_own : (sessions : List (SessionId × Transaction)) (session : SessionId) (transaction : Transaction) → transaction_in (with_transaction sessions session transaction) session ≡ transaction
+pub transaction_own : (sessions : List (SessionId × Transaction)) (session : SessionId) (transaction : Transaction) → transaction_in (with_transaction sessions session transaction) session ≡ transaction
 transaction_own [] session transaction = ap (λ (test : Bool). if test then transaction else begun []) (session_self session)
 transaction_own (first ∷ rest) session transaction = by (same_session first.0 session) refl (transaction_own rest session transaction)
   where
@@ -126,10 +126,10 @@ same_stands walk later session ran resting same stands = record {
 -- ANOTHER SESSION'S ITEM --------------------------------------------------------------------------
 
 -- what an item of another session leaves
-record IsOthers (walk later : Walk) (session : SessionId) : Type 0 where
-  count : number_of later.stored session ≡ number_of walk.stored session
-  transaction : transaction_in later.sessions session ≡ transaction_in walk.sessions session
-  all : (over : List (List ServedCall)) → StoredRight walk session over → StoredRight later session over
+pub record IsOthers (walk later : Walk) (session : SessionId) : Type 0 where
+  pub count : number_of later.stored session ≡ number_of walk.stored session
+  pub transaction : transaction_in later.sessions session ≡ transaction_in walk.sessions session
+  pub all : (over : List (List ServedCall)) → StoredRight walk session over → StoredRight later session over
 
 same_others : (walk later : Walk) (session : SessionId) → IsSameWalk walk later → IsOthers walk later session
 same_others walk later session same = record {
@@ -160,7 +160,7 @@ calls_others walk later other session called answers draws apart calls = by (end
               ∙ and_from (list_all (has_ran session over) walk.stored) (list_all (has_ran session over) (entry ∷ [])) all (and_from (has_ran session over entry) true (other_ran session over entry foreign) refl);
         }
 
-moved_others : (walk later : Walk) (other session : SessionId) (thing : Thing) → same_session other session ≡ false → Moved walk later other thing → IsOthers walk later session
+pub moved_others : (walk later : Walk) (other session : SessionId) (thing : Thing) → same_session other session ≡ false → Moved walk later other thing → IsOthers walk later session
 moved_others walk later other session (Began settings) apart moved = record {
   count = ap (λ (stored : List Entry). number_of stored session) moved.stored;
   transaction = ap (λ (sessions : List (SessionId × Transaction)). transaction_in sessions session) moved.sessions ∙ transaction_other walk.sessions other session (begun settings) apart;
@@ -290,7 +290,7 @@ quiet_item ran sent (item.Call marked called answers draws) is = absurd (let nev
 quiet_item ran sent (item.CrashedCall marked called) is = absurd (let never : ⊥ = cc in never)
 quiet_item ran sent one is = refl
 
-quiet_same : (walk later : Walk) (session : SessionId) (thing : Thing) → is_quiet_thing thing ≡ true → Moved walk later session thing → IsSameWalk walk later
+pub quiet_same : (walk later : Walk) (session : SessionId) (thing : Thing) → is_quiet_thing thing ≡ true → Moved walk later session thing → IsSameWalk walk later
 quiet_same walk later session (Began settings) is moved = absurd (let never : ⊥ = cc in never)
 quiet_same walk later session (Called replay kept called answers draws) is moved = absurd (let never : ⊥ = cc in never)
 quiet_same walk later session (CallStopped replay called) is moved = absurd (let never : ⊥ = cc in never)

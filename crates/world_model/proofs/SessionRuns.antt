@@ -176,7 +176,7 @@ pub none_at : {A : Type 0} (number : ℕ) (link : Link) → link_at [] number �
 none_at zero link is = absurd (let none : ⊥ = cc in none)
 none_at (suc index) link is = absurd (let none : ⊥ = cc in none)
 
-reached_served : RunsAreOrderly → (document : Document) (events : List Event) (notes : List Note) (items : List Served) (seen : Seen) (t : Traced) → all_requests_right document ≡ true → Reached document events notes items seen t
+pub reached_served : RunsAreOrderly → (document : Document) (events : List Event) (notes : List Note) (items : List Served) (seen : Seen) (t : Traced) → all_requests_right document ≡ true → Reached document events notes items seen t
     → HasServed seen t × NoneUnmade seen t
 reached_served orderly document _ _ _ _ _ calls (Begins seen start history horizon coupled) =
     ((λ number link session there its. none_at number link there), λ session none. ap (λ (all : List Happened). served_in all session) history)

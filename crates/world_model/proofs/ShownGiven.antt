@@ -127,7 +127,7 @@ given_at links owner index (suc at) place (first ∷ shown) one same all there =
     given_at links owner (index + 1) at place shown one further (and_parts (is_given links owner index first) (all_given links owner (index + 1) shown) all).1 there
 
 -- each draw is among them
-own_draws : (all : List Draw) (draws : List Draw) → ((value : Draw) → list_any (same_draw value) draws ≡ true → list_any (same_draw value) all ≡ true) → list_all (λ value. list_any (same_draw value) all) draws ≡ true
+pub own_draws : (all : List Draw) (draws : List Draw) → ((value : Draw) → list_any (same_draw value) draws ≡ true → list_any (same_draw value) all ≡ true) → list_all (λ value. list_any (same_draw value) all) draws ≡ true
 own_draws all [] among = refl
 own_draws all (one ∷ draws) among =
     and_from (list_any (same_draw one) all) (list_all (λ value. list_any (same_draw value) all) draws) (among one (or_left (same_draw one one) (list_any (same_draw one) draws) ((same_draw_decides one one).1 refl)))

@@ -1,4 +1,4 @@
--- To whom a run's values are given: each that stands once alone is given to one call of one request.
+-- To whom a run's values are given: each that stands once alone is given to one call of one request, and none of these is drawn outside.
 use Rattle.std.specs.Prelude.{Bool, IsTrue, List, drop}
 use Rattle.outage_schedule.specs.declared.document.Document.{Document}
 use Rattle.outage_schedule.specs.declared.event.Event.{Event}
@@ -7,7 +7,7 @@ use Rattle.outage_schedule.specs.declared.note.Note.{Note}
 use Rattle.server_model.specs.Fresh.{has_room}
 use Rattle.server_model.specs.Items.{items_of}
 use Rattle.server_model.specs.Seen.{Seen}
-use Rattle.world_model.specs.Once.{owned}
+use Rattle.world_model.specs.Once.{owned, none_foreign}
 use Rattle.world_model.specs.Reached.{Reached}
 use Rattle.world_model.specs.Ready.{all_have_calls}
 use Rattle.world_model.specs.Traced.{Traced}
@@ -21,3 +21,7 @@ HoldsWithRoom test =
 -- Of two that are the same value, the later one is given to a marked call, and both to one call of one request.
 abbrev pub ValuesHaveOneOwner : Type 0
 ValuesHaveOneOwner = HoldsWithRoom owned
+
+-- None is one that was drawn outside.
+abbrev pub ValuesAreOwn : Type 0
+ValuesAreOwn = HoldsWithRoom none_foreign

@@ -1,10 +1,21 @@
 //! To whom the values of a run are given. Each law is the clause of a function with nothing to run.
-ghost use Rattle.world_model.specs.ValueLaws.{ValuesHaveOneOwner};
+ghost use Rattle.world_model.specs.ValueLaws.{ValuesAreOwn, ValuesHaveOneOwner};
 
 /// Of two values that a run gave to calls and that are the same, the later one is given to a marked call, and both to one call of one
 /// request, as long as identifiers can be spelled. A tick of the clock may come again.
 pub fn values_have_one_owner()
     ensures { ValuesHaveOneOwner }
+{
+    server_model::laws::runs_legal();
+    server_model::laws::runs_fresh_new();
+    crate::laws::runs_are_orderly();
+    crate::same_laws::runs_serve();
+}
+
+/// No value that a run gave to calls is one that a run from outside drew, or that an entry has which the run added and which is of no
+/// connection, as long as identifiers can be spelled. A tick of the clock may be.
+pub fn values_are_own()
+    ensures { ValuesAreOwn }
 {
     server_model::laws::runs_legal();
     server_model::laws::runs_fresh_new();
