@@ -35,7 +35,7 @@ use Rattle.world_model.specs.SameLaws.{RunsServe}
 use Rattle.world_model.specs.Sames.{all_with, each_pair}
 use Rattle.world_model.specs.Shown.{in_rows}
 use Rattle.world_model.specs.Traced.{Traced}
-use Rattle.world_model.specs.ValueLaws.{ValuesHaveOneOwner}
+use Rattle.world_model.specs.ValueLaws.{HoldsWithRoom, EndsWithRoom, ValuesHaveOneOwner}
 use Rattle.world_model.specs.Wire.{is_fresh, is_sent_front, handled_from, stage_of, is_right}
 use Rattle.world_model.proofs.AllLinks.{at_link}
 use Rattle.world_model.proofs.AllLists.{weaker_all}
@@ -53,7 +53,7 @@ use Rattle.world_model.proofs.RanBefore.{counts_none, none_before}
 use Rattle.world_model.proofs.RanFrames.{link_rests}
 use Rattle.world_model.proofs.RanSessions.{is_its, has_ran, other_ran}
 use Rattle.world_model.proofs.RepeatedGiven.{repeats_given, are_repeated, repeated_now}
-use Rattle.world_model.proofs.RunStarts.{reached_coupled}
+use Rattle.world_model.proofs.RunStarts.{finishing_reached, reached_coupled}
 use Rattle.world_model.proofs.ShownGiven.{are_given, given_start, given_now}
 use Rattle.world_model.proofs.StoppedDraws.{stopped_in}
 use Rattle.world_model.proofs.Tests.{eq_from}
@@ -205,3 +205,9 @@ module _ (orderly : RunsAreOrderly) (serve : RunsServe) (legal : RunsLegal) (fre
 
 pub values_owned : RunsAreOrderly → RunsServe → RunsLegal → RunsFreshNew → ValuesHaveOneOwner
 values_owned orderly serve legal fresh document events notes items seen t calls reached room = all_owned orderly serve legal fresh document events notes items seen t calls reached room
+
+-- a whole run comes to its end so
+pub at_end : (test : Traced → Bool) → HoldsWithRoom test → EndsWithRoom test
+at_end test holds document notes items seen t calls run room =
+    let so = finishing_reached document run.place notes items seen t run.finishing in
+    holds document so.0 notes items seen t calls so.1 room

@@ -1,5 +1,5 @@
--- Where a run began, which is sound, and that each state that it comes to is coupled with its service.
-use Rattle.std.proofs.Common.{◌≡◌, subst, ◌∙◌, List}
+-- Where a run began, which is sound, that each state that it comes to is coupled with its service, and that its finish goes on from its schedule.
+use Rattle.std.proofs.Common.{◌≡◌, subst, ◌∙◌, List, [], ◌∷◌, ◌++◌}
 use Rattle.outage_schedule.specs.declared.document.Document.{Document}
 use Rattle.outage_schedule.specs.declared.event.Event.{Event}
 use Rattle.outage_schedule.specs.declared.item.Served.{Served}
@@ -35,3 +35,10 @@ reached_sound document _ _ _ _ _ (GoesOn events notes items more before after ol
 pub finishing_sound : (document : Document) (place : Place) (notes : List Note) (items : List Served) (seen : Seen) (t : Traced) → IsFinishing document place notes items seen t → IsSound (service_base document)
 finishing_sound document _ _ _ _ _ (Scheduled notes items seen t reached) = reached_sound document document.schedule notes items seen t reached
 finishing_sound document _ _ _ _ _ (Finishes place later notes items more before after old new event note finishing next one forgets) = finishing_sound document place notes items before old finishing
+
+-- The finish goes on from the schedule, event by event, so its end is reached by one list of events.
+pub finishing_reached : (document : Document) (place : Place) (notes : List Note) (items : List Served) (seen : Seen) (t : Traced) → IsFinishing document place notes items seen t → (events : List Event) × Reached document events notes items seen t
+finishing_reached document _ _ _ _ _ (Scheduled notes items seen t reached) = (document.schedule, reached)
+finishing_reached document _ _ _ _ _ (Finishes place later notes items more before after old new event note finishing next one forgets) =
+    let so = finishing_reached document place notes items before old finishing in
+    (so.0 ++ event ∷ [], GoesOn so.0 notes items more before after old new event note so.1 one forgets)

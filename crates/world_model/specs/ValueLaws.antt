@@ -8,7 +8,7 @@ use Rattle.server_model.specs.Fresh.{has_room}
 use Rattle.server_model.specs.Items.{items_of}
 use Rattle.server_model.specs.Seen.{Seen}
 use Rattle.world_model.specs.Once.{owned, none_foreign}
-use Rattle.world_model.specs.Reached.{Reached}
+use Rattle.world_model.specs.Reached.{Reached, IsRun}
 use Rattle.world_model.specs.Ready.{all_have_calls}
 use Rattle.world_model.specs.Traced.{Traced}
 
@@ -18,10 +18,22 @@ HoldsWithRoom test =
     (document : Document) (events : List Event) (notes : List Note) (items : List Served) (seen : Seen) (t : Traced)
     → IsTrue (all_have_calls document) → Reached document events notes items seen t → IsTrue (has_room seen.start (items_of seen.history) (drop t.image t.entries)) → IsTrue (test t)
 
+-- and of the state at the end of a whole run
+abbrev pub EndsWithRoom : (Traced → Bool) → Type 0
+EndsWithRoom test =
+    (document : Document) (notes : List Note) (items : List Served) (seen : Seen) (t : Traced)
+    → IsTrue (all_have_calls document) → IsRun document notes items seen t → IsTrue (has_room seen.start (items_of seen.history) (drop t.image t.entries)) → IsTrue (test t)
+
 -- Of two that are the same value, the later one is given to a marked call, and both to one call of one request.
 abbrev pub ValuesHaveOneOwner : Type 0
 ValuesHaveOneOwner = HoldsWithRoom owned
 
+abbrev pub ValuesEndWithOneOwner : Type 0
+ValuesEndWithOneOwner = EndsWithRoom owned
+
 -- None is one that was drawn outside.
 abbrev pub ValuesAreOwn : Type 0
 ValuesAreOwn = HoldsWithRoom none_foreign
+
+abbrev pub ValuesEndOwn : Type 0
+ValuesEndOwn = EndsWithRoom none_foreign

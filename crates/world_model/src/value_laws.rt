@@ -1,10 +1,11 @@
 //! To whom the values of a run are given. Each law is the clause of a function with nothing to run.
-ghost use Rattle.world_model.specs.ValueLaws.{ValuesAreOwn, ValuesHaveOneOwner};
+ghost use Rattle.world_model.specs.ValueLaws.{ValuesAreOwn, ValuesEndOwn, ValuesEndWithOneOwner, ValuesHaveOneOwner};
 
 /// Of two values that a run gave to calls and that are the same, the later one is given to a marked call, and both to one call of one
-/// request, as long as identifiers can be spelled. A tick of the clock may come again.
+/// request, as long as identifiers can be spelled. A tick of the clock may come again. It holds wherever a run has come to, and at its end.
 pub fn values_have_one_owner()
-    ensures { ValuesHaveOneOwner }
+    ensures so_far { ValuesHaveOneOwner }
+    ensures whole { ValuesEndWithOneOwner }
 {
     server_model::laws::runs_legal();
     server_model::laws::runs_fresh_new();
@@ -13,9 +14,10 @@ pub fn values_have_one_owner()
 }
 
 /// No value that a run gave to calls is one that a run from outside drew, or that an entry has which the run added and which is of no
-/// connection, as long as identifiers can be spelled. A tick of the clock may be.
+/// connection, as long as identifiers can be spelled. A tick of the clock may be. It holds wherever a run has come to, and at its end.
 pub fn values_are_own()
-    ensures { ValuesAreOwn }
+    ensures so_far { ValuesAreOwn }
+    ensures whole { ValuesEndOwn }
 {
     server_model::laws::runs_legal();
     server_model::laws::runs_fresh_new();
