@@ -10,7 +10,7 @@ use Rattle.svc_values.specs.declared.draw.Draw.{Draw}
 use Rattle.svc_values.specs.declared.frame.Up.{Up}
 use Rattle.svc_values.specs.declared.frame.Up.TheVariants as up
 use Rattle.svc_values.specs.Same.{same_draw}
-use Rattle.svc_values.specs.SameLaws.{same_draw_decides}
+use Rattle.svc_values.specs.SameLaws.{same_draw_decides, same_draws_decide}
 use Rattle.outage_schedule.specs.declared.item.Item.{Item}
 use Rattle.outage_schedule.specs.declared.item.Item.TheVariants as item
 use Rattle.server_model.specs.Base.{Base}
@@ -28,7 +28,7 @@ use Rattle.world_model.proofs.FrameDraws.{anew, is_kept_first, are_drawn, is_dra
 use Rattle.world_model.proofs.LinkNumbers.{Was, Ordinary, Halted, was_so}
 use Rattle.world_model.proofs.OwnedLists.{is_origin, has_origin, owners_self, firsts, firsts_both}
 use Rattle.world_model.proofs.RepeatedGiven.{gave_before, kept_given, repeats_given}
-use Rattle.world_model.proofs.ShownGiven.{gives_to, gives_value, any_served}
+use Rattle.world_model.proofs.ShownGiven.{gives_draws, gives_to, is_nothing, any_served}
 use Rattle.world_model.proofs.Strangers.{owned_is}
 
 -- A CALL ------------------------------------------------------------------------------------------
@@ -121,21 +121,9 @@ any_filtered test keep (draw ∷ draws) any = by (keep draw) any (any_filtered t
         with_first (inr later) = or_right (test draw) (list_any test draws) (again later)
     by false any again = or_right (test draw) (list_any test draws) (again any)
 
--- what holds of all holds of one that is the same
-all_any : (test : Draw → Bool) (value : Draw) (draws : List Draw) → list_all test draws ≡ true → list_any (same_draw value) draws ≡ true → test value ≡ true
-all_any test value [] all any = absurd (let none : ⊥ = cc in none)
-all_any test value (draw ∷ draws) all any = by (or_cases (same_draw value draw) (list_any (same_draw value) draws) any) (all_any test value draws parts.1)
-  where
-    parts : (test draw ≡ true) × (list_all test draws ≡ true)
-    parts = and_parts (test draw) (list_all test draws) all
-
-    by : (same_draw value draw ≡ true) ⊎ (list_any (same_draw value) draws ≡ true) → (list_any (same_draw value) draws ≡ true → test value ≡ true) → test value ≡ true
-    by (inl here) again = ap test ((same_draw_decides value draw).0 here) ∙ parts.0
-    by (inr later) again = again later
-
 -- WHERE IT CAME FROM ------------------------------------------------------------------------------
 
-flat_any : {A B : Type 0} (test : B → Bool) (f : A → List B) (p : A → Bool) (xs : List A) → ((x : A) → p x ≡ true → list_any test (f x) ≡ true) → list_any p xs ≡ true → list_any test (flat_map f xs) ≡ true
+pub flat_any : {A B : Type 0} (test : B → Bool) (f : A → List B) (p : A → Bool) (xs : List A) → ((x : A) → p x ≡ true → list_any test (f x) ≡ true) → list_any p xs ≡ true → list_any test (flat_map f xs) ≡ true
 flat_any test f p [] gives any = absurd (let none : ⊥ = cc in none)
 flat_any test f p (x ∷ xs) gives any = list_any-append test (f x) (flat_map f xs) ∙ by (or_cases (p x) (list_any p xs) any) (flat_any test f p xs gives)
   where
@@ -164,27 +152,27 @@ module _ (t : Traced) (one : Handled) (value : Draw) (owner : Owner) (is : one.s
           (and_from (other.sent.call == one.sent.call) (nat_lt other.served.event one.served.event) call before)))
       by (inr later) again = or_right (is_origin again_given (given_as other false draw)) (list_any (is_origin again_given) (map (given_as other false) draws)) (again later)
 
-  item_origin : (link : Link) (other : Handled) → gave_before owner one.sent.call one.served.event value other ≡ true → list_any (is_origin again_given) (given_by t link other other.served.item) ≡ true
-  item_origin link other gave = by other.served.item three.1
+  item_origin : (kept : List Draw) → list_any (same_draw value) kept ≡ true → (link : Link) (other : Handled) → gave_before owner one.sent.call one.served.event kept other ≡ true → list_any (is_origin again_given) (given_by t link other other.served.item) ≡ true
+  item_origin kept among link other gave = by other.served.item three.1
     where
-      parts : (gives_to owner one.sent.call value other ≡ true) × (nat_lt other.served.event one.served.event ≡ true)
-      parts = and_parts (gives_to owner one.sent.call value other) (nat_lt other.served.event one.served.event) gave
+      parts : (gives_to owner one.sent.call kept other ≡ true) × (nat_lt other.served.event one.served.event ≡ true)
+      parts = and_parts (gives_to owner one.sent.call kept other) (nat_lt other.served.event one.served.event) gave
 
-      two : (owned_by owner other.sent ≡ true) × (((other.sent.call == one.sent.call) && gives_value value other.served.item) ≡ true)
-      two = and_parts (owned_by owner other.sent) ((other.sent.call == one.sent.call) && gives_value value other.served.item) parts.0
+      two : (owned_by owner other.sent ≡ true) × (((other.sent.call == one.sent.call) && gives_draws kept other.served.item) ≡ true)
+      two = and_parts (owned_by owner other.sent) ((other.sent.call == one.sent.call) && gives_draws kept other.served.item) parts.0
 
-      three : ((other.sent.call == one.sent.call) ≡ true) × (gives_value value other.served.item ≡ true)
-      three = and_parts (other.sent.call == one.sent.call) (gives_value value other.served.item) two.1
+      three : ((other.sent.call == one.sent.call) ≡ true) × (gives_draws kept other.served.item ≡ true)
+      three = and_parts (other.sent.call == one.sent.call) (gives_draws kept other.served.item) two.1
 
-      by : (it : Item) → gives_value value it ≡ true → list_any (is_origin again_given) (given_by t link other it) ≡ true
-      by (item.Call false called answers draws) any = drawn_origin other draws two.0 three.0 parts.1 any
+      by : (it : Item) → gives_draws kept it ≡ true → list_any (is_origin again_given) (given_by t link other it) ≡ true
+      by (item.Call false called answers draws) same = drawn_origin other draws two.0 three.0 parts.1 (ap (list_any (same_draw value)) ((same_draws_decide draws kept).0 same) ∙ among)
       by it any = absurd (let none : ⊥ = cc in none)
 
   -- the value was given to the call before
-  origin_there : any_served (gave_before owner one.sent.call one.served.event value) t.machine.links ≡ true → list_any (is_origin again_given) (given t) ≡ true
-  origin_there any =
-      flat_any (is_origin again_given) (given_on t) (λ link. list_any (gave_before owner one.sent.call one.served.event value) link.served) t.machine.links
-      (λ link any_of. flat_any (is_origin again_given) (λ other. given_by t link other other.served.item) (gave_before owner one.sent.call one.served.event value) link.served (item_origin link) any_of) any
+  origin_there : (kept : List Draw) → list_any (same_draw value) kept ≡ true → any_served (gave_before owner one.sent.call one.served.event kept) t.machine.links ≡ true → list_any (is_origin again_given) (given t) ≡ true
+  origin_there kept among any =
+      flat_any (is_origin again_given) (given_on t) (λ link. list_any (gave_before owner one.sent.call one.served.event kept) link.served) t.machine.links
+      (λ link any_of. flat_any (is_origin again_given) (λ other. given_by t link other other.served.item) (gave_before owner one.sent.call one.served.event kept) link.served (item_origin kept among link) any_of) any
 
 -- A CONNECTION ------------------------------------------------------------------------------------
 
@@ -211,9 +199,13 @@ module _ (t : Traced) (value : Draw) (base : Base) (link : Link) where
   came_before : (one : Handled) → repeats_given t.machine.links one ≡ true → CameBefore one one.sent.frame
   came_before one repeated kept called is other any = by one.sent.owner refl (subst (λ (frame : Up). kept_given t.machine.links one frame ≡ true) is repeated)
     where
-      by : (owner : Option Owner) → one.sent.owner ≡ owner → option_map_or (λ o. list_all (λ v. any_served (gave_before o one.sent.call one.served.event v) t.machine.links) kept) owner false ≡ true → has_origin whole (given_as one true other) ≡ true
+      by : (owner : Option Owner) → one.sent.owner ≡ owner → option_map_or (λ o. is_nothing kept || any_served (gave_before o one.sent.call one.served.event kept) t.machine.links) owner false ≡ true → has_origin whole (given_as one true other) ≡ true
       by None at all = absurd (let none : ⊥ = cc in none)
-      by (Some owner) at all = origin_there t one other owner at (all_any (λ v. any_served (gave_before owner one.sent.call one.served.event v) t.machine.links) other kept all any)
+      by (Some owner) at all = some_of kept any all
+        where
+          some_of : (draws : List Draw) → list_any (same_draw other) draws ≡ true → (is_nothing draws || any_served (gave_before owner one.sent.call one.served.event draws) t.machine.links) ≡ true → has_origin whole (given_as one true other) ≡ true
+          some_of [] any all = absurd (let none : ⊥ = cc in none)
+          some_of (draw ∷ draws) any all = origin_there t one other owner at (draw ∷ draws) any all
 
   pub served_firsts : (commits : ℕ) (served : List Handled) → handled_from commits served ≡ true → list_all (λ one. is_drawn base one.sent.frame one.served.item) served ≡ true → list_all (repeats_given t.machine.links) served ≡ true
       → firsts whole value (flat_map (λ one. given_by t link one one.served.item) served) ≤ times value (flat_map (λ one. anew base stopped one.sent.frame one.served.item) served)

@@ -1,5 +1,5 @@
 -- Along a legal history a session draws anew what its connection's calls were given anew, and each other value of a marked call is a kept one.
-use Rattle.std.proofs.Common.{◌≡◌, refl, sym, ap, subst, ◌∙◌, ℕ, ◌+◌, ◌&&◌, Bool, true, false, not, List, [], ◌∷◌, ◌++◌, length, map, Option, Some, None, if◌then◌else◌}
+use Rattle.std.proofs.Common.{◌≡◌, refl, sym, ap, subst, ◌∙◌, ℕ, ◌+◌, ◌&&◌, Bool, true, false, not, List, [], ◌∷◌, ◌++◌, length, map, Option, Some, None, if◌then◌else◌, arith}
 use Rattle.std.specs.Prelude.{flat_map}
 use Rattle.std.specs.List.{list_all, list_any, last_or}
 use Rattle.std.proofs.lemmas.Bool.{and_parts, and_from, or_left, or_right}
@@ -39,6 +39,12 @@ use Rattle.world_model.proofs.StoppedDraws.{stopped_in, last_drawn, found_in, no
 use Rattle.world_model.proofs.StoredDraws.{all_new}
 use Rattle.world_model.proofs.Tests.{same_session_is, session_self, not_both}
 use Rattle.world_model.proofs.FrameDraws.{anew, is_drawn, performed_drew, own_drew, over_counts, is_crashed}
+use Rattle.world_model.proofs.DrawnOnce.{times}
+use Rattle.world_model.proofs.SessionEntries.{its, open_in, same_its, same_open, other_its, other_open, none_stored}
+use Rattle.world_model.specs.StoredOnce.{is_stored_next}
+use Rattle.world_model.proofs.StoredCalls.{count_if, stored_times, IsSpent, Behind, going_spent, stop_spent, behind_spent}
+use Rattle.world_model.specs.Parts.{has_entry}
+use Rattle.server_model.specs.Fresh.{draws_of}
 
 -- A HISTORY ---------------------------------------------------------------------------------------
 
@@ -49,7 +55,7 @@ asked_by session n x (Says (down.OutcomeRefused ahead next)) = refl
 asked_by session n x (Says frame) = refl
 asked_by session n x Stopped = refl
 
-module _ (base : Base) (all : List Entry) (session : SessionId) (stopped : List Draw) (numbered : numbered_after [] all ≡ true) where
+module _ (base : Base) (all : List Entry) (session : SessionId) (stopped : List Draw) (stood : Bool) (numbered : numbered_after [] all ≡ true) where
   abbrev new_of : Handled → List Draw
   new_of one = anew base stopped one.sent.frame one.served.item
 
@@ -82,10 +88,18 @@ module _ (base : Base) (all : List Entry) (session : SessionId) (stopped : List 
   pub record Told (walk : Walk) (items : List Item) (served : List Handled) : Type 0 where
     pub new : drawn_for mine base walk items ≡ flat_map new_of served
     pub right : list_all is_right served ≡ true
+    -- and what its entries drew was given to calls of transactions that were stored
+    pub spent : (value : Draw) → IsSpent session stopped stood value walk served
+
+  alike_spent : (value : Draw) (walk later : Walk) (served : List Handled) → its session later ≡ its session walk → open_in session later ≡ open_in session walk → IsSpent session stopped stood value later served → IsSpent session stopped stood value walk served
+  alike_spent value walk later served entries opens most =
+      let left : times value (flat_map draws_of (its session later)) ≡ times value (flat_map draws_of (its session walk)) = ap (λ (all : List Entry). times value (flat_map draws_of all)) entries in
+      let same : count_if (is_stored_next stood served) (times value (open_in session later)) ≡ count_if (is_stored_next stood served) (times value (open_in session walk)) = ap (λ (draws : List Draw). count_if (is_stored_next stood served) (times value draws)) opens in
+      omega (arith, most, left, same)
 
   -- a call that was stopped is of the identifier that the session has then
   abbrev StopIs : ℕ → List Handled → Type 0
-  StopIs count served = list_any is_stop served ≡ true → stopped ≡ stopped_in all (ltxid_of session (commits_behind count served))
+  StopIs count served = list_any is_stop served ≡ true → (stopped ≡ stopped_in all (ltxid_of session (commits_behind count served))) × (stood ≡ has_entry all (ltxid_of session (commits_behind count served)))
 
   -- THE STOP --------------------------------------------------------------------------------------
 
@@ -198,18 +212,22 @@ module _ (base : Base) (all : List Entry) (session : SessionId) (stopped : List 
       whole_later : whole_of later ≡ all
       whole_later = moved_whole here later session thing moved ∙ whole_here
 
-      first_told : new_in base (deed_of base here it) ≡ new_of one → is_right one ≡ true → Told later rest others → Told walk (it ∷ rest) (one ∷ others)
-      first_told same right more = record {
+      first_told : new_in base (deed_of base here it) ≡ new_of one → is_right one ≡ true → Told later rest others
+          → ((value : Draw) → Behind session stopped stood value here one.served.item (is_stored_next stood others) (stored_times session stopped stood value others)) → Told walk (it ∷ rest) (one ∷ others)
+      first_told same right more most = record {
         new =
             ap (λ (test : Bool). new_by test (new_in base (deed_of base here it)) ++ drawn_for mine base later rest) (session_self session)
             ∙ (ap (λ (new : List Draw). new ++ drawn_for mine base later rest) same ∙ ap (λ (new : List Draw). new_of one ++ new) more.new);
         right = and_from (is_right one) (list_all is_right others) right more.right;
+        spent = λ value. behind_spent session stopped stood value walk here one others (enters walk it) (most value);
       }
 
       going : is_stop one ≡ false → Told walk (it ∷ rest) (one ∷ others)
       going is =
           let drew = own_drew base stopped here n now session one.sent.frame thing one.served.item deals is both.0 in
-          first_told drew.0 drew.1 (by (own_stands here later session ran resting one.sent one.sent.frame thing one.served.item deals frames.0 moved (same_stands walk here session ran resting (enters walk it) stand)))
+          let more = by (own_stands here later session ran resting one.sent one.sent.frame thing one.served.item deals frames.0 moved (same_stands walk here session ran resting (enters walk it) stand)) in
+          first_told drew.0 drew.1 more
+          (λ value. going_spent session stopped stood value here later one.sent.frame thing one.served.item deals is moved (is_stored_next stood others) (stored_times session stopped stood value others) (more.spent value))
         where
           counts : length (ran_item ran one.sent one.served.item).over ≡ count
           counts = over_counts ran one.sent one.served.item is
@@ -218,13 +236,21 @@ module _ (base : Base) (all : List Entry) (session : SessionId) (stopped : List 
           by (GoesOn goes) =
               again later (n + 1) others (ran_item ran one.sent one.served.item) (rests_behind resting one.sent.frame) both.1 whole_later
               (record { has = has; handled = subst (λ (k : ℕ). handled_from k others ≡ true) (sym counts) parts.1; lone = lone_later base all session one others lone; rests = frames.1 }) goes
-              (λ any. subst (λ (k : ℕ). stopped ≡ stopped_in all (ltxid_of session (commits_behind k others))) (sym counts) (stop (or_right (is_stop one) (list_any is_stop others) any)))
+              (λ any. subst (λ (k : ℕ). (stopped ≡ stopped_in all (ltxid_of session (commits_behind k others))) × (stood ≡ has_entry all (ltxid_of session (commits_behind k others)))) (sym counts) (stop (or_right (is_stop one) (list_any is_stop others) any)))
           by (IsDone marked called crashed right) = absurd (not_both (is_stop one) (ap is_stopped_call crashed) is)
 
       halting : is_stop one ≡ true → Told walk (it ∷ rest) (one ∷ others)
       halting is =
-          let drew = stop_gives here n now one.sent.frame thing one.served.item deals is both.0 whole_here x next are none_stored in
-          first_told drew.0 drew.1 (record { new = none_drawn history later (n + 1) empty ∙ sym (ap (flat_map new_of) none); right = ap (list_all is_right) none })
+          let drew = stop_gives here n now one.sent.frame thing one.served.item deals is both.0 whole_here (ltxid_of session (length ran.over)) next are none_stored_here in
+          first_told drew.0 drew.1
+          (record {
+            new = none_drawn history later (n + 1) empty ∙ sym (ap (flat_map new_of) none);
+            right = ap (list_all is_right) none;
+            spent = λ value. let zero : times value (flat_map draws_of (its session later)) ≡ 0 = ap (λ (entries : List Entry). times value (flat_map draws_of entries)) none_later in omega (arith, zero);
+          })
+          (λ value.
+          subst (λ (more : List Handled). Behind session stopped stood value here one.served.item (is_stored_next stood more) (stored_times session stopped stood value more)) (sym none)
+          (stop_spent session stopped stood value all numbered (ltxid_of session (length ran.over)) are stands_so here later whole_here next none_later one.sent.frame thing one.served.item deals is moved))
         where
           crashed : (marked : Bool) × (called : Call) × (one.served.item ≡ item.CrashedCall marked called)
           crashed = is_crashed one.served.item is
@@ -244,13 +270,23 @@ module _ (base : Base) (all : List Entry) (session : SessionId) (stopped : List 
           next : next_of here session ≡ ltxid_of session (length ran.over)
           next = ap (λ (stored : List Entry). ltxid_of session (number_of stored session)) same_here.stored ∙ ap (ltxid_of session) stand.count
 
-          are : stopped ≡ stopped_in all (ltxid_of session (length ran.over))
-          are =
-              stop (or_left (is_stop one) (list_any is_stop others) is)
-              ∙ ap (λ (k : ℕ). stopped_in all (ltxid_of session k)) (ap (commits_behind count) none ∙ ap (counted_with (length ran.over)) crashed.2)
+          at_stop : (stopped ≡ stopped_in all (ltxid_of session (commits_behind (length ran.over) (one ∷ others)))) × (stood ≡ has_entry all (ltxid_of session (commits_behind (length ran.over) (one ∷ others))))
+          at_stop = stop (or_left (is_stop one) (list_any is_stop others) is)
 
-          none_stored : later.stored ≡ here.stored → stopped_in all (ltxid_of session (length ran.over)) ≡ []
-          none_stored same =
+          number : commits_behind (length ran.over) (one ∷ others) ≡ length ran.over
+          number = ap (commits_behind count) none ∙ ap (counted_with (length ran.over)) crashed.2
+
+          are : stopped ≡ stopped_in all (ltxid_of session (length ran.over))
+          are = at_stop.0 ∙ ap (λ (k : ℕ). stopped_in all (ltxid_of session k)) number
+
+          stands_so : stood ≡ has_entry all (ltxid_of session (length ran.over))
+          stands_so = at_stop.1 ∙ ap (λ (k : ℕ). has_entry all (ltxid_of session k)) number
+
+          none_later : its session later ≡ []
+          none_later = none_stored session base history later (n + 1) both.1 empty
+
+          none_stored_here : later.stored ≡ here.stored → stopped_in all (ltxid_of session (length ran.over)) ≡ []
+          none_stored_here same =
               none_in session ran.over all (done_all base all session ran.over history later (n + 1) both.1 whole_later empty (same_stored walk later session ran.over (same ∙ same_here.stored) stand.all))
 
       own_tells : Told walk (it ∷ rest) (one ∷ others)
@@ -289,7 +325,12 @@ module _ (base : Base) (all : List Entry) (session : SessionId) (stopped : List 
           let more = again (later_of walk (Did n now other (thing_of frame told))) (n + 1) served ran resting parts.1 (moved_whole here (later_of walk (Did n now other (thing_of frame told))) other (thing_of frame told) moved ∙ (same_whole walk here (enters walk (Did n now other (thing_of frame told))) ∙ whole))
           (record { has = has; handled = left.handled; lone = left.lone; rests = left.rests })
           (others_stand here (later_of walk (Did n now other (thing_of frame told))) other session (thing_of frame told) ran resting apart moved (same_stands walk here session ran resting (enters walk (Did n now other (thing_of frame told))) stand)) stop in
-          record { new = ap (λ (test : Bool). new_by test (new_at walk (Did n now other (thing_of frame told))) ++ drawn_for mine base (later_of walk (Did n now other (thing_of frame told))) (items_from (n + 1) history)) apart ∙ more.new; right = more.right }
+          record {
+            new = ap (λ (test : Bool). new_by test (new_at walk (Did n now other (thing_of frame told))) ++ drawn_for mine base (later_of walk (Did n now other (thing_of frame told))) (items_from (n + 1) history)) apart ∙ more.new;
+            right = more.right;
+            spent = λ value. alike_spent value walk (later_of walk (Did n now other (thing_of frame told))) served (other_its session here (later_of walk (Did n now other (thing_of frame told))) other (thing_of frame told) apart moved ∙ same_its session walk here (enters walk (Did n now other (thing_of frame told))))
+                (other_open session here (later_of walk (Did n now other (thing_of frame told))) other (thing_of frame told) apart moved ∙ same_open session walk here (enters walk (Did n now other (thing_of frame told)))) (more.spent value);
+          }
 
       by : (test : Bool) → same_session other session ≡ test → (if test then (frame, told) ∷ served_in history session else served_in history session) ≡ map told_of served → Told walk ((Did n now other (thing_of frame told)) ∷ items_from (n + 1) history) served
       by true is has = own served (same_session_is other session is) has left.handled left.lone left.rests stop
@@ -301,10 +342,18 @@ module _ (base : Base) (all : List Entry) (session : SessionId) (stopped : List 
       let same : IsSameWalk walk (later_of walk it) = asked_same base walk n x told in
       let more = again (later_of walk it) (n + 1) served ran resting (both_hold base all session walk it (items_from (n + 1) history) held).1 (same_whole walk (later_of walk it) same ∙ whole)
       (record { has = left.has; handled = left.handled; lone = left.lone; rests = left.rests }) (same_stands walk (later_of walk it) session ran resting same stand) stop in
-      record { new = ap (λ (test : Bool). new_by test (new_at walk it) ++ drawn_for mine base (later_of walk it) (items_from (n + 1) history)) (asked_by session n x told) ∙ more.new; right = more.right }
+      record {
+        new = ap (λ (test : Bool). new_by test (new_at walk it) ++ drawn_for mine base (later_of walk it) (items_from (n + 1) history)) (asked_by session n x told) ∙ more.new;
+        right = more.right;
+        spent = λ value. alike_spent value walk (later_of walk it) served (same_its session walk (later_of walk it) same) (same_open session walk (later_of walk it) same) (more.spent value);
+      }
 
   none_tells : Tells []
-  none_tells walk n [] ran resting held whole left stand stop = record { new = refl; right = refl }
+  none_tells walk n [] ran resting held whole left stand stop = record {
+    new = refl;
+    right = refl;
+    spent = λ value. let zero : times value (flat_map draws_of (its session walk)) ≡ 0 = ap (λ (entries : List Entry). times value (flat_map draws_of entries)) (none_stored session base [] walk n held refl) in omega (arith, zero);
+  }
   none_tells walk n (one ∷ served) ran resting held whole left stand stop = absurd (let has = left.has in let never : ⊥ = cc in never)
 
   pub history_draws : (history : List Happened) → Tells history

@@ -1,38 +1,34 @@
--- Along a legal history the entries of a session whose calls have no mark, and of which none was stopped, drew only what the session drew anew.
-use Rattle.std.proofs.Common.{◌≡◌, refl, sym, ap, subst, ◌∙◌, ℕ, ◌+◌, ◌&&◌, Bool, true, false, not, List, [], ◌∷◌, ◌++◌, Some, if◌then◌else◌}
-use Rattle.std.specs.Prelude.{flat_map}
+-- Along a legal history the entries of a session whose calls have no mark, and of which none was stopped, drew no value more often than the session drew it anew.
+use Rattle.std.proofs.Common.{◌≡◌, refl, sym, ap, subst, ◌∙◌, ℕ, ◌+◌, ◌&&◌, Bool, true, false, not, List, [], ◌∷◌, ◌++◌, Some, if◌then◌else◌, arith, ◌≤◌}
+use Rattle.std.specs.Prelude.{flat_map, filter}
 use Rattle.std.specs.List.{list_all}
-use Rattle.std.proofs.lemmas.Bool.{and_parts, and_from}
-use Rattle.std.proofs.lemmas.List.Concat.{flat_map-append}
-use Rattle.std.proofs.lemmas.List.Folds.{list_all-append}
-use Rattle.svc_values.specs.declared.answer.Answer.{Answer}
-use Rattle.svc_values.specs.declared.call.Call.{Call}
+use Rattle.std.proofs.lemmas.Bool.{and_parts}
 use Rattle.svc_values.specs.declared.draw.Draw.{Draw}
 use Rattle.svc_values.specs.declared.entry.Entry.{Entry}
 use Rattle.svc_values.specs.declared.entry.Ltxid.{Ltxid}
-use Rattle.svc_values.specs.declared.entry.Piece.{Piece}
 use Rattle.svc_values.specs.declared.entry.SessionId.{SessionId}
 use Rattle.svc_values.specs.declared.frame.Down.TheVariants as down
 use Rattle.svc_values.specs.declared.frame.Up.{Up}
 use Rattle.svc_values.specs.declared.frame.Up.TheVariants as up
 use Rattle.svc_values.specs.Endings.{ends_committed}
-use Rattle.svc_values.specs.Identifiers.{is_of, same_session}
+use Rattle.svc_values.specs.Identifiers.{same_session}
 use Rattle.server_model.specs.Base.{Base}
 use Rattle.server_model.specs.Fresh.{draws_in, draws_of, new_in}
 use Rattle.server_model.specs.Items.{Thing, Connected, Began, Called, MetBlock, TellsOutcome, EndedRequest, Closed, Refused, CallStopped, OutcomeStopped, Item, Did, thing_of, asked_of, items_from}
 use Rattle.server_model.specs.Legal.{deed_holds, is_of_now, item_holds, items_hold}
 use Rattle.server_model.specs.Outcomes.{Telling, Silent, Says, Stopped}
 use Rattle.server_model.specs.Runs.{Happened, Served, Asked}
-use Rattle.server_model.specs.Walk.{Transaction, begun, Walk, transaction_in, Performed, deed, deed_of, ends, if_ended, entered, after}
-use Rattle.world_model.specs.Parts.{implies}
+use Rattle.server_model.specs.Walk.{Transaction, begun, Walk, transaction_in, Performed, deed, deed_of, ends, entered, after}
 use Rattle.world_model.specs.SessionHistory.{served_in}
+use Rattle.world_model.proofs.DrawnOnce.{times, times_both}
+use Rattle.world_model.proofs.SessionEntries.{its, open_in, same_its, same_open, other_its, other_open, Spent, Commits, Ends, Stays, call_spent}
 use Rattle.world_model.proofs.DrawnFor.{is_by, new_by, drawn_for, is_session}
 use Rattle.world_model.proofs.FrameDraws.{performed_drew}
 use Rattle.world_model.proofs.RanHistory.{asked_same, both_hold, none_left}
-use Rattle.world_model.proofs.RanSessions.{is_its, moved_others, transaction_own}
-use Rattle.world_model.proofs.RanWalks.{IsSameWalk, Stores, Takes, Keeps, Calls, IsStored, IsNothing, Moved, enters, thing_moved}
+use Rattle.world_model.proofs.RanSessions.{is_its, transaction_own}
+use Rattle.world_model.proofs.RanWalks.{IsSameWalk, Moved, enters, thing_moved}
 use Rattle.world_model.proofs.StoredDraws.{all_new}
-use Rattle.world_model.proofs.Tests.{same_session_is}
+use Rattle.world_model.proofs.Tests.{same_session_is, session_self}
 
 -- PLAIN FRAMES ------------------------------------------------------------------------------------
 
@@ -86,153 +82,117 @@ thing_plain up.Close Silent is = refl
 thing_plain up.Close (Says frame) is = refl
 thing_plain up.Close Stopped is = refl
 
-module _ (base : Base) (session : SessionId) (known : Draw → Bool) where
-  -- an entry of the session drew what is known
-  abbrev pub entry_known : Entry → Bool
-  entry_known entry = implies (is_its session entry) (list_all known (draws_of entry))
-
-  abbrev drew_known : List Piece → Bool
-  drew_known pieces = list_all known (flat_map draws_in pieces)
-
-  abbrev OpenKnown : Walk → Type 0
-  OpenKnown walk = drew_known (transaction_in walk.sessions session).pieces ≡ true
-
+module _ (base : Base) (session : SessionId) (value : Draw) where
   abbrev later_of : Walk → Item → Walk
   later_of walk it = after base (entered walk it) it (deed_of base (entered walk it) it)
 
-  same_left : (walk later : Walk) → IsSameWalk walk later → list_all entry_known later.left ≡ true → list_all entry_known walk.left ≡ true
-  same_left walk later same all = ap (list_all entry_known) (sym same.left) ∙ all
+  abbrev left_times : Walk → ℕ
+  left_times walk = times value (flat_map draws_of (its session walk))
 
-  same_open : (walk later : Walk) → IsSameWalk walk later → OpenKnown walk → OpenKnown later
-  same_open walk later same all = ap (λ sessions. drew_known (transaction_in sessions session).pieces) same.sessions ∙ all
+  abbrev open_times : Walk → ℕ
+  open_times walk = times value (open_in session walk)
 
-  -- ANOTHER SESSION'S ITEM ------------------------------------------------------------------------
+  same_count : (walk later : Walk) → IsSameWalk walk later → (left_times later ≡ left_times walk) × (open_times later ≡ open_times walk)
+  same_count walk later same = (ap (λ (all : List Entry). times value (flat_map draws_of all)) (same_its session walk later same), ap (times value) (same_open session walk later same))
 
-  other_stores : (walk later : Walk) (other : SessionId) (made : Transaction) (test : Bool) → same_session other session ≡ false → Stores walk later other made test → list_all entry_known later.left ≡ true → list_all entry_known walk.left ≡ true
-  other_stores walk later other made _ apart (Keeps stored left) all = ap (list_all entry_known) (sym left) ∙ all
-  other_stores walk later other made _ apart (Takes entry rest left stored gone named pieces) all =
-      let foreign : is_its session entry ≡ false = ap (λ (x : Ltxid). is_of x session.incarnation session.session) named ∙ apart in
-      ap (list_all entry_known) left
-      ∙ and_from (entry_known entry) (list_all entry_known rest) (ap (λ (own : Bool). implies own (list_all known (draws_of entry))) foreign) (ap (list_all entry_known) (sym gone) ∙ all)
+  quiet_count : (walk later : Walk) → IsSameWalk walk later → (new rest : ℕ) → left_times later ≤ open_times later + rest → left_times walk ≤ open_times walk + (new + rest)
+  quiet_count walk later same new rest most = let so = same_count walk later same in let left = so.0 in let opens = so.1 in omega (arith, most, left, opens)
 
-  other_left : (walk later : Walk) (other : SessionId) (thing : Thing) → same_session other session ≡ false → Moved walk later other thing → list_all entry_known later.left ≡ true → list_all entry_known walk.left ≡ true
-  other_left walk later other (Began settings) apart moved all = ap (list_all entry_known) (sym moved.left) ∙ all
-  other_left walk later other (Called replay kept called answers draws) apart moved all = other_stores walk later other moved.made _ apart moved.stores all
-  other_left walk later other (CallStopped replay called) apart (IsStored answers draws calls) all = other_stores walk later other calls.made _ apart calls.stores all
-  other_left walk later other (CallStopped replay called) apart (IsNothing same) all = same_left walk later same all
-  other_left walk later other thing apart moved all = same_left walk later moved all
+  -- its own item
+  own_count : (walk later : Walk) (n now : ℕ) (thing : Thing) → plain_thing thing ≡ true → item_holds base walk (Did n now session thing) (deed_of base walk (Did n now session thing)) ≡ true → Moved walk later session thing → (rest : ℕ)
+      → left_times later ≤ open_times later + rest → left_times walk ≤ open_times walk + (times value (new_in base (deed_of base walk (Did n now session thing))) + rest)
+  own_count walk later n now (Began settings) plain holds moved rest most =
+      let left : left_times later ≡ left_times walk = ap (λ (all : List Entry). times value (flat_map draws_of (filter (is_its session) all))) moved.left in
+      let opens : open_times later ≡ 0 = ap (λ sessions. times value (flat_map draws_in (transaction_in sessions session).pieces)) moved.sessions ∙ ap (λ (made : Transaction). times value (flat_map draws_in made.pieces)) (transaction_own walk.sessions session (begun settings)) in
+      omega (arith, most, left, opens)
+  own_count walk later n now (Called true kept called answers draws) plain holds moved rest most = absurd (let none : ⊥ = cc in none)
+  own_count walk later n now (Called false kept called answers draws) plain holds moved rest most =
+      by (ends_committed answers) (ends answers) (call_spent session value walk later called answers draws moved)
+    where
+      drew : times value (new_in base (deed_of base walk (Did n now session (Called false kept called answers draws)))) ≡ times value draws
+      drew =
+          let performed : Performed = record { session = session; now = now; replay = false; kept = kept; called = called; answers = answers; draws = draws } in
+          let parts = and_parts (is_of_now walk session) _ holds in
+          ap (times value) ((performed_drew base walk performed (and_parts (deed_holds base walk (deed base walk (Some performed))) _ parts.1).0).0 ∙ all_new draws)
 
-  -- ITS OWN ITEM ----------------------------------------------------------------------------------
-
-  module _ (walk later : Walk) (called : Call) (answers : List Answer) (draws : List Draw) (calls : Calls walk later session called answers draws) (drew : list_all known draws ≡ true) where
-    made_known : OpenKnown walk → drew_known calls.made.pieces ≡ true
-    made_known opens =
-        ap drew_known calls.pieces
-        ∙ (ap (list_all known) (flat_map-append draws_in (transaction_in walk.sessions session).pieces (record { call = called; answers = answers; draws = draws } ∷ []))
-        ∙ (list_all-append known (flat_map draws_in (transaction_in walk.sessions session).pieces) (draws ++ [])
-        ∙ and_from (drew_known (transaction_in walk.sessions session).pieces) (list_all known (draws ++ [])) opens (list_all-append known draws [] ∙ and_from (list_all known draws) true drew refl)))
-
-    own_stores : (test : Bool) → Stores walk later session calls.made test → OpenKnown walk → list_all entry_known later.left ≡ true → list_all entry_known walk.left ≡ true
-    own_stores _ (Keeps stored left) opens all = ap (list_all entry_known) (sym left) ∙ all
-    own_stores _ (Takes entry rest left stored gone named pieces) opens all =
-        ap (list_all entry_known) left
-        ∙ and_from (entry_known entry) (list_all entry_known rest) (by (is_its session entry) (ap drew_known pieces ∙ made_known opens)) (ap (list_all entry_known) (sym gone) ∙ all)
-      where
-        by : (own : Bool) → list_all known (draws_of entry) ≡ true → implies own (list_all known (draws_of entry)) ≡ true
-        by true is = is
-        by false is = refl
-
-    own_opens : OpenKnown walk → OpenKnown later
-    own_opens opens = ap (λ sessions. drew_known (transaction_in sessions session).pieces) calls.sessions ∙ (ap (λ (made : Transaction). drew_known made.pieces) (transaction_own walk.sessions session (if_ended (ends answers) calls.made)) ∙ by (ends answers))
-      where
-        by : (ended : Bool) → drew_known (if_ended ended calls.made).pieces ≡ true
-        by true = refl
-        by false = made_known opens
-
-  own_left : (walk later : Walk) (n now : ℕ) (thing : Thing) → plain_thing thing ≡ true → item_holds base walk (Did n now session thing) (deed_of base walk (Did n now session thing)) ≡ true → Moved walk later session thing
-      → list_all known (new_in base (deed_of base walk (Did n now session thing))) ≡ true → OpenKnown walk → (OpenKnown later → list_all entry_known later.left ≡ true) → list_all entry_known walk.left ≡ true
-  own_left walk later n now (Began settings) plain holds moved drew opens rest =
-      ap (list_all entry_known) (sym moved.left) ∙ rest (ap (λ sessions. drew_known (transaction_in sessions session).pieces) moved.sessions ∙ ap (λ (made : Transaction). drew_known made.pieces) (transaction_own walk.sessions session (begun settings)))
-  own_left walk later n now (Called true kept called answers draws) plain holds moved drew opens rest = absurd (let none : ⊥ = cc in none)
-  own_left walk later n now (Called false kept called answers draws) plain holds moved drew opens rest =
-      let performed : Performed = record { session = session; now = now; replay = false; kept = kept; called = called; answers = answers; draws = draws } in
-      let parts = and_parts (is_of_now walk session) _ holds in
-      let new = performed_drew base walk performed (and_parts (deed_holds base walk (deed base walk (Some performed))) _ parts.1).0 in
-      let all : list_all known draws ≡ true = ap (list_all known) (sym (new.0 ∙ all_new draws)) ∙ drew in
-      own_stores walk later called answers draws moved all (ends_committed answers) moved.stores opens (rest (own_opens walk later called answers draws moved all opens))
-  own_left walk later n now (CallStopped replay called) plain holds moved drew opens rest = absurd (let none : ⊥ = cc in none)
-  own_left walk later n now Connected plain holds moved drew opens rest = same_left walk later moved (rest (same_open walk later moved opens))
-  own_left walk later n now (MetBlock replay called) plain holds moved drew opens rest = same_left walk later moved (rest (same_open walk later moved opens))
-  own_left walk later n now (TellsOutcome x outcome) plain holds moved drew opens rest = same_left walk later moved (rest (same_open walk later moved opens))
-  own_left walk later n now EndedRequest plain holds moved drew opens rest = same_left walk later moved (rest (same_open walk later moved opens))
-  own_left walk later n now Closed plain holds moved drew opens rest = same_left walk later moved (rest (same_open walk later moved opens))
-  own_left walk later n now Refused plain holds moved drew opens rest = same_left walk later moved (rest (same_open walk later moved opens))
-  own_left walk later n now (OutcomeStopped x) plain holds moved drew opens rest = same_left walk later moved (rest (same_open walk later moved opens))
+      by : (committed ended : Bool) → Spent session value walk later called answers draws moved committed ended
+          → left_times walk ≤ open_times walk + (times value (new_in base (deed_of base walk (Did n now session (Called false kept called answers draws)))) + rest)
+      by true _ (Commits ended all opens) = omega (arith, drew, most, all, opens)
+      by false true (Ends same opens) = omega (arith, drew, most, same, opens)
+      by false false (Stays same opens) = omega (arith, drew, most, same, opens)
+  own_count walk later n now (CallStopped replay called) plain holds moved rest most = absurd (let none : ⊥ = cc in none)
+  own_count walk later n now Connected plain holds moved rest most = quiet_count walk later moved _ rest most
+  own_count walk later n now (MetBlock replay called) plain holds moved rest most = quiet_count walk later moved _ rest most
+  own_count walk later n now (TellsOutcome x outcome) plain holds moved rest most = quiet_count walk later moved _ rest most
+  own_count walk later n now EndedRequest plain holds moved rest most = quiet_count walk later moved _ rest most
+  own_count walk later n now Closed plain holds moved rest most = quiet_count walk later moved _ rest most
+  own_count walk later n now Refused plain holds moved rest most = quiet_count walk later moved _ rest most
+  own_count walk later n now (OutcomeStopped x) plain holds moved rest most = quiet_count walk later moved _ rest most
 
   -- A HISTORY -------------------------------------------------------------------------------------
 
-  abbrev Knows : List Happened → Type 0
-  Knows history = (walk : Walk) (n : ℕ) → items_hold base walk (items_from n history) ≡ true → list_all is_plain (served_in history session) ≡ true → list_all known (drawn_for (is_session session) base walk (items_from n history)) ≡ true → OpenKnown walk
-      → list_all entry_known walk.left ≡ true
+  abbrev Counts : List Happened → Type 0
+  Counts history = (walk : Walk) (n : ℕ) → items_hold base walk (items_from n history) ≡ true → list_all is_plain (served_in history session) ≡ true
+      → left_times walk ≤ open_times walk + times value (drawn_for (is_session session) base walk (items_from n history))
 
-  rest_known : (new : List Draw) (test : Bool) (rest : List Draw) → list_all known (new_by test new ++ rest) ≡ true → list_all known rest ≡ true
-  rest_known new test rest all = (and_parts (list_all known (new_by test new)) (list_all known rest) (sym (list_all-append known (new_by test new) rest) ∙ all)).1
+  own_served : (now : ℕ) (frame : Up) (told : Telling) (history : List Happened) → Counts history → (walk : Walk) (n : ℕ) → items_hold base walk (Did n now session (thing_of frame told) ∷ items_from (n + 1) history) ≡ true
+      → (plain_told frame told && list_all is_plain (served_in history session)) ≡ true
+      → left_times walk ≤ open_times walk + times value (drawn_for (is_session session) base walk (Did n now session (thing_of frame told) ∷ items_from (n + 1) history))
+  own_served now frame told history again walk n held plain =
+      let it : Item = Did n now session (thing_of frame told) in
+      let here : Walk = entered walk it in
+      let later : Walk = later_of walk it in
+      let both = both_hold base [] session walk it (items_from (n + 1) history) held in
+      let parts = and_parts (plain_told frame told) (list_all is_plain (served_in history session)) plain in
+      let moved = thing_moved base here n now session (thing_of frame told) both.0 in
+      let rest = again later (n + 1) both.1 parts.1 in
+      let most = own_count here later n now (thing_of frame told) (thing_plain frame told parts.0) both.0 moved (times value (drawn_for (is_session session) base later (items_from (n + 1) history))) rest in
+      let so = same_count walk here (enters walk it) in
+      let left = so.0 in
+      let opens = so.1 in
+      let sum = times_both value (new_in base (deed_of base here it)) (drawn_for (is_session session) base later (items_from (n + 1) history)) in
+      let all : times value (drawn_for (is_session session) base walk (it ∷ items_from (n + 1) history)) ≡ times value (new_in base (deed_of base here it) ++ drawn_for (is_session session) base later (items_from (n + 1) history)) =
+      ap (λ (test : Bool). times value (new_by test (new_in base (deed_of base here it)) ++ drawn_for (is_session session) base later (items_from (n + 1) history))) (session_self session) in
+      omega (arith, most, left, opens, sum, all)
 
-  served_known : (other : SessionId) (now : ℕ) (frame : Up) (told : Telling) (history : List Happened) → Knows history → Knows (Served other now frame told ∷ history)
-  served_known other now frame told history again walk n held plain drew opens = by (same_session other session) refl plain drew
+  served_count : (other : SessionId) (now : ℕ) (frame : Up) (told : Telling) (history : List Happened) → Counts history → Counts (Served other now frame told ∷ history)
+  served_count other now frame told history again walk n held plain = by (same_session other session) refl plain
     where
-      both : (item_holds base (entered walk (Did n now other (thing_of frame told))) (Did n now other (thing_of frame told)) (deed_of base (entered walk (Did n now other (thing_of frame told))) (Did n now other (thing_of frame told))) ≡ true)
-          × (items_hold base (later_of walk (Did n now other (thing_of frame told))) (items_from (n + 1) history) ≡ true)
-      both = both_hold base [] session walk (Did n now other (thing_of frame told)) (items_from (n + 1) history) held
-
-      moved : Moved (entered walk (Did n now other (thing_of frame told))) (later_of walk (Did n now other (thing_of frame told))) other (thing_of frame told)
-      moved = thing_moved base (entered walk (Did n now other (thing_of frame told))) n now other (thing_of frame told) both.0
-
-      same : IsSameWalk walk (entered walk (Did n now other (thing_of frame told)))
-      same = enters walk (Did n now other (thing_of frame told))
-
-      new : List Draw
-      new = new_in base (deed_of base (entered walk (Did n now other (thing_of frame told))) (Did n now other (thing_of frame told)))
+      own : other ≡ session → (plain_told frame told && list_all is_plain (served_in history session)) ≡ true → left_times walk ≤ open_times walk + times value (drawn_for (is_session session) base walk (Did n now other (thing_of frame told) ∷ items_from (n + 1) history))
+      own same plain =
+          subst (λ (s : SessionId). left_times walk ≤ open_times walk + times value (drawn_for (is_session session) base walk (Did n now s (thing_of frame told) ∷ items_from (n + 1) history))) (sym same)
+          (own_served now frame told history again walk n (subst (λ (s : SessionId). items_hold base walk (Did n now s (thing_of frame told) ∷ items_from (n + 1) history) ≡ true) same held) plain)
 
       by : (test : Bool) → same_session other session ≡ test → list_all is_plain (if test then (frame, told) ∷ served_in history session else served_in history session) ≡ true
-          → list_all known (new_by test (new_in base (deed_of base (entered walk (Did n now other (thing_of frame told))) (Did n now other (thing_of frame told)))) ++ drawn_for (is_session session) base (later_of walk (Did n now other (thing_of frame told))) (items_from (n + 1) history)) ≡ true
-          → list_all entry_known walk.left ≡ true
-      by false apart plain drew =
-          same_left walk (entered walk (Did n now other (thing_of frame told))) same
-          (other_left (entered walk (Did n now other (thing_of frame told))) (later_of walk (Did n now other (thing_of frame told))) other (thing_of frame told) apart moved
-          (again (later_of walk (Did n now other (thing_of frame told))) (n + 1) both.1 plain drew
-          (ap (λ (made : Transaction). drew_known made.pieces) (moved_others (entered walk (Did n now other (thing_of frame told))) (later_of walk (Did n now other (thing_of frame told))) other session (thing_of frame told) apart moved).transaction
-          ∙ same_open walk (entered walk (Did n now other (thing_of frame told))) same opens)))
-      by true is plain drew =
-          let parts = and_parts (plain_told frame told) (list_all is_plain (served_in history session)) plain in
-          let two = and_parts (list_all known (new_in base (deed_of base (entered walk (Did n now other (thing_of frame told))) (Did n now other (thing_of frame told))))) _
-          (sym (list_all-append known (new_in base (deed_of base (entered walk (Did n now other (thing_of frame told))) (Did n now other (thing_of frame told)))) (drawn_for (is_session session) base (later_of walk (Did n now other (thing_of frame told))) (items_from (n + 1) history))) ∙ drew) in
-          same_left walk (entered walk (Did n now other (thing_of frame told))) same
-          (own_at other (same_session_is other session is) moved both.0 two.0 (thing_plain frame told parts.0)
-          (λ later_opens. again (later_of walk (Did n now other (thing_of frame told))) (n + 1) both.1 parts.1 two.1 later_opens))
-        where
-          own_at : (who : SessionId) → who ≡ session → Moved (entered walk (Did n now other (thing_of frame told))) (later_of walk (Did n now other (thing_of frame told))) who (thing_of frame told)
-              → item_holds base (entered walk (Did n now other (thing_of frame told))) (Did n now who (thing_of frame told)) (deed_of base (entered walk (Did n now other (thing_of frame told))) (Did n now who (thing_of frame told))) ≡ true
-              → list_all known (new_in base (deed_of base (entered walk (Did n now other (thing_of frame told))) (Did n now who (thing_of frame told)))) ≡ true → plain_thing (thing_of frame told) ≡ true
-              → (OpenKnown (later_of walk (Did n now other (thing_of frame told))) → list_all entry_known (later_of walk (Did n now other (thing_of frame told))).left ≡ true) → list_all entry_known (entered walk (Did n now other (thing_of frame told))).left ≡ true
-          own_at who whose moved_so holds drew_so plain_so rest =
-              let here : Walk = entered walk (Did n now other (thing_of frame told)) in
-              let later : Walk = later_of walk (Did n now other (thing_of frame told)) in
-              own_left here later n now (thing_of frame told) plain_so
-              (subst (λ (s : SessionId). item_holds base here (Did n now s (thing_of frame told)) (deed_of base here (Did n now s (thing_of frame told))) ≡ true) whose holds)
-              (subst (λ (s : SessionId). Moved here later s (thing_of frame told)) whose moved_so)
-              (subst (λ (s : SessionId). list_all known (new_in base (deed_of base here (Did n now s (thing_of frame told)))) ≡ true) whose drew_so)
-              (same_open walk here same opens) rest
+          → left_times walk ≤ open_times walk + times value (drawn_for (is_session session) base walk (Did n now other (thing_of frame told) ∷ items_from (n + 1) history))
+      by true is plain = own (same_session_is other session is) plain
+      by false apart plain =
+          let it : Item = Did n now other (thing_of frame told) in
+          let here : Walk = entered walk it in
+          let later : Walk = later_of walk it in
+          let both = both_hold base [] session walk it (items_from (n + 1) history) held in
+          let moved = thing_moved base here n now other (thing_of frame told) both.0 in
+          let rest = again later (n + 1) both.1 plain in
+          let so = same_count walk here (enters walk it) in
+          let left = so.0 in
+          let opens = so.1 in
+          let left_later : left_times later ≡ left_times here = ap (λ (all : List Entry). times value (flat_map draws_of all)) (other_its session here later other (thing_of frame told) apart moved) in
+          let opens_later : open_times later ≡ open_times here = ap (times value) (other_open session here later other (thing_of frame told) apart moved) in
+          let all : times value (drawn_for (is_session session) base walk (it ∷ items_from (n + 1) history)) ≡ times value (drawn_for (is_session session) base later (items_from (n + 1) history)) =
+          ap (λ (test : Bool). times value (new_by test (new_in base (deed_of base here it)) ++ drawn_for (is_session session) base later (items_from (n + 1) history))) apart in
+          omega (arith, rest, left, opens, left_later, opens_later, all)
 
-  asked_known : (x : Ltxid) (told : Telling) (history : List Happened) → Knows history → Knows (Asked x told ∷ history)
-  asked_known x told history again walk n held plain drew opens =
+  asked_count : (x : Ltxid) (told : Telling) (history : List Happened) → Counts history → Counts (Asked x told ∷ history)
+  asked_count x told history again walk n held plain =
       let it : Item = asked_of n x told in
-      let same : IsSameWalk walk (later_of walk it) = asked_same base walk n x told in
-      same_left walk (later_of walk it) same
-      (again (later_of walk it) (n + 1) (both_hold base [] session walk it (items_from (n + 1) history) held).1 plain
-      (rest_known (new_in base (deed_of base (entered walk it) it)) (is_by (is_session session) it) (drawn_for (is_session session) base (later_of walk it) (items_from (n + 1) history)) drew) (same_open walk (later_of walk it) same opens))
+      let rest = again (later_of walk it) (n + 1) (both_hold base [] session walk it (items_from (n + 1) history) held).1 plain in
+      let so = same_count walk (later_of walk it) (asked_same base walk n x told) in
+      let left = so.0 in
+      let opens = so.1 in
+      let sum = times_both value (new_by (is_by (is_session session) it) (new_in base (deed_of base (entered walk it) it))) (drawn_for (is_session session) base (later_of walk it) (items_from (n + 1) history)) in
+      omega (arith, rest, left, opens, sum)
 
-  pub history_known : (history : List Happened) → Knows history
-  history_known [] = λ walk n held plain drew opens. ap (list_all entry_known) (none_left walk.left held)
-  history_known (Asked x told ∷ history) = asked_known x told history (history_known history)
-  history_known (Served other now frame told ∷ history) = served_known other now frame told history (history_known history)
+  pub history_counts : (history : List Happened) → Counts history
+  history_counts [] = λ walk n held plain. let zero : left_times walk ≡ 0 = ap (λ (all : List Entry). times value (flat_map draws_of (filter (is_its session) all))) (none_left walk.left held) in omega (arith, zero)
+  history_counts (Asked x told ∷ history) = asked_count x told history (history_counts history)
+  history_counts (Served other now frame told ∷ history) = served_count other now frame told history (history_counts history)

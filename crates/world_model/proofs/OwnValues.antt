@@ -1,8 +1,8 @@
 -- No value that a run gives to calls is one that was drawn outside: a run from outside draws anew, in a session of its own.
-use Rattle.std.proofs.Common.{◌≡◌, refl, sym, ap, ◌∙◌, arith, ℕ, ◌≤◌, ◌&&◌, ◌||◌, not, Bool, true, false, List, [], ◌∷◌, ◌⊎◌, inl, inr, if◌then◌else◌}
+use Rattle.std.proofs.Common.{◌≡◌, refl, sym, ap, ◌∙◌, arith, ℕ, ◌≤◌, ◌&&◌, ◌||◌, not, Bool, true, false, List, [], ◌∷◌, ◌⊎◌, inl, inr, if◌then◌else◌, zero, suc, subst, ◌++◌}
 use Rattle.std.specs.Prelude.{flat_map, filter, slice_get, drop, Some}
 use Rattle.std.specs.List.{list_all, list_any}
-use Rattle.std.proofs.lemmas.Bool.{and_parts, and_from, or_cases, not-true}
+use Rattle.std.proofs.lemmas.Bool.{and_parts, and_from, or_cases, not-true, or_left, or_right}
 use Rattle.std.proofs.lemmas.List.Folds.{list_any-append}
 use Rattle.svc_values.specs.declared.draw.Draw.{Draw}
 use Rattle.svc_values.specs.declared.entry.Entry.{Entry}
@@ -33,17 +33,17 @@ use Rattle.world_model.specs.SameLaws.{RunsServe}
 use Rattle.world_model.specs.Sames.{each_pair}
 use Rattle.world_model.specs.Traced.{Traced}
 use Rattle.world_model.specs.ValueLaws.{ValuesAreOwn}
-use Rattle.world_model.proofs.AllLists.{at_all, weaker_all}
+use Rattle.world_model.proofs.AllLists.{at_all}
 use Rattle.world_model.proofs.AskedNear.{any_all}
 use Rattle.world_model.proofs.DrawnFor.{AreApart, drawn_for, drawn_apart, drawn_within, drawn_more, is_session, among}
-use Rattle.world_model.proofs.DrawnOnce.{times, some_time, time_some}
+use Rattle.world_model.proofs.DrawnOnce.{times, times_both, some_time, time_some}
 use Rattle.world_model.proofs.NumbersTurn.{by_index}
-use Rattle.world_model.proofs.OutsideEntries.{entry_known, history_known}
+use Rattle.world_model.proofs.OutsideEntries.{history_counts}
 use Rattle.world_model.proofs.OutsideGiven.{outside_told, answers_drawn}
 use Rattle.world_model.proofs.OutsidePlain.{reached_plain}
 use Rattle.world_model.proofs.OwnedLists.{Stands, Here, Later, From, from_one, some_first}
 use Rattle.world_model.proofs.OwnedValues.{inv, gained, entries, held, gained_is, once, all_firsts}
-use Rattle.world_model.proofs.ShownGiven.{own_draws}
+use Rattle.world_model.proofs.RanSessions.{is_its}
 use Rattle.world_model.proofs.Tests.{same_session_is, session_self}
 
 -- LISTS -------------------------------------------------------------------------------------------
@@ -86,20 +86,45 @@ any_entries known keep value (entry ∷ entries) all any = by (keep entry) parts
         of (inl first) = here (draws_of entry) own first
         of (inr later) = again later
 
+-- each is known that is among them
+all_known : (known : Draw → Bool) (draws : List Draw) → ((value : Draw) → list_any (same_draw value) draws ≡ true → known value ≡ true) → list_all known draws ≡ true
+all_known known [] each = refl
+all_known known (draw ∷ draws) each =
+    and_from (known draw) (list_all known draws) (each draw (or_left (same_draw draw draw) (list_any (same_draw draw) draws) ((same_draw_decides draw draw).1 refl)))
+    (all_known known draws (λ value any. each value (or_right (same_draw value draw) (list_any (same_draw value) draws) any)))
+
+-- an entry of the session drew no more than all of its entries
+entry_times : (session : SessionId) (value : Draw) (entries : List Entry) (index : ℕ) (entry : Entry) → slice_get entries index ≡ Some entry → is_its session entry ≡ true
+    → times value (draws_of entry) ≤ times value (flat_map draws_of (filter (is_its session) entries))
+entry_times session value [] index entry at own = absurd (let none : ⊥ = cc in none)
+entry_times session value (first ∷ entries) zero entry at own =
+    let equal : first ≡ entry = cc in
+    let both = times_both value (draws_of first) (flat_map draws_of (filter (is_its session) entries)) in
+    let test : is_its session first ≡ true = subst (λ (e : Entry). is_its session e ≡ true) (sym equal) own in
+    let whole : times value (flat_map draws_of (filter (is_its session) (first ∷ entries))) ≡ times value (draws_of first ++ flat_map draws_of (filter (is_its session) entries)) =
+    ap (λ (b : Bool). times value (flat_map draws_of (if b then first ∷ filter (is_its session) entries else filter (is_its session) entries))) test in
+    let same : times value (draws_of entry) ≡ times value (draws_of first) = ap (λ (e : Entry). times value (draws_of e)) (sym equal) in
+    omega (arith, both, whole, same)
+entry_times session value (first ∷ entries) (suc index) entry at own = by (is_its session first) (entry_times session value entries index entry at own)
+  where
+    by : (test : Bool) → times value (draws_of entry) ≤ times value (flat_map draws_of (filter (is_its session) entries)) → times value (draws_of entry) ≤ times value (flat_map draws_of (if test then first ∷ filter (is_its session) entries else filter (is_its session) entries))
+    by true most = let both = times_both value (draws_of first) (flat_map draws_of (filter (is_its session) entries)) in omega (arith, both, most)
+    by false most = most
+
 -- A RUN -------------------------------------------------------------------------------------------
 
 module _ (orderly : RunsAreOrderly) (serve : RunsServe) (legal : RunsLegal) (fresh : RunsFreshNew) (document : Document) (events : List Event) (notes : List Note) (items : List Served) (seen : Seen) (t : Traced) (calls : all_have_calls document ≡ true)
     (reached : Reached document events notes items seen t) (room : has_room seen.start (items_of seen.history) (drop t.image t.entries) ≡ true) where
-  abbrev new : List Entry
+  abbrev pub new : List Entry
   new = gained orderly serve legal fresh document events notes items seen t calls reached
 
-  abbrev drawn : (SessionId → Bool) → List Draw
+  abbrev pub drawn : (SessionId → Bool) → List Draw
   drawn some = drawn_for some seen.start (walk_of seen.start new) (items_of seen.history)
 
-  abbrev so_far : Orderly t
+  abbrev pub so_far : Orderly t
   so_far = inv orderly serve legal fresh document events notes items seen t calls reached
 
-  legal_so_far : items_hold seen.start (walk_of seen.start new) (items_of seen.history) ≡ true
+  pub legal_so_far : items_hold seen.start (walk_of seen.start new) (items_of seen.history) ≡ true
   legal_so_far = held orderly serve legal fresh document events notes items seen t calls reached
 
   -- the sessions of connections are none of those outside
@@ -113,7 +138,7 @@ module _ (orderly : RunsAreOrderly) (serve : RunsServe) (legal : RunsLegal) (fre
     other = λ session is. refl;
   }
 
-  never_both : (value : Draw) → is_single value ≡ true → 1 ≤ times value (drawn (among (sessions_of t))) → 1 ≤ times value (drawn (among t.outside)) → ⊥
+  pub never_both : (value : Draw) → is_single value ≡ true → 1 ≤ times value (drawn (among (sessions_of t))) → 1 ≤ times value (drawn (among t.outside)) → ⊥
   never_both value single here there =
       let all = drawn_apart value (among (sessions_of t)) (among t.outside) (λ session. true) kinds seen.start (walk_of seen.start new) (items_of seen.history) in
       let within = drawn_within value (λ session. true) seen.start (walk_of seen.start new) (items_of seen.history) in
@@ -122,7 +147,7 @@ module _ (orderly : RunsAreOrderly) (serve : RunsServe) (legal : RunsLegal) (fre
       never
 
   -- a value that was given was drawn by a connection's session
-  given_drawn : (one : Given) → Stands one (given t) → 1 ≤ times one.value (drawn (among (sessions_of t)))
+  pub given_drawn : (one : Given) → Stands one (given t) → 1 ≤ times one.value (drawn (among (sessions_of t)))
   given_drawn one stands =
       let came : From (given t) one.value one = from_one (given t) one.value one stands ((same_draw_decides one.value one.value).1 refl) in
       let some = some_first (given t) one.value came.one (given t) came.stands came.first in
@@ -155,16 +180,12 @@ module _ (orderly : RunsAreOrderly) (serve : RunsServe) (legal : RunsLegal) (fre
 
       own : among t.outside (session_of entry.ltxid) ≡ true → list_all known (draws_of entry) ≡ true
       own outside =
-          let mine : Draw → Bool = λ value. list_any (same_draw value) (drawn (is_session (session_of entry.ltxid))) in
-          let all = history_known seen.start (session_of entry.ltxid) mine seen.history (walk_of seen.start new) 0 legal_so_far (reached_plain orderly document events notes items seen t calls reached (session_of entry.ltxid) outside)
-          (own_draws (drawn (is_session (session_of entry.ltxid))) (drawn (is_session (session_of entry.ltxid))) (λ value among. among)) refl in
-          let here = at_all (entry_known seen.start (session_of entry.ltxid) mine) new index entry all at in
-          weaker_all mine known (draws_of entry)
-          (λ value any.
-          let some = some_time value (drawn (is_session (session_of entry.ltxid))) any in
+          all_known known (draws_of entry) (λ value any.
+          let some = some_time value (draws_of entry) any in
+          let stored = entry_times (session_of entry.ltxid) value new index entry at (session_self (session_of entry.ltxid)) in
+          let most = history_counts seen.start (session_of entry.ltxid) value seen.history (walk_of seen.start new) 0 legal_so_far (reached_plain orderly document events notes items seen t calls reached (session_of entry.ltxid) outside) in
           let more = drawn_more value (is_session (session_of entry.ltxid)) (among t.outside) (λ other is. ap (among t.outside) (same_session_is other (session_of entry.ltxid) is) ∙ outside) seen.start (walk_of seen.start new) (items_of seen.history) in
-          time_some value (drawn (among t.outside)) (omega (arith, some, more)))
-          (sym (ap (λ (test : Bool). implies test (list_all mine (draws_of entry))) (session_self (session_of entry.ltxid))) ∙ here)
+          time_some value (drawn (among t.outside)) (omega (arith, some, stored, most, more)))
 
       by : (link : Bool) → is_of_link t entry ≡ link → implies (not link) (list_all known (draws_of entry)) ≡ true
       by true is = refl

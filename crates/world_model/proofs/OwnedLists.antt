@@ -59,7 +59,7 @@ some_first whole value x _ (Here more) is = let one : one_if (is_first whole val
 some_first whole value x _ (Later y more stands) is = let rest = some_first whole value x more stands is in omega (arith, rest)
 
 -- where they are few they are one
-one_first : (whole : List Given) (value : Draw) (x y : Given) (xs : List Given) → Stands x xs → Stands y xs → is_first whole value x ≡ true → is_first whole value y ≡ true → firsts whole value xs ≤ 1 → x ≡ y
+pub one_first : (whole : List Given) (value : Draw) (x y : Given) (xs : List Given) → Stands x xs → Stands y xs → is_first whole value x ≡ true → is_first whole value y ≡ true → firsts whole value xs ≤ 1 → x ≡ y
 one_first whole value x _ _ (Here more) (Here _) first second few = refl
 one_first whole value x y _ (Here more) (Later _ _ stands) first second few =
     let one : one_if (is_first whole value x) ≡ 1 = ap one_if first in

@@ -27,7 +27,7 @@ use Rattle.world_model.specs.Invariant.{Orderly}
 use Rattle.world_model.specs.Links.{Link, link_at}
 use Rattle.world_model.specs.Number.{numbered_after}
 use Rattle.world_model.specs.Once.{Given, stopped_draws, given_by, given_on, given, owned}
-use Rattle.world_model.specs.Parts.{implies}
+use Rattle.world_model.specs.Parts.{has_entry, implies}
 use Rattle.world_model.specs.Reached.{Reached, Begins, GoesOn}
 use Rattle.world_model.specs.Ready.{all_have_calls}
 use Rattle.world_model.specs.RunLaws.{RunsAreOrderly}
@@ -37,10 +37,12 @@ use Rattle.world_model.specs.Shown.{in_rows}
 use Rattle.world_model.specs.Traced.{Traced}
 use Rattle.world_model.specs.ValueLaws.{HoldsWithRoom, EndsWithRoom, ValuesHaveOneOwner}
 use Rattle.world_model.specs.Wire.{is_fresh, is_sent_front, handled_from, stage_of, is_right}
+use Rattle.world_model.specs.StoredOnce.{stood_in}
 use Rattle.world_model.proofs.AllLinks.{at_link}
 use Rattle.world_model.proofs.AllLists.{weaker_all}
 use Rattle.world_model.proofs.DrawnFor.{drawn_for, drawn_apart, drawn_within, first_apart, is_session, among}
 use Rattle.world_model.proofs.DrawnOnce.{times, AreOnce, once_each}
+use Rattle.world_model.proofs.FreshStored.{total}
 use Rattle.world_model.proofs.GivenFirsts.{served_firsts}
 use Rattle.world_model.proofs.HeldAtStop.{stopped_held}
 use Rattle.world_model.proofs.FrameDraws.{anew}
@@ -94,26 +96,32 @@ module _ (t : Traced) (base : Base) (walk : Walk) (items : List Plain) (value : 
   abbrev names : List Link → List SessionId
   names links = filter_map (λ link. link.session) links
 
-  pub links_firsts : (links : List Link) → each_pair (λ a b. not (same_session a b)) (names links) ≡ true → ((index : ℕ) (link : Link) → slice_get links index ≡ Some link → HasDrawn whole t drawn value link) → firsts whole value (flat_map (given_on t) links) ≤ times value (drawn (among (names links)))
-  links_firsts [] apart has = omega arith
-  links_firsts (link ∷ links) apart has = by link.session refl apart (λ rest. links_firsts links rest (λ index one at. has (suc index) one at))
+  -- by sessions, which differ: what is weighed of each connection its session drew
+  pub links_within : (weight : Link → ℕ) (links : List Link) → each_pair (λ a b. not (same_session a b)) (names links) ≡ true
+      → ((index : ℕ) (link : Link) → slice_get links index ≡ Some link → (link.session ≡ None → weight link ≡ 0) × ((session : SessionId) → link.session ≡ Some session → weight link ≤ times value (drawn (is_session session)))) → total weight links ≤ times value (drawn (among (names links)))
+  links_within weight [] apart has = omega arith
+  links_within weight (link ∷ links) apart has = by link.session refl apart (λ rest. links_within weight links rest (λ index one at. has (suc index) one at))
     where
-      both : firsts whole value (given_on t link ++ flat_map (given_on t) links) ≡ firsts whole value (given_on t link) + firsts whole value (flat_map (given_on t) links)
-      both = firsts_both whole value (given_on t link) (flat_map (given_on t) links)
-
       by : (session : Option SessionId) → link.session ≡ session → each_pair (λ a b. not (same_session a b)) (cons_option session (names links)) ≡ true
-          → (each_pair (λ a b. not (same_session a b)) (names links) ≡ true → firsts whole value (flat_map (given_on t) links) ≤ times value (drawn (among (names links))))
-          → firsts whole value (given_on t link ++ flat_map (given_on t) links) ≤ times value (drawn (among (cons_option session (names links))))
-      by None is apart again =
-          let none : firsts whole value (given_on t link) ≡ 0 = ap (λ (served : List Handled). firsts whole value (flat_map (λ one. given_by t link one one.served.item) served)) ((has 0 link refl).unnamed is) in
-          let rest = again apart in
-          omega (arith, both, none, rest)
+          → (each_pair (λ a b. not (same_session a b)) (names links) ≡ true → total weight links ≤ times value (drawn (among (names links)))) → weight link + total weight links ≤ times value (drawn (among (cons_option session (names links))))
+      by None is apart again = let none = (has 0 link refl).0 is in let rest = again apart in omega (arith, none, rest)
       by (Some session) is apart again =
           let parts = and_parts (all_with (λ other. not (same_session session other)) (names links)) (each_pair (λ a b. not (same_session a b)) (names links)) apart in
-          let own = (has 0 link refl).named session is in
+          let own = (has 0 link refl).1 session is in
           let rest = again parts.1 in
           let all = drawn_apart value (is_session session) (among (names links)) (among (session ∷ names links)) (first_apart session (names links) parts.0) base walk items in
-          omega (arith, both, own, rest, all)
+          omega (arith, own, rest, all)
+
+  total_firsts : (links : List Link) → firsts whole value (flat_map (given_on t) links) ≡ total (λ link. firsts whole value (given_on t link)) links
+  total_firsts [] = refl
+  total_firsts (link ∷ links) = let both = firsts_both whole value (given_on t link) (flat_map (given_on t) links) in let rest = total_firsts links in omega (arith, both, rest)
+
+  pub links_firsts : (links : List Link) → each_pair (λ a b. not (same_session a b)) (names links) ≡ true → ((index : ℕ) (link : Link) → slice_get links index ≡ Some link → HasDrawn whole t drawn value link) → firsts whole value (flat_map (given_on t) links) ≤ times value (drawn (among (names links)))
+  links_firsts links apart has =
+      let all = links_within (λ link. firsts whole value (given_on t link)) links apart (λ index link at.
+      ((λ none. ap (λ (served : List Handled). firsts whole value (flat_map (λ one. given_by t link one one.served.item) served)) ((has index link at).unnamed none)), (has index link at).named)) in
+      let same = total_firsts links in
+      omega (arith, all, same)
 
 -- A RUN -------------------------------------------------------------------------------------------
 
@@ -146,12 +154,12 @@ module _ (orderly : RunsAreOrderly) (serve : RunsServe) (legal : RunsLegal) (fre
 
   -- what a session drew is what its connection was given
   pub link_drew : (number : ℕ) (link : Link) (session : SessionId) → link_at t.machine.links number ≡ Some link → link.session ≡ Some session
-      → Told seen.start (seen.start.entries ++ gained) session (stopped_draws t link.held) (subst (λ (all : List Entry). numbered_after [] all ≡ true) entries inv.number.entries) walk plain link.served
+      → Told seen.start (seen.start.entries ++ gained) session (stopped_draws t link.held) (stood_in t link.held) (subst (λ (all : List Entry). numbered_after [] all ≡ true) entries inv.number.entries) walk plain link.served
   unfolding inv coupled
   link_drew number link session there its =
       let none = none_before orderly document events notes items seen t calls reached number link session there its in
       let all : List Entry = seen.start.entries ++ gained in
-      history_draws seen.start all session (stopped_draws t link.held) (subst (λ (all : List Entry). numbered_after [] all ≡ true) entries inv.number.entries) seen.history walk 0 link.served
+      history_draws seen.start all session (stopped_draws t link.held) (stood_in t link.held) (subst (λ (all : List Entry). numbered_after [] all ≡ true) entries inv.number.entries) seen.history walk 0 link.served
       (record { settings = []; at_start = []; pieces = []; over = [] }) false held refl
       (record {
         has = serve document events notes items seen t calls reached number link session there its;
@@ -165,9 +173,10 @@ module _ (orderly : RunsAreOrderly) (serve : RunsServe) (legal : RunsLegal) (fre
         all = weaker_all (λ entry. not (is_its session entry)) (has_ran session []) seen.start.entries (λ entry is. other_ran session [] entry (not-true (is_its session entry) is)) none;
       })
       (λ stopped.
-      ap (stopped_draws t)
-      (stopped_held link session (known_of t inv number link there) (at_link is_fresh t.machine.links number link inv.wire.fresh there) (at_link is_named t.machine.links number link inv.basic.named there) its stopped)
-      ∙ ap (λ (list : List Entry). stopped_in list (ltxid_of session (commits_behind 0 link.served))) entries)
+      let held_is = stopped_held link session (known_of t inv number link there) (at_link is_fresh t.machine.links number link inv.wire.fresh there) (at_link is_named t.machine.links number link inv.basic.named there) its stopped in (
+        ap (stopped_draws t) held_is ∙ ap (λ (list : List Entry). stopped_in list (ltxid_of session (commits_behind 0 link.served))) entries,
+        ap (stood_in t) held_is ∙ ap (λ (list : List Entry). has_entry list (ltxid_of session (commits_behind 0 link.served))) entries,
+      ))
 
   pub has_drawn : (value : Draw) (number : ℕ) (link : Link) → link_at t.machine.links number ≡ Some link → HasDrawn (given t) t (λ some. drawn_for some seen.start walk plain) value link
   has_drawn value number link there = record {

@@ -35,7 +35,7 @@ use Rattle.world_model.proofs.LostKept.{both_all}
 use Rattle.world_model.proofs.NumbersTurn.{by_number}
 use Rattle.world_model.proofs.ServedGrows.{IsLonger, happens_longer}
 use Rattle.world_model.proofs.SessionTurns.{ComesOf, AtFront, Elsewhere, Alone, Unnamed, Alike, Adds, AddsFrame, AddsNone, event_adds}
-use Rattle.world_model.proofs.ShownGiven.{gives_to, any_served, still_served, shown_given, are_given, given_at}
+use Rattle.world_model.proofs.ShownGiven.{is_nothing, gives_to, any_served, still_served, shown_given, are_given, given_at}
 use Rattle.world_model.proofs.Strangers.{same_owner_is}
 use Rattle.world_model.proofs.Tests.{eq_from, le_from, lt_to}
 
@@ -163,7 +163,7 @@ plain_carried course owner call frame never = refl
 record WasGiven (links : List Link) (sent : Sent) (kept : List Draw) : Type 0 where
   owner : Owner
   is : sent.owner ≡ Some owner
-  given : list_all (λ value. any_served (gives_to owner sent.call value) links) kept ≡ true
+  given : (is_nothing kept || any_served (gives_to owner sent.call kept) links) ≡ true
 
 no_owner : (owner : Option Owner) → owner ≡ None → is_some owner ≡ true → ⊥
 no_owner None is some = let none : ⊥ = cc in none
@@ -213,8 +213,8 @@ module _ (old : Traced) (inv : Orderly old) (given : are_given old ≡ true) (nu
             owner = owner;
             is = is;
             given =
-                subst (λ (o : Owner). list_all (λ value. any_served (gives_to o front.first.call value) old.machine.links) kept ≡ true) (same_owner_is course.owner owner same)
-                (subst (λ (all : List Draw). list_all (λ value. any_served (gives_to course.owner front.first.call value) old.machine.links) all ≡ true) (sym ((same_draws_decide kept shown.draws).0 draws))
+                subst (λ (o : Owner). (is_nothing kept || any_served (gives_to o front.first.call kept) old.machine.links) ≡ true) (same_owner_is course.owner owner same)
+                (subst (λ (all : List Draw). (is_nothing all || any_served (gives_to course.owner front.first.call all) old.machine.links) ≡ true) (sym ((same_draws_decide kept shown.draws).0 draws))
                 (given_at old.machine.links course.owner 0 front.first.call front.first.call course.report.calls shown place shows there_is));
           }
 
@@ -254,24 +254,24 @@ any_links p q r (link ∷ links) gives any all = by (or_cases (p link) (list_any
     by (inl here) again = or_left (r link) (list_any r links) (gives link here parts.0)
     by (inr later) again = or_right (r link) (list_any r links) (again later)
 
-abbrev pub gave_before : Owner → ℕ → ℕ → Draw → Handled → Bool
-gave_before owner call event value other = gives_to owner call value other && nat_lt other.served.event event
+abbrev pub gave_before : Owner → ℕ → ℕ → List Draw → Handled → Bool
+gave_before owner call event draws other = gives_to owner call draws other && nat_lt other.served.event event
 
-all_before : (old : Traced) → Orderly old → (event : ℕ) → old.machine.event < event → (owner : Owner) (call : ℕ) (value : Draw) → any_served (gives_to owner call value) old.machine.links ≡ true → any_served (gave_before owner call event value) old.machine.links ≡ true
-all_before old inv event later owner call value is =
-    any_links (λ link. list_any (gives_to owner call value) link.served) (λ link. each_pair nat_lt (item_events link) && list_all (λ e. nat_le e old.machine.event) (item_events link)) (λ link. list_any (gave_before owner call event value) link.served) old.machine.links
+all_before : (old : Traced) → Orderly old → (event : ℕ) → old.machine.event < event → (owner : Owner) (call : ℕ) (draws : List Draw) → any_served (gives_to owner call draws) old.machine.links ≡ true → any_served (gave_before owner call event draws) old.machine.links ≡ true
+all_before old inv event later owner call draws is =
+    any_links (λ link. list_any (gives_to owner call draws) link.served) (λ link. each_pair nat_lt (item_events link) && list_all (λ e. nat_le e old.machine.event) (item_events link)) (λ link. list_any (gave_before owner call event draws) link.served) old.machine.links
     (λ link any rises.
-    any_both (gives_to owner call value) (λ one. one.served.event) (λ e. nat_le e old.machine.event) (gave_before owner call event value) link.served
+    any_both (gives_to owner call draws) (λ one. one.served.event) (λ e. nat_le e old.machine.event) (gave_before owner call event draws) link.served
     (λ one gives most.
     let below : one.served.event ≤ old.machine.event = le_from one.served.event old.machine.event most in
-    and_from (gives_to owner call value one) (nat_lt one.served.event event) gives (lt_to one.served.event event (omega (arith, below, later)))) any
+    and_from (gives_to owner call draws one) (nat_lt one.served.event event) gives (lt_to one.served.event event (omega (arith, below, later)))) any
     (and_parts (each_pair nat_lt (item_events link)) (list_all (λ e. nat_le e old.machine.event) (item_events link)) rises).1) is inv.basic.items
 
 -- ALL CONNECTIONS ---------------------------------------------------------------------------------
 
 -- of a marked call: each value that it carries was given to its call before
 abbrev pub kept_given : List Link → Handled → Up → Bool
-kept_given links one (up.Call true kept called) = option_map_or (λ owner. list_all (λ value. any_served (gave_before owner one.sent.call one.served.event value) links) kept) one.sent.owner false
+kept_given links one (up.Call true kept called) = option_map_or (λ owner. is_nothing kept || any_served (gave_before owner one.sent.call one.served.event kept) links) one.sent.owner false
 kept_given links one _ = true
 
 abbrev pub repeats_given : List Link → Handled → Bool
@@ -289,12 +289,14 @@ module _ (before after : Seen) (old new : Traced) (event : Event) (note : Note) 
   still : (handled : Handled) → repeats_given old.machine.links handled ≡ true → repeats_given new.machine.links handled ≡ true
   still handled = by handled.sent.frame
     where
-      owners : (kept : List Draw) (owner : Option Owner) → option_map_or (λ o. list_all (λ value. any_served (gave_before o handled.sent.call handled.served.event value) old.machine.links) kept) owner false ≡ true
-          → option_map_or (λ o. list_all (λ value. any_served (gave_before o handled.sent.call handled.served.event value) new.machine.links) kept) owner false ≡ true
+      owners : (kept : List Draw) (owner : Option Owner) → option_map_or (λ o. is_nothing kept || any_served (gave_before o handled.sent.call handled.served.event kept) old.machine.links) owner false ≡ true
+          → option_map_or (λ o. is_nothing kept || any_served (gave_before o handled.sent.call handled.served.event kept) new.machine.links) owner false ≡ true
       owners kept None is = is
-      owners kept (Some owner) is =
-          weaker_all (λ value. any_served (gave_before owner handled.sent.call handled.served.event value) old.machine.links) (λ value. any_served (gave_before owner handled.sent.call handled.served.event value) new.machine.links) kept
-          (λ value here. still_served old.machine.links new.machine.links longer (gave_before owner handled.sent.call handled.served.event value) here) is
+      owners kept (Some owner) is = or_still (is_nothing kept) is
+        where
+          or_still : (nothing : Bool) → (nothing || any_served (gave_before owner handled.sent.call handled.served.event kept) old.machine.links) ≡ true → (nothing || any_served (gave_before owner handled.sent.call handled.served.event kept) new.machine.links) ≡ true
+          or_still true is = refl
+          or_still false is = still_served old.machine.links new.machine.links longer (gave_before owner handled.sent.call handled.served.event kept) is
 
       by : (frame : Up) → kept_given old.machine.links handled frame ≡ true → kept_given new.machine.links handled frame ≡ true
       by (up.Call true kept called) is = owners kept handled.sent.owner is
@@ -311,15 +313,19 @@ module _ (before after : Seen) (old new : Traced) (event : Event) (note : Note) 
       event_is : it.served.event ≡ old.machine.event + 1
       event_is = ap (λ (s : Served). s.event) served_is ∙ eq_from served.event (old.machine.event + 1) (and_parts (served.event == (at_event old.machine).event) (is_served_by (at_event old.machine).server front.link front.first.frame served.session) of_front).0
 
+      or_before : {earlier later : Bool} (nothing : Bool) → (earlier ≡ true → later ≡ true) → (nothing || earlier) ≡ true → (nothing || later) ≡ true
+      or_before true gives is = refl
+      or_before false gives is = gives is
+
       by : (frame : Up) → it.sent.frame ≡ frame → kept_given new.machine.links it frame ≡ true
       by (up.Call true kept called) is =
           let found : WasGiven old.machine.links front.first kept = was_given old inv given number front at kept called (ap (λ (s : Sent). s.frame) (sym sent_is) ∙ is) in
           let call : front.first.call ≡ it.sent.call = ap (λ (s : Sent). s.call) (sym sent_is) in
-          ap (λ (o : Option Owner). option_map_or (λ owner. list_all (λ value. any_served (gave_before owner it.sent.call it.served.event value) new.machine.links) kept) o false) (ap (λ (s : Sent). s.owner) sent_is ∙ found.is)
-          ∙ weaker_all (λ value. any_served (gives_to found.owner front.first.call value) old.machine.links) (λ value. any_served (gave_before found.owner it.sent.call it.served.event value) new.machine.links) kept
-          (λ value here.
-          still_served old.machine.links new.machine.links longer (gave_before found.owner it.sent.call it.served.event value)
-          (all_before old inv it.served.event (omega (arith, event_is)) found.owner it.sent.call value (subst (λ (k : ℕ). any_served (gives_to found.owner k value) old.machine.links ≡ true) call here))) found.given
+          ap (λ (o : Option Owner). option_map_or (λ owner. is_nothing kept || any_served (gave_before owner it.sent.call it.served.event kept) new.machine.links) o false) (ap (λ (s : Sent). s.owner) sent_is ∙ found.is)
+          ∙ or_before (is_nothing kept)
+          (λ here.
+          still_served old.machine.links new.machine.links longer (gave_before found.owner it.sent.call it.served.event kept)
+          (all_before old inv it.served.event (omega (arith, event_is)) found.owner it.sent.call kept (subst (λ (k : ℕ). any_served (gives_to found.owner k kept) old.machine.links ≡ true) call here))) found.given
       by frame is = refl
 
   link_now : (number : ℕ) (link : Link) → link_at new.machine.links number ≡ Some link → list_all (repeats_given new.machine.links) link.served ≡ true

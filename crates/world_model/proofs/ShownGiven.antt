@@ -1,5 +1,5 @@
--- Each value of a call that was shown was given to this call, by an item without the mark.
-use Rattle.std.proofs.Common.{◌≡◌, refl, sym, ap, subst, ◌∙◌, Bool, true, false, ℕ, suc, zero, ◌+◌, ◌&&◌, length, List, [], ◌∷◌, ◌++◌, map, Option, Some, None, arith}
+-- The values of a call that was shown were given to this call, by an item without the mark.
+use Rattle.std.proofs.Common.{◌≡◌, refl, sym, ap, subst, ◌∙◌, Bool, true, false, ℕ, suc, zero, ◌+◌, ◌&&◌, length, List, [], ◌∷◌, ◌++◌, map, Option, Some, None, arith, ◌||◌}
 use Rattle.std.specs.Prelude.{◌==◌, slice_get, option_map}
 use Rattle.std.specs.List.{list_all, list_any}
 use Rattle.std.specs.Option.{option_or, option_map_or}
@@ -7,8 +7,7 @@ use Rattle.std.proofs.lemmas.Bool.{and_parts, and_from, or_left, or_right}
 use Rattle.std.proofs.lemmas.List.{map-append, length-map}
 use Rattle.svc_values.specs.declared.call.Call.{Call}
 use Rattle.svc_values.specs.declared.draw.Draw.{Draw}
-use Rattle.svc_values.specs.Same.{same_answers, same_call, same_draw, same_draws}
-use Rattle.svc_values.specs.SameLaws.{same_draw_decides, same_draws_decide}
+use Rattle.svc_values.specs.Same.{same_answers, same_call, same_draws}
 use Rattle.outage_schedule.specs.declared.document.Document.{Document}
 use Rattle.outage_schedule.specs.declared.document.Request.{Request}
 use Rattle.outage_schedule.specs.declared.event.Event.{Event}
@@ -57,13 +56,17 @@ use Rattle.world_model.proofs.TalkShows.{completed_gives}
 
 -- ITEMS OF ALL CONNECTIONS ------------------------------------------------------------------------
 
-abbrev pub gives_value : Draw → Item → Bool
-gives_value value (item.Call false called answers draws) = list_any (same_draw value) draws
-gives_value value _ = false
+abbrev pub gives_draws : List Draw → Item → Bool
+gives_draws draws (item.Call false called answers given) = same_draws given draws
+gives_draws draws _ = false
 
--- the value was given to this call without the mark
-abbrev pub gives_to : Owner → ℕ → Draw → Handled → Bool
-gives_to owner call value one = owned_by owner one.sent && ((one.sent.call == call) && gives_value value one.served.item)
+-- these values were given to this call without the mark
+abbrev pub gives_to : Owner → ℕ → List Draw → Handled → Bool
+gives_to owner call draws one = owned_by owner one.sent && ((one.sent.call == call) && gives_draws draws one.served.item)
+
+abbrev pub is_nothing : List Draw → Bool
+is_nothing [] = true
+is_nothing (draw ∷ draws) = false
 
 abbrev pub any_served : (Handled → Bool) → List Link → Bool
 any_served test links = list_any (λ link. list_any test link.served) links
@@ -87,7 +90,7 @@ served_at links (suc index) link test there is = any_there (λ l. list_any test 
 -- CALLS THAT WERE SHOWN ---------------------------------------------------------------------------
 
 abbrev pub is_given : List Link → Owner → ℕ → ShownCall → Bool
-is_given links owner index shown = list_all (λ value. any_served (gives_to owner index value) links) shown.draws
+is_given links owner index shown = is_nothing shown.draws || any_served (gives_to owner index shown.draws) links
 
 abbrev pub all_given : List Link → Owner → ℕ → List ShownCall → Bool
 all_given links owner index [] = true
@@ -104,9 +107,11 @@ module _ (links later : List Link) (longer : (number : ℕ) (link : Link) → li
   still_given owner index [] all = refl
   still_given owner index (one ∷ shown) all =
       let parts = and_parts (is_given links owner index one) (all_given links owner (index + 1) shown) all in
-      and_from (is_given later owner index one) (all_given later owner (index + 1) shown)
-      (weaker_all (λ value. any_served (gives_to owner index value) links) (λ value. any_served (gives_to owner index value) later) one.draws (λ value is. still_served links later longer (gives_to owner index value) is) parts.0)
-      (still_given owner (index + 1) shown parts.1)
+      and_from (is_given later owner index one) (all_given later owner (index + 1) shown) (by (is_nothing one.draws) parts.0) (still_given owner (index + 1) shown parts.1)
+    where
+      by : (nothing : Bool) → (nothing || any_served (gives_to owner index one.draws) links) ≡ true → (nothing || any_served (gives_to owner index one.draws) later) ≡ true
+      by true is = refl
+      by false is = still_served links later longer (gives_to owner index one.draws) is
 
 given_push : (links : List Link) (owner : Owner) (index place : ℕ) (shown : List ShownCall) (one : ShownCall) → place ≡ index + length shown → all_given links owner index shown ≡ true → is_given links owner place one ≡ true → all_given links owner index (shown ++ one ∷ []) ≡ true
 given_push links owner index place [] one same all here =
@@ -126,19 +131,10 @@ given_at links owner index (suc at) place (first ∷ shown) one same all there =
     let further : place ≡ (index + 1) + at = omega (arith, same) in
     given_at links owner (index + 1) at place shown one further (and_parts (is_given links owner index first) (all_given links owner (index + 1) shown) all).1 there
 
--- each draw is among them
-pub own_draws : (all : List Draw) (draws : List Draw) → ((value : Draw) → list_any (same_draw value) draws ≡ true → list_any (same_draw value) all ≡ true) → list_all (λ value. list_any (same_draw value) all) draws ≡ true
-own_draws all [] among = refl
-own_draws all (one ∷ draws) among =
-    and_from (list_any (same_draw one) all) (list_all (λ value. list_any (same_draw value) all) draws) (among one (or_left (same_draw one one) (list_any (same_draw one) draws) ((same_draw_decides one one).1 refl)))
-    (own_draws all draws (λ value is. among value (or_right (same_draw value one) (list_any (same_draw value) draws) is)))
-
-shown_gives : (call : Call) (shown : ShownCall) (value : Draw) (one : Item) → is_shown_item call shown one ≡ true → list_any (same_draw value) shown.draws ≡ true → gives_value value one ≡ true
-shown_gives call shown value (item.Call false served answers draws) is among =
-    let parts = and_parts (same_answers answers shown.answers) (same_draws draws shown.draws) (and_parts (same_call served call) (same_answers answers shown.answers && same_draws draws shown.draws) is).1 in
-    ap (list_any (same_draw value)) ((same_draws_decide draws shown.draws).0 parts.1) ∙ among
-shown_gives call shown value (item.Call true served answers draws) is among = absurd (let none : ⊥ = cc in none)
-shown_gives call shown value one is among = absurd (let none : ⊥ = cc in none)
+shown_gives : (call : Call) (shown : ShownCall) (one : Item) → is_shown_item call shown one ≡ true → gives_draws shown.draws one ≡ true
+shown_gives call shown (item.Call false served answers draws) is = (and_parts (same_answers answers shown.answers) (same_draws draws shown.draws) (and_parts (same_call served call) (same_answers answers shown.answers && same_draws draws shown.draws) is).1).1
+shown_gives call shown (item.Call true served answers draws) is = absurd (let none : ⊥ = cc in none)
+shown_gives call shown one is = absurd (let none : ⊥ = cc in none)
 
 -- AN EVENT ----------------------------------------------------------------------------------------
 
@@ -188,23 +184,21 @@ module _ (old new : Traced) (inv : Orderly old) (rows : list_all (course_rows ol
       where
         by : ShownNow old.setting m inv.script.talks number n step shown → is_given new.machine.links mine (length shown_before) (shown_call shown) ≡ true
         by (FromItem at has found) =
-            weaker_all (λ value. list_any (same_draw value) shown.draws) (λ value. any_served (gives_to mine (length shown_before) value) new.machine.links) shown.draws
-            (λ value among.
-            still_served old.machine.links new.machine.links longer (gives_to mine (length shown_before) value)
-            (served_at old.machine.links at found.link (gives_to mine (length shown_before) value) found.there
-            (any_more (λ (one : Handled). owned_by mine one.sent && ((one.sent.call == length shown_before) && is_shown_item found.call (shown_call shown) one.served.item)) (gives_to mine (length shown_before) value) found.link.served
+            or_right (is_nothing shown.draws) (any_served (gives_to mine (length shown_before) shown.draws) new.machine.links)
+            (still_served old.machine.links new.machine.links longer (gives_to mine (length shown_before) shown.draws)
+            (served_at old.machine.links at found.link (gives_to mine (length shown_before) shown.draws) found.there
+            (any_more (λ (one : Handled). owned_by mine one.sent && ((one.sent.call == length shown_before) && is_shown_item found.call (shown_call shown) one.served.item)) (gives_to mine (length shown_before) shown.draws) found.link.served
             (λ one here.
             let parts = and_parts (owned_by mine one.sent) _ here in
             let both = and_parts (one.sent.call == length shown_before) (is_shown_item found.call (shown_call shown) one.served.item) parts.1 in
-            and_from (owned_by mine one.sent) ((one.sent.call == length shown_before) && gives_value value one.served.item) parts.0
-            (and_from (one.sent.call == length shown_before) (gives_value value one.served.item) both.0 (shown_gives found.call (shown_call shown) value one.served.item both.1 among))) found.among)))
-            (own_draws shown.draws shown.draws (λ value among. among))
+            and_from (owned_by mine one.sent) ((one.sent.call == length shown_before) && gives_draws shown.draws one.served.item) parts.0
+            (and_from (one.sent.call == length shown_before) (gives_draws shown.draws one.served.item) both.0 (shown_gives found.call (shown_call shown) one.served.item both.1))) found.among)))
         by (FromOutcome asking phase completed) =
             let told : (takes old.setting.terms step.before.talk step.before.talk.phase (down.OutcomeIs true true) completed.alive m.tick).1.shown ≡ Some shown =
             subst (λ (i : Input). (talk_step old.setting.terms step.before.talk i m.tick).1.shown ≡ Some shown) completed.input is in
             let none : shown.draws ≡ [] =
             completed_gives old.setting.terms step.before.talk asking completed.alive m.tick shown (subst (λ (p : Phase). (takes old.setting.terms step.before.talk p (down.OutcomeIs true true) completed.alive m.tick).1.shown ≡ Some shown) phase told) in
-            ap (list_all (λ value. any_served (gives_to mine (length shown_before) value) new.machine.links)) none
+            or_left (is_nothing shown.draws) (any_served (gives_to mine (length shown_before) shown.draws) new.machine.links) (ap is_nothing none)
 
     module _ (d : Course) (owner : d.owner ≡ mine) (calls : d.report.calls ≡ map shown_call (account_now old.setting.terms step.after).shown) where
       steps_given : shown_given new d ≡ true

@@ -53,4 +53,5 @@ pub mod Judged
 pub mod Reported
 pub mod StoredLaws
 pub mod OnceLaws
+pub mod StoredOnce
 pub mod ValueLaws

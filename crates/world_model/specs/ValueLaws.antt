@@ -4,12 +4,14 @@ use Rattle.outage_schedule.specs.declared.document.Document.{Document}
 use Rattle.outage_schedule.specs.declared.event.Event.{Event}
 use Rattle.outage_schedule.specs.declared.item.Served.{Served}
 use Rattle.outage_schedule.specs.declared.note.Note.{Note}
-use Rattle.server_model.specs.Fresh.{has_room}
+use Rattle.server_model.specs.Fresh.{fresh, has_room}
 use Rattle.server_model.specs.Items.{items_of}
 use Rattle.server_model.specs.Seen.{Seen}
 use Rattle.world_model.specs.Once.{owned, none_foreign}
+use Rattle.world_model.specs.Parts.{implies}
 use Rattle.world_model.specs.Reached.{Reached, IsRun}
 use Rattle.world_model.specs.Ready.{all_have_calls}
+use Rattle.world_model.specs.StoredOnce.{are_stored_once}
 use Rattle.world_model.specs.Traced.{Traced}
 
 -- a test of each state that a run comes to, as long as identifiers can be spelled
@@ -37,3 +39,10 @@ ValuesAreOwn = HoldsWithRoom none_foreign
 
 abbrev pub ValuesEndOwn : Type 0
 ValuesEndOwn = EndsWithRoom none_foreign
+
+-- Where no call of a request is stored twice, no value stands twice among what the entries drew that the run added.
+abbrev pub StoredValuesAreFresh : Type 0
+StoredValuesAreFresh = HoldsWithRoom (λ t. implies (are_stored_once t) (fresh (drop t.image t.entries)))
+
+abbrev pub StoredValuesEndFresh : Type 0
+StoredValuesEndFresh = EndsWithRoom (λ t. implies (are_stored_once t) (fresh (drop t.image t.entries)))

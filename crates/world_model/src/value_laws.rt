@@ -1,5 +1,5 @@
 //! To whom the values of a run are given. Each law is the clause of a function with nothing to run.
-ghost use Rattle.world_model.specs.ValueLaws.{ValuesAreOwn, ValuesEndOwn, ValuesEndWithOneOwner, ValuesHaveOneOwner};
+ghost use Rattle.world_model.specs.ValueLaws.{StoredValuesAreFresh, StoredValuesEndFresh, ValuesAreOwn, ValuesEndOwn, ValuesEndWithOneOwner, ValuesHaveOneOwner};
 
 /// Of two values that a run gave to calls and that are the same, the later one is given to a marked call, and both to one call of one
 /// request, as long as identifiers can be spelled. A tick of the clock may come again. It holds wherever a run has come to, and at its end.
@@ -18,6 +18,18 @@ pub fn values_have_one_owner()
 pub fn values_are_own()
     ensures so_far { ValuesAreOwn }
     ensures whole { ValuesEndOwn }
+{
+    server_model::laws::runs_legal();
+    server_model::laws::runs_fresh_new();
+    crate::laws::runs_are_orderly();
+    crate::same_laws::runs_serve();
+}
+
+/// No value stands twice among what the entries drew that a run added, where no two calls that they are of are one call of one request,
+/// as long as identifiers can be spelled. A tick of the clock may. It holds wherever a run has come to, and at its end.
+pub fn stored_values_are_fresh()
+    ensures so_far { StoredValuesAreFresh }
+    ensures whole { StoredValuesEndFresh }
 {
     server_model::laws::runs_legal();
     server_model::laws::runs_fresh_new();
