@@ -31,7 +31,7 @@ use Rattle.world_model.specs.Links.{Link}
 use Rattle.world_model.specs.Number.{is_of_run, is_known}
 use Rattle.world_model.specs.Once.{stopped_draws, given}
 use Rattle.world_model.specs.Reached.{Reached}
-use Rattle.world_model.specs.Ready.{all_have_calls}
+use Rattle.world_model.specs.Ready.{all_requests_right}
 use Rattle.world_model.specs.RunLaws.{RunsAreOrderly}
 use Rattle.world_model.specs.SameLaws.{RunsServe}
 use Rattle.world_model.specs.Sames.{all_with, each_pair, owned_by}
@@ -61,7 +61,7 @@ use Rattle.world_model.proofs.FreshLists.{both_anew, covered, distinct, distinct
 
 -- A RUN -------------------------------------------------------------------------------------------
 
-module _ (orderly : RunsAreOrderly) (serve : RunsServe) (legal : RunsLegal) (fresh_new : RunsFreshNew) (document : Document) (events : List Event) (notes : List Note) (items : List Served) (seen : Seen) (t : Traced) (calls : all_have_calls document ≡ true)
+module _ (orderly : RunsAreOrderly) (serve : RunsServe) (legal : RunsLegal) (fresh_new : RunsFreshNew) (document : Document) (events : List Event) (notes : List Note) (items : List Served) (seen : Seen) (t : Traced) (calls : all_requests_right document ≡ true)
     (reached : Reached document events notes items seen t) (room : has_room seen.start (items_of seen.history) (drop t.image t.entries) ≡ true) (value : Draw) (single : is_single value ≡ true) where
   abbrev gained : List Entry
   gained = new orderly serve legal fresh_new document events notes items seen t calls reached room
@@ -274,7 +274,7 @@ module _ (orderly : RunsAreOrderly) (serve : RunsServe) (legal : RunsLegal) (fre
           absurd (never_both orderly serve legal fresh_new document events notes items seen t calls reached room value single here (omega (arith, some)))
 
 -- No value stands twice among what the entries drew that a run added.
-runs_fresh_by_calls : RunsAreOrderly → RunsServe → RunsLegal → RunsFreshNew → (document : Document) (events : List Event) (notes : List Note) (items : List Served) (seen : Seen) (t : Traced) → all_have_calls document ≡ true → Reached document events notes items seen t
+runs_fresh_by_calls : RunsAreOrderly → RunsServe → RunsLegal → RunsFreshNew → (document : Document) (events : List Event) (notes : List Note) (items : List Served) (seen : Seen) (t : Traced) → all_requests_right document ≡ true → Reached document events notes items seen t
     → has_room seen.start (items_of seen.history) (drop t.image t.entries) ≡ true → are_stored_once t ≡ true → fresh (drop t.image t.entries) ≡ true
 runs_fresh_by_calls orderly serve legal fresh_new document events notes items seen t calls reached room stored =
     ap fresh (gained_is orderly serve legal fresh_new document events notes items seen t calls reached room)

@@ -22,7 +22,7 @@ use Rattle.world_model.specs.Invariant.{Orderly}
 use Rattle.world_model.specs.Machines.{Machine, next_session}
 use Rattle.world_model.specs.OneEvent.{OneEvent, session_outside}
 use Rattle.world_model.specs.Reached.{Reached, Begins, GoesOn}
-use Rattle.world_model.specs.Ready.{all_have_calls}
+use Rattle.world_model.specs.Ready.{all_requests_right}
 use Rattle.world_model.specs.RunLaws.{RunsAreOrderly}
 use Rattle.world_model.specs.Sames.{each_pair}
 use Rattle.world_model.specs.ServiceDid.{ServiceDid, front_telling}
@@ -124,7 +124,7 @@ module _ (before after : Seen) (old new : Traced) (event : Event) (note : Note) 
       ∙ (list_all-append is_plain (served_in before.history session) (served_in one.happened session)
       ∙ and_from (list_all is_plain (served_in before.history session)) (list_all is_plain (served_in one.happened session)) (before_plain session is) (now_plain session is)))
 
-pub reached_plain : RunsAreOrderly → (document : Document) (events : List Event) (notes : List Note) (items : List ServedItem) (seen : Seen) (t : Traced) → all_have_calls document ≡ true → Reached document events notes items seen t → PlainOutside seen t
+pub reached_plain : RunsAreOrderly → (document : Document) (events : List Event) (notes : List Note) (items : List ServedItem) (seen : Seen) (t : Traced) → all_requests_right document ≡ true → Reached document events notes items seen t → PlainOutside seen t
 reached_plain orderly document _ _ _ _ _ calls (Begins seen start history horizon coupled) = λ session never. absurd (let none : ⊥ = cc in none)
 reached_plain orderly document _ _ _ _ _ calls (GoesOn events notes items more before after old new event note reached one forgets) =
     plain_now before after old new event note more [] one (orderly document events notes items before old calls reached)

@@ -27,7 +27,7 @@ use Rattle.world_model.specs.Number.{is_of_run, is_known}
 use Rattle.world_model.specs.Once.{Given, given, is_of_link, is_foreign, foreign_draws, none_foreign}
 use Rattle.world_model.specs.Parts.{implies}
 use Rattle.world_model.specs.Reached.{Reached}
-use Rattle.world_model.specs.Ready.{all_have_calls}
+use Rattle.world_model.specs.Ready.{all_requests_right}
 use Rattle.world_model.specs.RunLaws.{RunsAreOrderly}
 use Rattle.world_model.specs.SameLaws.{RunsServe}
 use Rattle.world_model.specs.Sames.{each_pair}
@@ -113,7 +113,7 @@ entry_times session value (first ∷ entries) (suc index) entry at own = by (is_
 
 -- A RUN -------------------------------------------------------------------------------------------
 
-module _ (orderly : RunsAreOrderly) (serve : RunsServe) (legal : RunsLegal) (fresh : RunsFreshNew) (document : Document) (events : List Event) (notes : List Note) (items : List Served) (seen : Seen) (t : Traced) (calls : all_have_calls document ≡ true)
+module _ (orderly : RunsAreOrderly) (serve : RunsServe) (legal : RunsLegal) (fresh : RunsFreshNew) (document : Document) (events : List Event) (notes : List Note) (items : List Served) (seen : Seen) (t : Traced) (calls : all_requests_right document ≡ true)
     (reached : Reached document events notes items seen t) (room : has_room seen.start (items_of seen.history) (drop t.image t.entries) ≡ true) where
   abbrev pub new : List Entry
   new = gained orderly serve legal fresh document events notes items seen t calls reached

@@ -29,7 +29,7 @@ use Rattle.world_model.specs.Number.{numbered_after}
 use Rattle.world_model.specs.Once.{Given, stopped_draws, given_by, given_on, given, owned}
 use Rattle.world_model.specs.Parts.{has_entry, implies}
 use Rattle.world_model.specs.Reached.{Reached, Begins, GoesOn}
-use Rattle.world_model.specs.Ready.{all_have_calls}
+use Rattle.world_model.specs.Ready.{all_requests_right}
 use Rattle.world_model.specs.RunLaws.{RunsAreOrderly}
 use Rattle.world_model.specs.SameLaws.{RunsServe}
 use Rattle.world_model.specs.Sames.{all_with, each_pair}
@@ -67,7 +67,7 @@ pub record GivenSoFar (t : Traced) : Type 0 where
   pub given : are_given t ≡ true
   pub repeated : are_repeated t ≡ true
 
-pub reached_given : RunsAreOrderly → (document : Document) (events : List Event) (notes : List Note) (items : List Served) (seen : Seen) (t : Traced) → all_have_calls document ≡ true → Reached document events notes items seen t → GivenSoFar t
+pub reached_given : RunsAreOrderly → (document : Document) (events : List Event) (notes : List Note) (items : List Served) (seen : Seen) (t : Traced) → all_requests_right document ≡ true → Reached document events notes items seen t → GivenSoFar t
 reached_given orderly document _ _ _ _ _ calls (Begins seen start history horizon coupled) = record { rows = rows_law.at_start document; given = given_start document; repeated = refl }
 reached_given orderly document _ _ _ _ _ calls (GoesOn events notes items more before after old new event note reached one forgets) =
     let inv = orderly document events notes items before old calls reached in
@@ -129,7 +129,7 @@ no_length : (served : List Handled) → (length served == 0) ≡ true → served
 no_length [] is = refl
 no_length (one ∷ served) is = let long : length (one ∷ served) ≡ 0 = eq_from (length (one ∷ served)) 0 is in absurd (let none : ⊥ = omega (arith, long) in none)
 
-module _ (orderly : RunsAreOrderly) (serve : RunsServe) (legal : RunsLegal) (fresh : RunsFreshNew) (document : Document) (events : List Event) (notes : List Note) (items : List Served) (seen : Seen) (t : Traced) (calls : all_have_calls document ≡ true)
+module _ (orderly : RunsAreOrderly) (serve : RunsServe) (legal : RunsLegal) (fresh : RunsFreshNew) (document : Document) (events : List Event) (notes : List Note) (items : List Served) (seen : Seen) (t : Traced) (calls : all_requests_right document ≡ true)
     (reached : Reached document events notes items seen t) where
   pub inv : Orderly t
   inv = orderly document events notes items seen t calls reached

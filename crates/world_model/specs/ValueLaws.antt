@@ -10,7 +10,7 @@ use Rattle.server_model.specs.Seen.{Seen}
 use Rattle.world_model.specs.Once.{owned, none_foreign}
 use Rattle.world_model.specs.Parts.{implies}
 use Rattle.world_model.specs.Reached.{Reached, IsRun}
-use Rattle.world_model.specs.Ready.{all_have_calls}
+use Rattle.world_model.specs.Ready.{all_requests_right}
 use Rattle.world_model.specs.StoredOnce.{are_stored_once}
 use Rattle.world_model.specs.Traced.{Traced}
 
@@ -18,13 +18,13 @@ use Rattle.world_model.specs.Traced.{Traced}
 abbrev pub HoldsWithRoom : (Traced → Bool) → Type 0
 HoldsWithRoom test =
     (document : Document) (events : List Event) (notes : List Note) (items : List Served) (seen : Seen) (t : Traced)
-    → IsTrue (all_have_calls document) → Reached document events notes items seen t → IsTrue (has_room seen.start (items_of seen.history) (drop t.image t.entries)) → IsTrue (test t)
+    → IsTrue (all_requests_right document) → Reached document events notes items seen t → IsTrue (has_room seen.start (items_of seen.history) (drop t.image t.entries)) → IsTrue (test t)
 
 -- and of the state at the end of a whole run
 abbrev pub EndsWithRoom : (Traced → Bool) → Type 0
 EndsWithRoom test =
     (document : Document) (notes : List Note) (items : List Served) (seen : Seen) (t : Traced)
-    → IsTrue (all_have_calls document) → IsRun document notes items seen t → IsTrue (has_room seen.start (items_of seen.history) (drop t.image t.entries)) → IsTrue (test t)
+    → IsTrue (all_requests_right document) → IsRun document notes items seen t → IsTrue (has_room seen.start (items_of seen.history) (drop t.image t.entries)) → IsTrue (test t)
 
 -- Of two that are the same value, the later one is given to a marked call, and both to one call of one request.
 abbrev pub ValuesHaveOneOwner : Type 0
