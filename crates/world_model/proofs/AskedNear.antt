@@ -33,7 +33,7 @@ use Rattle.world_model.proofs.Tests.{le_from, same_session_is}
 
 -- FRONTS ------------------------------------------------------------------------------------------
 
-front_all : (test : Sent → Bool) → ((a b : Sent) → same_sent a b ≡ true → test b ≡ true → test a ≡ true) → (xs zs : List Sent) → is_front same_sent xs zs ≡ true → list_all test zs ≡ true → list_all test xs ≡ true
+pub front_all : (test : Sent → Bool) → ((a b : Sent) → same_sent a b ≡ true → test b ≡ true → test a ≡ true) → (xs zs : List Sent) → is_front same_sent xs zs ≡ true → list_all test zs ≡ true → list_all test xs ≡ true
 front_all test alike [] zs front all = refl
 front_all test alike (x ∷ xs) [] front all = absurd (let none : ⊥ = cc in none)
 front_all test alike (x ∷ xs) (z ∷ zs) front all =

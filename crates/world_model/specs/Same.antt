@@ -28,6 +28,7 @@ use Rattle.world_model.specs.Traced.{Traced, Course, courses_of}
 use Rattle.world_model.specs.Sames.{owned_by}
 use Rattle.world_model.specs.Lost.{lost_links, is_pending, submitted_on}
 use Rattle.world_model.specs.Parts.{Sending, commit_sendings, served_reps, count_reps, implies}
+use Rattle.world_model.specs.Words.{held_in}
 
 -- E1: THE PIECES OF A TRANSACTION -----------------------------------------------------------------
 
@@ -135,6 +136,18 @@ abbrev pub first_call : List ServedCall → ℕ → ℕ
 first_call [] other = other
 first_call (did ∷ dids) other = did.sent.call
 
+-- its calls are the script's, in a row, from this index on
+abbrev pub scripts_from : Course → ℕ → List ServedCall → Bool
+scripts_from course index [] = true
+scripts_from course index (did ∷ dids) = is_scripts course index did && scripts_from course (index + 1) dids
+
+-- a transaction with a call of the request has all its calls from the script, in a row from the first one
+abbrev pub has_script_calls : Course → List ServedCall → Bool
+has_script_calls course dids = implies (list_any (λ did. owned_by course.owner did.sent) dids) (scripts_from course (first_call dids 0) dids)
+
+abbrev pub runs_script_calls : Course → Link → Bool
+runs_script_calls course link = list_all (has_script_calls course) (ran_by link).over && has_script_calls course (ran_by link).pieces
+
 -- the calls that are known: shown, or verified on the replay that is in course
 abbrev pub known_upto : Phase → ℕ → ℕ
 known_upto (Replaying state) shown = (state.track.call - length state.track.recorder.calls) + state.verified
@@ -198,6 +211,10 @@ is_open_known granted t course =
 
 abbrev pub opens_known : (Draw → Bool) → Traced → Bool
 opens_known granted t = list_all (is_open_known granted t) (courses_of t)
+
+-- each transaction that was run on a connection that the request held: those that are over, and the open one
+abbrev pub run_script_calls : Traced → Bool
+run_script_calls t = list_all (λ course. list_all (test_at t (runs_script_calls course)) (held_in course.steps)) (courses_of t)
 
 -- E2: THE ENTRY OF A SENDING ----------------------------------------------------------------------
 

@@ -1,11 +1,12 @@
 -- What a run's connections served is what the service's history has of their sessions, and what they ran is what the entries have.
-use Rattle.std.specs.Prelude.{◌≡◌, ℕ, IsTrue, List, Some}
+use Rattle.std.specs.Prelude.{◌≡◌, ℕ, Bool, IsTrue, List, Some}
 use Rattle.svc_values.specs.declared.entry.SessionId.{SessionId}
 use Rattle.outage_schedule.specs.declared.document.Document.{Document}
 use Rattle.outage_schedule.specs.declared.event.Event.{Event}
 use Rattle.outage_schedule.specs.declared.item.Served.{Served}
 use Rattle.outage_schedule.specs.declared.note.Note.{Note}
 use Rattle.server_model.specs.Seen.{Seen}
+use Rattle.world_model.specs.Invariant.{Invariant}
 use Rattle.world_model.specs.Links.{Link, link_at}
 use Rattle.world_model.specs.Reached.{Reached}
 use Rattle.world_model.specs.Ready.{all_requests_right}
@@ -25,3 +26,7 @@ abbrev pub RunsRan : Type 0
 RunsRan =
     (document : Document) (events : List Event) (notes : List Note) (items : List Served) (seen : Seen) (t : Traced)
     → IsTrue (all_requests_right document) → Reached document events notes items seen t → IsTrue (entries_ran t)
+
+-- a test of each state that is as the invariant says
+abbrev pub FollowsInvariant : (Traced → Bool) → Type 0
+FollowsInvariant test = (t : Traced) → Invariant t → IsTrue (test t)

@@ -1,6 +1,7 @@
 //! How the frames that connections served, and the entries of their sessions, are those of the service. Each law is the clause of a
 //! function with nothing to run.
-ghost use Rattle.world_model.specs.SameLaws.{RunsRan, RunsServe};
+ghost use Rattle.world_model.specs.Same.{run_script_calls};
+ghost use Rattle.world_model.specs.SameLaws.{FollowsInvariant, RunsRan, RunsServe};
 
 /// Wherever a run of a document whose requests are right has come to, what the service's history has of a connection's session is
 /// what the connection served: frame by frame, with what was told.
@@ -19,3 +20,9 @@ pub fn runs_ran()
     crate::laws::runs_are_orderly();
     server_model::laws::runs_legal();
 }
+
+/// In each state that is as the invariant says: a transaction that was run on a connection that a request held, and that has a call of this
+/// request, has all its calls from the request's script, in a row from the first one.
+pub fn transactions_run_scripts()
+    ensures { FollowsInvariant run_script_calls }
+{}
