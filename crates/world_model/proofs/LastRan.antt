@@ -49,8 +49,9 @@ abbrev step : Ran → Handled → Ran
 step ran one = ran_item ran one.sent one.served.item
 
 -- a transaction more is over, and ends with the item's call
-record Made (ran later : Ran) (one : Item) : Type 0 where
+record Made (ran later : Ran) (sent : Sent) (one : Item) : Type 0 where
   did : ServedCall
+  from : did.sent ≡ sent
   over : later.over ≡ ran.over ++ (ran.pieces ++ did ∷ []) ∷ []
   called : called_in one ≡ Some did.piece.call
 
@@ -59,9 +60,9 @@ did_over ran true ended dids = refl
 did_over ran false true dids = refl
 did_over ran false false dids = refl
 
-made_over : (ran : Ran) (sent : Sent) (one : Item) → made_entry one ≡ true → Made ran (ran_item ran sent one) one
+made_over : (ran : Ran) (sent : Sent) (one : Item) → made_entry one ≡ true → Made ran (ran_item ran sent one) sent one
 made_over ran sent (item.Call marked call answers draws) made =
-    record { did = did; over = did_over (with_call ran call) (ends_committed answers) (ends_on_server answers) dids ∙ by (ends_committed answers) made; called = refl }
+    record { did = did; from = refl; over = did_over (with_call ran call) (ends_committed answers) (ends_on_server answers) dids ∙ by (ends_committed answers) made; called = refl }
   where
     did : ServedCall
     did = record { sent = sent; mark = marked; piece = record { call = call; answers = answers; draws = draws } }
@@ -73,7 +74,7 @@ made_over ran sent (item.Call marked call answers draws) made =
     by true so = ap (λ (over : List (List ServedCall)). over ++ dids ∷ []) (over_same ran call)
     by false so = absurd (let none : ⊥ = cc in none)
 made_over ran sent (item.CrashedCall marked call) made =
-    record { did = record { sent = sent; mark = marked; piece = record { call = call; answers = []; draws = [] } }; over = refl; called = refl }
+    record { did = record { sent = sent; mark = marked; piece = record { call = call; answers = []; draws = [] } }; from = refl; over = refl; called = refl }
 made_over ran sent one made = absurd (let none : ⊥ = cc in none)
 
 -- no more are
@@ -119,22 +120,23 @@ stopped_ends one is = refl
 
 -- THE LAST TRANSACTION ----------------------------------------------------------------------------
 
-record EndsWith (ran : Ran) (one : Item) : Type 0 where
+record EndsWith (ran : Ran) (sent : Sent) (one : Item) : Type 0 where
   earlier : List (List ServedCall)
   before : List ServedCall
   did : ServedCall
+  from : did.sent ≡ sent
   over : ran.over ≡ earlier ++ (before ++ did ∷ []) ∷ []
   called : called_in one ≡ Some did.piece.call
 
-made_ends : (ran : Ran) (sent : Sent) (one : Item) → made_entry one ≡ true → EndsWith (ran_item ran sent one) one
-made_ends ran sent one made = let so = made_over ran sent one made in record { earlier = ran.over; before = ran.pieces; did = so.did; over = so.over; called = so.called }
+made_ends : (ran : Ran) (sent : Sent) (one : Item) → made_entry one ≡ true → EndsWith (ran_item ran sent one) sent one
+made_ends ran sent one made = let so = made_over ran sent one made in record { earlier = ran.over; before = ran.pieces; did = so.did; from = so.from; over = so.over; called = so.called }
 
-still_ends : (ran later : Ran) (one : Item) → later.over ≡ ran.over → EndsWith ran one → EndsWith later one
-still_ends ran later one same ends = record { earlier = ends.earlier; before = ends.before; did = ends.did; over = same ∙ ends.over; called = ends.called }
+still_ends : (ran later : Ran) (sent : Sent) (one : Item) → later.over ≡ ran.over → EndsWith ran sent one → EndsWith later sent one
+still_ends ran later sent one same ends = record { earlier = ends.earlier; before = ends.before; did = ends.did; from = ends.from; over = same ∙ ends.over; called = ends.called }
 
 -- where the answered frame that was served last made an entry, the last transaction ends with its call
 ends_last : (commits : ℕ) (served : List Handled) (ran : Ran) (found : Option Handled) (last : Handled) → handled_from commits served ≡ true
-    → ((one : Handled) → found ≡ Some one → made_entry one.served.item ≡ true → EndsWith ran one.served.item) → last_or found (filter rep_of served) ≡ Some last → made_entry last.served.item ≡ true → EndsWith (fold step ran served) last.served.item
+    → ((one : Handled) → found ≡ Some one → made_entry one.served.item ≡ true → EndsWith ran one.sent one.served.item) → last_or found (filter rep_of served) ≡ Some last → made_entry last.served.item ≡ true → EndsWith (fold step ran served) last.sent last.served.item
 ends_last commits [] ran found last handled known is made = known last is made
 ends_last commits (one ∷ others) ran found last handled known is made = by (rep_of one) refl is (λ f k e. ends_last now others (step ran one) f last parts.1 k e made)
   where
@@ -145,14 +147,14 @@ ends_last commits (one ∷ others) ran found last handled known is made = by (re
     parts = and_parts (is_handled now one) (handled_from now others) handled
 
     by : (rep : Bool) → rep_of one ≡ rep → last_or found (cond rep (one ∷ filter rep_of others) (filter rep_of others)) ≡ Some last
-        → ((f : Option Handled) → ((h : Handled) → f ≡ Some h → made_entry h.served.item ≡ true → EndsWith (step ran one) h.served.item) → last_or f (filter rep_of others) ≡ Some last → EndsWith (fold step (step ran one) others) last.served.item)
-        → EndsWith (fold step (step ran one) others) last.served.item
+        → ((f : Option Handled) → ((h : Handled) → f ≡ Some h → made_entry h.served.item ≡ true → EndsWith (step ran one) h.sent h.served.item) → last_or f (filter rep_of others) ≡ Some last → EndsWith (fold step (step ran one) others) last.sent last.served.item)
+        → EndsWith (fold step (step ran one) others) last.sent last.served.item
     by true rep is again =
         again (Some one)
         (λ h same made_so. let equal : one ≡ h = cc in
-        subst (λ (x : Handled). EndsWith (step ran one) x.served.item) equal (made_ends ran one.sent one.served.item (subst (λ (x : Handled). made_entry x.served.item ≡ true) (sym equal) made_so))) is
+        subst (λ (x : Handled). EndsWith (step ran one) x.sent x.served.item) equal (made_ends ran one.sent one.served.item (subst (λ (x : Handled). made_entry x.served.item ≡ true) (sym equal) made_so))) is
     by false rep is again =
-        again found (λ h same made_so. still_ends ran (step ran one) h.served.item (others_over ran one.sent one.served.item (plain_made now one parts.0 rep)) (known h same made_so)) is
+        again found (λ h same made_so. still_ends ran (step ran one) h.sent h.served.item (others_over ran one.sent one.served.item (plain_made now one parts.0 rep)) (known h same made_so)) is
 
 -- HOW MANY ----------------------------------------------------------------------------------------
 
@@ -269,6 +271,7 @@ pub record OutRan (link : Link) : Type 0 where
   pub before : List ServedCall
   pub did : ServedCall
   pub over : slice_get (ran_by link).over (held_number link) ≡ Some (before ++ did ∷ [])
+  pub sent : option_map_or (same_sent did.sent) (out_frame link) false ≡ true
   pub called : option_map_or (λ (sent : Sent). is_call_in did.piece.call sent.frame) (out_frame link) false ≡ true
 
 module _ (link : Link) (known : Known link) (alone : none_behind link.served ≡ true) (n : ℕ) (ahead : n ≡ held_number link + 1) (counted : ((n == link.commits) || ((n == link.commits + 1) && last_is_stopped_commit link)) ≡ true) where
@@ -331,7 +334,7 @@ module _ (link : Link) (known : Known link) (alone : none_behind link.served ≡
           let three = and_parts (is_commit_call one.sent) (same_sent one.sent sent) two.1 in
           let four = and_parts (same_owners one.sent.owner sent.owner) ((one.sent.call == sent.call) && same_up one.sent.frame sent.frame) three.1 in
           let alike : same_up one.sent.frame sent.frame ≡ true = (and_parts (one.sent.call == sent.call) (same_up one.sent.frame sent.frame) four.1).1 in
-          let ends : EndsWith (ran_by link) one.served.item = ends_last 0 link.served start None one known.handled (λ h never. absurd (let no : ⊥ = cc in no)) last two.0 in
+          let ends : EndsWith (ran_by link) one.sent one.served.item = ends_last 0 link.served start None one known.handled (λ h never. absurd (let no : ⊥ = cc in no)) last two.0 in
           let handled = last_handled 0 link.served None one known.handled (λ h never. absurd (let no : ⊥ = cc in no)) last in
           let count : length (ran_by link).over ≡ length ends.earlier + 1 = ap length ends.over ∙ length_push ends.earlier (ends.before ++ ends.did ∷ []) in
           let number : held_number link ≡ length ends.earlier = omega (arith, count, held_count) in
@@ -339,5 +342,6 @@ module _ (link : Link) (known : Known link) (alone : none_behind link.served ≡
             before = ends.before;
             did = ends.did;
             over = ap (λ (over : List (List ServedCall)). slice_get over (held_number link)) ends.over ∙ (ap (slice_get (ends.earlier ++ (ends.before ++ ends.did ∷ []) ∷ [])) number ∙ get_last ends.earlier (ends.before ++ ends.did ∷ []));
+            sent = ap (λ (found : Option Sent). option_map_or (same_sent ends.did.sent) found false) is ∙ (ap (λ (s : Sent). same_sent s sent) ends.from ∙ three.1);
             called = ap (λ (found : Option Sent). option_map_or (λ (s : Sent). is_call_in ends.did.piece.call s.frame) found false) is ∙ call_alike ends.did.piece.call one.sent.frame sent.frame alike (called one ends.did.piece.call handled ends.called);
           }

@@ -53,7 +53,7 @@ use Rattle.world_model.proofs.Tests.{eq_from, not_both}
 -- LISTS -------------------------------------------------------------------------------------------
 
 -- the last piece is of the call that ran last
-same_piece_call : (did : ServedCall) (piece : Piece) → is_piece_of did piece ≡ true → did.piece.call ≡ piece.call
+pub same_piece_call : (did : ServedCall) (piece : Piece) → is_piece_of did piece ≡ true → did.piece.call ≡ piece.call
 same_piece_call did piece is = by (or_cases (same_piece did.piece piece) (is_stopped_piece did && same_call did.piece.call piece.call) is)
   where
     by : (same_piece did.piece piece ≡ true) ⊎ ((is_stopped_piece did && same_call did.piece.call piece.call) ≡ true) → did.piece.call ≡ piece.call

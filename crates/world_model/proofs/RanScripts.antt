@@ -87,7 +87,7 @@ plain_left test true xs ys is = is
 plain_left test false xs ys is = is
 
 module _ (course : Course) where
-  abbrev owns : ServedCall → Bool
+  abbrev pub owns : ServedCall → Bool
   owns did = owned_by course.owner did.sent
 
   first_more : (dids : List ServedCall) (did : ServedCall) (n m : ℕ) → did.sent.call ≡ n → first_call (dids ++ did ∷ []) m ≡ first_call dids n

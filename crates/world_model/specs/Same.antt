@@ -221,6 +221,17 @@ run_script_calls t = list_all (λ course. list_all (test_at t (runs_script_calls
 abbrev pub calls_of : Entry → List Call
 calls_of entry = map (λ piece. piece.call) entry.pieces
 
+-- the entry has the calls of the script that end with the one that was sent
+abbrev pub ends_with_sent : Course → Sending → Entry → Bool
+ends_with_sent course sending entry = same_calls (calls_of entry) (drop ((sending.at + 1) - length entry.pieces) (take (sending.at + 1) course.request.calls))
+
+-- so has each that has the identifier of a sending to which no reply was taken
+abbrev pub is_open_stored : Traced → Course → Sending → Bool
+is_open_stored t course sending = is_some sending.taken || list_all (λ entry. not (same_ltxid entry.ltxid sending.ltxid) || ends_with_sent course sending entry) t.entries
+
+abbrev pub open_entries_known : Traced → Bool
+open_entries_known t = list_all (λ course. list_all (is_open_stored t course) (commit_sendings course)) (courses_of t)
+
 abbrev pub agree_from : (Draw → Bool) → List Piece → List ShownCall → Bool
 agree_from granted [] shown = true
 agree_from granted pieces [] = true

@@ -1,6 +1,6 @@
 //! How the frames that connections served, and the entries of their sessions, are those of the service. Each law is the clause of a
 //! function with nothing to run.
-ghost use Rattle.world_model.specs.Same.{run_script_calls};
+ghost use Rattle.world_model.specs.Same.{open_entries_known, run_script_calls};
 ghost use Rattle.world_model.specs.SameLaws.{FollowsInvariant, RunsRan, RunsServe};
 
 /// Wherever a run of a document whose requests are right has come to, what the service's history has of a connection's session is
@@ -25,4 +25,10 @@ pub fn runs_ran()
 /// request, has all its calls from the request's script, in a row from the first one.
 pub fn transactions_run_scripts()
     ensures { FollowsInvariant run_script_calls }
+{}
+
+/// In each such state: an entry under the identifier of a sending with a commit to which no reply was taken has the calls of the request's
+/// script that end with the one that was sent.
+pub fn open_sendings_store_scripts()
+    ensures { FollowsInvariant open_entries_known }
 {}
