@@ -45,7 +45,7 @@ strictly a b most other = by (b == a) refl
     by false is = grind (arith, nat_tests)
 
 -- the entry of each number below the count is there
-entry_there : (before entries : List Entry) (x : Ltxid) → numbered_after before entries ≡ true → entries_of before (session_of x) ≤ x.number → x.number < entries_of before (session_of x) + entries_of entries (session_of x) → has_entry entries x ≡ true
+pub entry_there : (before entries : List Entry) (x : Ltxid) → numbered_after before entries ≡ true → entries_of before (session_of x) ≤ x.number → x.number < entries_of before (session_of x) + entries_of entries (session_of x) → has_entry entries x ≡ true
 entry_there before [] x numbered low below = absurd (let never : ⊥ = omega (arith, low, below) in never)
 entry_there before (entry ∷ rest) x numbered low below =
     by (is_of_session (session_of x) entry.ltxid) refl (entries_cons entry rest (session_of x)) (entries_cons entry before (session_of x)) (λ first later. entry_there (entry ∷ before) rest x parts.1 first later)

@@ -149,7 +149,7 @@ module _ (before after : Seen) (old new : Traced) (event : Event) (note : Note) 
 -- A RUN -------------------------------------------------------------------------------------------
 
 -- the finish is reached as any event is
-finishing_reached : (document : Document) (place : Place) (notes : List Note) (items : List Served) (seen : Seen) (t : Traced) → IsFinishing document place notes items seen t → (events : List Event) × Reached document events notes items seen t
+pub finishing_reached : (document : Document) (place : Place) (notes : List Note) (items : List Served) (seen : Seen) (t : Traced) → IsFinishing document place notes items seen t → (events : List Event) × Reached document events notes items seen t
 finishing_reached document _ _ _ _ _ (Scheduled notes items seen t reached) = (document.schedule, reached)
 finishing_reached document _ _ _ _ _ (Finishes place later notes items more before after old new event note finishing next one forgets) =
     let so = finishing_reached document place notes items before old finishing in (so.0 ++ event ∷ [], GoesOn so.0 notes items more before after old new event note so.1 one forgets)

@@ -232,6 +232,16 @@ is_open_stored t course sending = is_some sending.taken || list_all (λ entry. n
 abbrev pub open_entries_known : Traced → Bool
 open_entries_known t = list_all (λ course. list_all (is_open_stored t course) (commit_sendings course)) (courses_of t)
 
+-- one that was answered Committed has such an entry
+abbrev pub has_script_entry : List Entry → Course → Sending → Bool
+has_script_entry entries course sending = list_any (λ entry. same_ltxid sending.ltxid entry.ltxid && ends_with_sent course sending entry) entries
+
+abbrev pub is_committed_stored : List Entry → Course → Sending → Bool
+is_committed_stored entries course sending = implies (option_map_or ends_committed sending.taken false) (has_script_entry entries course sending)
+
+abbrev pub committed_entries_known : Traced → Bool
+committed_entries_known t = list_all (λ course. list_all (is_committed_stored t.entries course) (commit_sendings course)) (courses_of t)
+
 abbrev pub agree_from : (Draw → Bool) → List Piece → List ShownCall → Bool
 agree_from granted [] shown = true
 agree_from granted pieces [] = true

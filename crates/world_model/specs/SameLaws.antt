@@ -8,9 +8,9 @@ use Rattle.outage_schedule.specs.declared.note.Note.{Note}
 use Rattle.server_model.specs.Seen.{Seen}
 use Rattle.world_model.specs.Invariant.{Invariant}
 use Rattle.world_model.specs.Links.{Link, link_at}
-use Rattle.world_model.specs.Reached.{Reached}
+use Rattle.world_model.specs.Reached.{IsRun, Reached}
 use Rattle.world_model.specs.Ready.{all_requests_right}
-use Rattle.world_model.specs.Same.{entries_ran}
+use Rattle.world_model.specs.Same.{committed_entries_known, entries_ran}
 use Rattle.world_model.specs.SessionHistory.{served_in, served_on}
 use Rattle.world_model.specs.Traced.{Traced}
 
@@ -30,3 +30,15 @@ RunsRan =
 -- a test of each state that is as the invariant says
 abbrev pub FollowsInvariant : (Traced → Bool) → Type 0
 FollowsInvariant test = (t : Traced) → Invariant t → IsTrue (test t)
+
+-- Wherever a run has come to, a sending that was answered Committed has an entry with the calls of its script that end with the one that was sent.
+abbrev pub RunsStoreScripts : Type 0
+RunsStoreScripts =
+    (document : Document) (events : List Event) (notes : List Note) (items : List Served) (seen : Seen) (t : Traced)
+    → IsTrue (all_requests_right document) → Reached document events notes items seen t → IsTrue (committed_entries_known t)
+
+-- and at the end of a whole run
+abbrev pub WholeRunsStoreScripts : Type 0
+WholeRunsStoreScripts =
+    (document : Document) (notes : List Note) (items : List Served) (seen : Seen) (t : Traced)
+    → IsTrue (all_requests_right document) → IsRun document notes items seen t → IsTrue (committed_entries_known t)

@@ -1,7 +1,7 @@
 //! How the frames that connections served, and the entries of their sessions, are those of the service. Each law is the clause of a
 //! function with nothing to run.
 ghost use Rattle.world_model.specs.Same.{open_entries_known, run_script_calls};
-ghost use Rattle.world_model.specs.SameLaws.{FollowsInvariant, RunsRan, RunsServe};
+ghost use Rattle.world_model.specs.SameLaws.{FollowsInvariant, RunsRan, RunsServe, RunsStoreScripts, WholeRunsStoreScripts};
 
 /// Wherever a run of a document whose requests are right has come to, what the service's history has of a connection's session is
 /// what the connection served: frame by frame, with what was told.
@@ -32,3 +32,12 @@ pub fn transactions_run_scripts()
 pub fn open_sendings_store_scripts()
     ensures { FollowsInvariant open_entries_known }
 {}
+
+/// Wherever a run of a document whose requests are right has come to, a sending with a commit that was answered Committed has an entry with
+/// the calls of its request's script that end with the one that was sent; and so it has at the end of the run.
+pub fn committed_sendings_store_scripts()
+    ensures reached { RunsStoreScripts }
+    ensures run { WholeRunsStoreScripts }
+{
+    crate::kept_laws::runs_keep_invariant();
+}
