@@ -242,6 +242,14 @@ is_committed_stored entries course sending = implies (option_map_or ends_committ
 abbrev pub committed_entries_known : Traced → Bool
 committed_entries_known t = list_all (λ course. list_all (is_committed_stored t.entries course) (commit_sendings course)) (courses_of t)
 
+-- each entry of one that is open or was answered Committed has these calls
+abbrev pub follows_script : Traced → Course → Sending → Bool
+follows_script t course sending =
+    not (option_map_or ends_committed sending.taken true) || list_all (λ entry. not (same_ltxid entry.ltxid sending.ltxid) || ends_with_sent course sending entry) t.entries
+
+abbrev pub entries_follow_scripts : Traced → Bool
+entries_follow_scripts t = list_all (λ course. list_all (follows_script t course) (commit_sendings course)) (courses_of t)
+
 abbrev pub agree_from : (Draw → Bool) → List Piece → List ShownCall → Bool
 agree_from granted [] shown = true
 agree_from granted pieces [] = true

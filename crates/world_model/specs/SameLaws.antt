@@ -10,7 +10,7 @@ use Rattle.world_model.specs.Invariant.{Invariant}
 use Rattle.world_model.specs.Links.{Link, link_at}
 use Rattle.world_model.specs.Reached.{IsRun, Reached}
 use Rattle.world_model.specs.Ready.{all_requests_right}
-use Rattle.world_model.specs.Same.{committed_entries_known, entries_ran}
+use Rattle.world_model.specs.Same.{committed_entries_known, entries_follow_scripts, entries_ran}
 use Rattle.world_model.specs.SessionHistory.{served_in, served_on}
 use Rattle.world_model.specs.Traced.{Traced}
 
@@ -42,3 +42,15 @@ abbrev pub WholeRunsStoreScripts : Type 0
 WholeRunsStoreScripts =
     (document : Document) (notes : List Note) (items : List Served) (seen : Seen) (t : Traced)
     → IsTrue (all_requests_right document) → IsRun document notes items seen t → IsTrue (committed_entries_known t)
+
+-- Wherever a run has come to, each entry of a sending that is open or was answered Committed has the calls of the script that end with the one that was sent.
+abbrev pub RunsFollowScripts : Type 0
+RunsFollowScripts =
+    (document : Document) (events : List Event) (notes : List Note) (items : List Served) (seen : Seen) (t : Traced)
+    → IsTrue (all_requests_right document) → Reached document events notes items seen t → IsTrue (entries_follow_scripts t)
+
+-- and at the end of a whole run
+abbrev pub WholeRunsFollowScripts : Type 0
+WholeRunsFollowScripts =
+    (document : Document) (notes : List Note) (items : List Served) (seen : Seen) (t : Traced)
+    → IsTrue (all_requests_right document) → IsRun document notes items seen t → IsTrue (entries_follow_scripts t)

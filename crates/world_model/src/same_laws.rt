@@ -1,7 +1,7 @@
 //! How the frames that connections served, and the entries of their sessions, are those of the service. Each law is the clause of a
 //! function with nothing to run.
 ghost use Rattle.world_model.specs.Same.{open_entries_known, run_script_calls};
-ghost use Rattle.world_model.specs.SameLaws.{FollowsInvariant, RunsRan, RunsServe, RunsStoreScripts, WholeRunsStoreScripts};
+ghost use Rattle.world_model.specs.SameLaws.{FollowsInvariant, RunsFollowScripts, RunsRan, RunsServe, RunsStoreScripts, WholeRunsFollowScripts, WholeRunsStoreScripts};
 
 /// Wherever a run of a document whose requests are right has come to, what the service's history has of a connection's session is
 /// what the connection served: frame by frame, with what was told.
@@ -40,4 +40,14 @@ pub fn committed_sendings_store_scripts()
     ensures run { WholeRunsStoreScripts }
 {
     crate::kept_laws::runs_keep_invariant();
+}
+
+/// Wherever such a run has come to, and at its end: each entry under the identifier of a sending with a commit that was answered Committed,
+/// or to which no reply was taken, has the calls of its request's script that end with the one that was sent.
+pub fn entries_follow_scripts()
+    ensures reached { RunsFollowScripts }
+    ensures run { WholeRunsFollowScripts }
+{
+    crate::kept_laws::runs_keep_invariant();
+    committed_sendings_store_scripts();
 }
