@@ -1,5 +1,5 @@
-//! How the frames that connections served, and the entries of their sessions, are those of the service. Each law is the clause of a
-//! function with nothing to run.
+//! How the frames that connections served, and the entries of their sessions, are those of the service, and their calls those of scripts.
+//! Each law is the clause of a function with nothing to run.
 ghost use Rattle.world_model.specs.Same.{open_entries_known, run_script_calls};
 ghost use Rattle.world_model.specs.SameLaws.{FollowsInvariant, RunsFollowScripts, RunsRan, RunsServe, RunsStoreScripts, WholeRunsFollowScripts, WholeRunsStoreScripts};
 
