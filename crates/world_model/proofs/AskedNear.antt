@@ -49,7 +49,7 @@ first_all test alike link first later ups sent all =
     subst (λ (rest : List Sent). list_all test (served ++ rest) ≡ true) ups (front_all test alike (up_of link) link.sent (and_parts (is_front same_sent (up_of link) link.sent) _ sent).0 all) in
     (and_parts (test first) (list_all test later) (and_parts (list_all test served) (list_all test (first ∷ later)) (sym (list_all-append test served (first ∷ later)) ∙ whole)).1).0
 
-no_owner : (owner : Option Owner) → owner ≡ None → is_some owner ≡ true → ⊥
+pub no_owner : (owner : Option Owner) → owner ≡ None → is_some owner ≡ true → ⊥
 no_owner None is some = let none : ⊥ = cc in none
 no_owner (Some one) is some = let none : ⊥ = cc in none
 

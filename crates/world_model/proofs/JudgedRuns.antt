@@ -156,7 +156,7 @@ module _ (document : Document) (report : Report) (seen : Seen) (t : Traced) (ser
   sound : IsSound (service_base document)
   sound = subst IsSound (finishing_start document is.run.place report.notes report.served seen t is.run.finishing) (finishing_coupled document is.run.place report.notes report.served seen t is.run.finishing).sound
 
-  room_alike : has_room (service_base document) (items_of seen.history) report.entries ≡ has_room (service_base document) (judged_items document report) report.entries
+  pub room_alike : has_room (service_base document) (items_of seen.history) report.entries ≡ has_room (service_base document) (judged_items document report) report.entries
   room_alike =
       sym (room_is_plain (service_base document) (items_of seen.history) report.entries)
       ∙ ap (λ (items : List Item). has_room (service_base document) items report.entries) (sym judged_plain)

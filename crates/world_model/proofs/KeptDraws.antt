@@ -47,7 +47,7 @@ use Rattle.world_model.proofs.StepFacts.{account_now, shown_later, first_step, f
 use Rattle.world_model.proofs.Strangers.{same_owner_is, doing_strange}
 use Rattle.world_model.proofs.TalkFrames.{is_next, frame_fits, frames_fit}
 
-get_mapped : {A B : Type 0} (f : A → B) (xs : List A) (index : ℕ) (x : A) → slice_get xs index ≡ Some x → slice_get (map f xs) index ≡ Some (f x)
+pub get_mapped : {A B : Type 0} (f : A → B) (xs : List A) (index : ℕ) (x : A) → slice_get xs index ≡ Some x → slice_get (map f xs) index ≡ Some (f x)
 get_mapped f [] index x is = absurd (let never : ⊥ = cc in never)
 get_mapped f (y ∷ ys) zero x is = let same : y ≡ x = cc in ap (λ z. Some (f z)) same
 get_mapped f (y ∷ ys) (suc index) x is = get_mapped f ys index x is

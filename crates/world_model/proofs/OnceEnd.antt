@@ -181,7 +181,7 @@ module _ (document : Document) (report : Report) (seen : Seen) (t : Traced) (ser
   first_are : take t.image t.entries ≡ image
   first_are = ap (λ (n : ℕ). take n t.entries) count ∙ (ap (take (length image)) all_entries ∙ take-append_seam image report.entries)
 
-  later_are : drop t.image t.entries ≡ report.entries
+  pub later_are : drop t.image t.entries ≡ report.entries
   later_are = ap (λ (n : ℕ). drop n t.entries) count ∙ (ap (drop (length image)) all_entries ∙ drop-append_seam image report.entries)
 
   finished : list_any is_unfinished t.machine.clients ≡ false

@@ -54,14 +54,14 @@ owned_stage (Told one) = is_some one
 owned_stage (Repeated one) = is_some one
 owned_stage _ = true
 
-some_by : (a b : Option Owner) → is_some a ≡ true → same_owners a b ≡ true → is_some b ≡ true
+pub some_by : (a b : Option Owner) → is_some a ≡ true → same_owners a b ≡ true → is_some b ≡ true
 some_by a b some same = ap is_some (sym (owners_are a b same)) ∙ some
 
 if_owned : (test : Bool) (stage : Stage) → (test ≡ true → owned_stage stage ≡ true) → owned_stage (stage_if test stage) ≡ true
 if_owned true stage owned = owned refl
 if_owned false stage owned = refl
 
-if_right : (test : Bool) (stage : Stage) → is_right (stage_if test stage) ≡ true → test ≡ true
+pub if_right : (test : Bool) (stage : Stage) → is_right (stage_if test stage) ≡ true → test ≡ true
 if_right true stage right = refl
 if_right false stage right = absurd (let none : ⊥ = cc in none)
 
