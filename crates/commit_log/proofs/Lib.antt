@@ -5,6 +5,7 @@ pub mod KeepingCommits
 pub mod KeepingReservations
 pub mod KeepingJournals
 pub mod Differing
+pub mod Rising
 pub mod Committing
 pub mod Reserving
 pub mod Misfits

@@ -1,11 +1,10 @@
 -- What an opening stores first makes the horizon the greater one.
-use Rattle.std.proofs.Common.{◌≡◌, ℕ, Bool, true, false, List, [], ◌∷◌, fold, refl, sym, ◌∙◌, ap}
-use Rattle.std.specs.Prelude.{max, Result, Ok}
+use Rattle.std.proofs.Common.{◌≡◌, ℕ, Bool, true, false, List, fold, refl, sym, ◌∙◌, ap}
+use Rattle.std.specs.Prelude.{max, Result}
 use Rattle.commit_log.specs.declared.journal.Journal.{Journal}
 use Rattle.commit_log.specs.declared.records.Record.{Record}
-use Rattle.commit_log.specs.declared.records.Record.TheVariants as kept
-use Rattle.commit_log.specs.Rules.{SoFar, Begun, with_record, rises}
-use Rattle.commit_log.specs.Journals.{so_far_of, journal_of}
+use Rattle.commit_log.specs.Rules.{SoFar, with_record, rises}
+use Rattle.commit_log.specs.Journals.{so_far_of}
 use Rattle.commit_log.specs.Growth.{horizon_of, first_of_opening}
 use Rattle.commit_log.specs.Laws.{RaisesHorizon}
 use Rattle.commit_log.proofs.Committing.{greater}

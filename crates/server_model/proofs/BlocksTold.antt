@@ -128,11 +128,11 @@ unfolding asked_in
 outcomes-same y z same = ap (asked_in y) same
 
 -- nothing, or the identifier that was asked
-pub data Adds (core : Core) (frame : Up) (after : Core) (told : Telling) : Type 0 where
-  AddsNone : after.blocked ≡ core.blocked → Adds core frame after told
-  AddsOne : (x : Ltxid) → frame ≡ up.Outcome x → after.blocked ≡ core.blocked ++ x ∷ [] → (told ≡ Says (down.OutcomeIs false false)) ⊎ (told ≡ Stopped) → Adds core frame after told
+pub data BlocksAtMost (core : Core) (frame : Up) (after : Core) (told : Telling) : Type 0 where
+  AddsNone : after.blocked ≡ core.blocked → BlocksAtMost core frame after told
+  AddsOne : (x : Ltxid) → frame ≡ up.Outcome x → after.blocked ≡ core.blocked ++ x ∷ [] → (told ≡ Says (down.OutcomeIs false false)) ⊎ (told ≡ Stopped) → BlocksAtMost core frame after told
 
-told-adds : (core : Core) (x : Ltxid) (judged : Verdict) → Adds core (up.Outcome x) (if_blocks judged core x) (Says (down_of judged))
+told-adds : (core : Core) (x : Ltxid) (judged : Verdict) → BlocksAtMost core (up.Outcome x) (if_blocks judged core x) (Says (down_of judged))
 told-adds core x verdict.BlockIt = AddsOne x refl refl (inl refl)
 told-adds core x verdict.AlreadyBlocked = AddsNone refl
 told-adds core x (verdict.Committed completed) = AddsNone refl
@@ -140,7 +140,7 @@ told-adds core x (verdict.ServerAhead next) = AddsNone refl
 told-adds core x (verdict.ClientAhead next) = AddsNone refl
 told-adds core x (verdict.Forgotten horizon) = AddsNone refl
 
-outcomes-add : (core : Core) (x : Ltxid) (after : Core) (told : Telling) → Outcomes core x after told → Adds core (up.Outcome x) after told
+outcomes-add : (core : Core) (x : Ltxid) (after : Core) (told : Telling) → Outcomes core x after told → BlocksAtMost core (up.Outcome x) after told
 outcomes-add core x _ _ (IsTold judged by) = told-adds core x judged
 outcomes-add core x _ _ (BlockStops after by (inl same)) = AddsNone (ap (λ (c : Core). c.blocked) same)
 outcomes-add core x _ _ (BlockStops after by (inr same)) = AddsOne x refl (ap (λ (c : Core). c.blocked) same) (inr refl)
@@ -169,14 +169,14 @@ calls-add core sess replay kept now _ _ _ _ IsDisable = refl
 calls-add core sess replay kept now _ _ _ _ IsRollback = refl
 
 -- what a frame adds to the blocks
-pub serve-adds : (core : Core) (sess : Sess) (now : ℕ) (frame : Up) (after : Core) (t : Sess) (told : Telling) → Serve core sess now frame after t told → Adds core frame after told
-serve-adds core sess now _ _ _ _ (Connects life) = AddsNone refl
-serve-adds core sess now _ _ _ _ (Begins settings serving) = AddsNone refl
-serve-adds core sess now _ _ _ _ (Ends serving) = AddsNone refl
-serve-adds core sess now _ _ _ _ (Closes serving) = AddsNone refl
-serve-adds core sess now _ _ _ _ (Asks x after told serving asked) = outcomes-add core x after told asked
-serve-adds core sess now _ _ _ _ (Serves replay kept called after t told begun calls) = AddsNone (calls-add core sess replay kept now called after t told calls)
-serve-adds core sess now _ _ _ _ (Refuses frame out) = AddsNone refl
+pub frame_blocks : (core : Core) (sess : Sess) (now : ℕ) (frame : Up) (after : Core) (t : Sess) (told : Telling) → Serve core sess now frame after t told → BlocksAtMost core frame after told
+frame_blocks core sess now _ _ _ _ (Connects life) = AddsNone refl
+frame_blocks core sess now _ _ _ _ (Begins settings serving) = AddsNone refl
+frame_blocks core sess now _ _ _ _ (Ends serving) = AddsNone refl
+frame_blocks core sess now _ _ _ _ (Closes serving) = AddsNone refl
+frame_blocks core sess now _ _ _ _ (Asks x after told serving asked) = outcomes-add core x after told asked
+frame_blocks core sess now _ _ _ _ (Serves replay kept called after t told begun calls) = AddsNone (calls-add core sess replay kept now called after t told calls)
+frame_blocks core sess now _ _ _ _ (Refuses frame out) = AddsNone refl
 
 -- ---- each move
 
@@ -209,7 +209,7 @@ answered-stopped (Says frame) answered is = let none : ⊥ = cc in absurd none
 answered-stopped Stopped answered is = let none : ⊥ = cc in absurd none
 
 module _ (base : Base) (walk : Walk) (session : SessionId) (now : ℕ) (core after : Core) (same : after.base ≡ core.base) (out : BlocksOut core walk) where
-  told-out : (frame : Up) (told : Telling) → IsTrue (is_answered told) → Adds core frame after told → BlocksOut after (walk_behind base walk (Served session now frame told))
+  told-out : (frame : Up) (told : Telling) → IsTrue (is_answered told) → BlocksAtMost core frame after told → BlocksOut after (walk_behind base walk (Served session now frame told))
   told-out frame told answered (AddsNone blocked) x is = out-behind base walk (Served session now frame told) x (out x (none-more core after x same blocked is))
   told-out frame told answered (AddsOne y asked blocked (inr stopped)) x is = answered-stopped told answered stopped
   told-out frame told answered (AddsOne y asked blocked (inl says)) x is = by (one-more core after y x same blocked is)
@@ -218,7 +218,7 @@ module _ (base : Base) (walk : Walk) (session : SessionId) (now : ℕ) (core aft
       by (inl before) = out-behind base walk (Served session now frame told) x (out x before)
       by (inr own) = subst (λ f. IsOut (walk_behind base walk (Served session now f told)) x) (sym asked) (subst (λ t. IsOut (walk_behind base walk (Served session now (up.Outcome y) t)) x) (sym says) (inl (or-left (same_ltxid y x) _ own)))
 
-  stopped-out : (frame : Up) (told : Telling) → Adds core frame after told → BlocksOut after (walk_behind base walk (Served session now frame Stopped))
+  stopped-out : (frame : Up) (told : Telling) → BlocksAtMost core frame after told → BlocksOut after (walk_behind base walk (Served session now frame Stopped))
   stopped-out frame told (AddsNone blocked) x is = out-behind base walk (Served session now frame Stopped) x (out x (none-more core after x same blocked is))
   stopped-out frame told (AddsOne y asked blocked says) x is = by (one-more core after y x same blocked is)
     where
@@ -238,7 +238,7 @@ asked-out base walk core y (verdict.ServerAhead next) out x is = out x is
 asked-out base walk core y (verdict.ClientAhead next) out x is = out x is
 asked-out base walk core y (verdict.Forgotten horizon) out x is = out x is
 
-ask-stopped-out : (base : Base) (walk : Walk) (core after : Core) (y : Ltxid) (told : Telling) → after.base ≡ core.base → Adds core (up.Outcome y) after told → BlocksOut core walk → BlocksOut after (walk_behind base walk (Asked y Stopped))
+ask-stopped-out : (base : Base) (walk : Walk) (core after : Core) (y : Ltxid) (told : Telling) → after.base ≡ core.base → BlocksAtMost core (up.Outcome y) after told → BlocksOut core walk → BlocksOut after (walk_behind base walk (Asked y Stopped))
 ask-stopped-out base walk core after y told same (AddsNone blocked) out x is = out-perhaps walk y x (out x (none-more core after x same blocked is))
 ask-stopped-out base walk core after y told same (AddsOne z asked blocked says) out x is = by (one-more core after z x same blocked is)
   where
@@ -251,10 +251,10 @@ unfolding walked
 step-out base walk server _ _ (Makes on) out = out
 step-out base walk server _ _ (Answers old new now frame core told after on serve answered turns) out =
     subst (λ (c : Core). BlocksOut c (walk_behind base walk (Served (session_of old.ltxid) now frame told))) (sym (ap (λ (s : Server). s.core) turns.turned))
-    (told-out base walk (session_of old.ltxid) now server.core core (serve_stays server.core old now frame core new told serve).base out frame told answered (serve-adds server.core old now frame core new told serve))
+    (told-out base walk (session_of old.ltxid) now server.core core (serve_stays server.core old now frame core new told serve).base out frame told answered (frame_blocks server.core old now frame core new told serve))
 step-out base walk server _ _ (Halts old new now frame core told after running serve turns) out =
     subst (λ (c : Core). BlocksOut c (walk_behind base walk (Served (session_of old.ltxid) now frame Stopped))) (sym (ap (λ (s : Server). s.core) turns.turned))
-    (stopped-out base walk (session_of old.ltxid) now server.core core (serve_stays server.core old now frame core new told serve).base out frame told (serve-adds server.core old now frame core new told serve))
+    (stopped-out base walk (session_of old.ltxid) now server.core core (serve_stays server.core old now frame core new told serve).base out frame told (frame_blocks server.core old now frame core new told serve))
 step-out base walk server _ _ (Loses old now frame after halt turns) out =
     subst (λ (c : Core). BlocksOut c (walk_behind base walk (Served (session_of old.ltxid) now frame Stopped))) (sym (ap (λ (s : Server). s.core) turns.turned))
     (λ x is. out-behind base walk (Served (session_of old.ltxid) now frame Stopped) x (out x is))

@@ -25,3 +25,11 @@ pub use Rattle.server_model.proofs.StoredTold.{store_beside, told_stored, stoppe
 pub use Rattle.server_model.proofs.Fronts.{runs_front}
 pub use Rattle.server_model.proofs.NumberRuns.{runs_stand}
 pub use Rattle.server_model.proofs.StoppedBefore.{runs_stopped}
+-- the entries of a session are numbered, those of the base among them
+pub use Rattle.server_model.proofs.NumberRuns.{runs_number}
+pub use Rattle.server_model.proofs.Numbers.{AllMine, mine-at}
+pub use Rattle.server_model.proofs.Stays.{outcomes_stay}
+-- a frame adds no block, or one that it asks for, which is its session's next identifier
+pub use Rattle.server_model.proofs.BlocksTold.{BlocksAtMost, AddsNone, AddsOne, frame_blocks}
+pub use Rattle.server_model.proofs.Steps.{blocks-IsNext}
+pub use Rattle.server_model.proofs.ToldBlocked.{already-blocked}

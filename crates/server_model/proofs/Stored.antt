@@ -14,7 +14,7 @@ use Rattle.server_model.specs.Serve.{Serve}
 use Rattle.server_model.specs.Runs.{Happened, Served, is_answered}
 use Rattle.server_model.specs.Laws.{CommitsAs}
 use Rattle.server_model.specs.ServiceCalls.{AsksFor}
-use Rattle.server_model.proofs.BlocksTold.{Adds as AddsBlock, AddsNone, AddsOne, serve-adds}
+use Rattle.server_model.proofs.BlocksTold.{BlocksAtMost, AddsNone, AddsOne, frame_blocks}
 use Rattle.server_model.proofs.FromItems.{From, NoEntry, NewEntry, serve_from}
 use Rattle.server_model.proofs.Fronts.{Adds, serve_adds}
 
@@ -39,7 +39,7 @@ asked_blocks one core after adds (inr more) =
     subst (All (λ (x : Ltxid). AsksFor x one)) (append_cancel_left core.blocked (more.0 ∷ []) adds.more_blocked (sym more.1.0 ∙ adds.blocked))
     (All-cons (λ (x : Ltxid). AsksFor x one) more.0 [] more.1.1 (All-nil (λ (x : Ltxid). AsksFor x one)))
 
-asks : (core : Core) (sess : Sess) (now : ℕ) (frame : Up) (after : Core) (told said : Telling) → AddsBlock core frame after told
+asks : (core : Core) (sess : Sess) (now : ℕ) (frame : Up) (after : Core) (told said : Telling) → BlocksAtMost core frame after told
     → (after.blocked ≡ core.blocked) ⊎ ((x : Ltxid) × ((after.blocked ≡ core.blocked ++ x ∷ []) × AsksFor x (Served (session_of sess.ltxid) now frame said)))
 asks core sess now frame after told said (AddsNone same) = inl same
 asks core sess now frame after told said (AddsOne x is more by) = inr (x, (more, subst (λ (f : Up). AsksFor x (Served (session_of sess.ltxid) now f said)) (sym is) refl))
@@ -51,7 +51,7 @@ answered_adds core sess now frame after t told serve answered =
     record {
       adds = adds;
       own = own_entries (Served (session_of sess.ltxid) now frame told) core after adds (by (serve_from core sess now frame after t told serve));
-      asked = asked_blocks (Served (session_of sess.ltxid) now frame told) core after adds (asks core sess now frame after told told (serve-adds core sess now frame after t told serve));
+      asked = asked_blocks (Served (session_of sess.ltxid) now frame told) core after adds (asks core sess now frame after told told (frame_blocks core sess now frame after t told serve));
     }
   where
     by : From core sess now frame told after → (after.entries ≡ core.entries) ⊎ ((entry : Entry) × ((after.entries ≡ core.entries ++ entry ∷ []) × CommitsAs entry (Served (session_of sess.ltxid) now frame told)))
@@ -65,7 +65,7 @@ stopped_adds core sess now frame after t told serve =
     record {
       adds = adds;
       own = own_entries (Served (session_of sess.ltxid) now frame Stopped) core after adds (by (serve_from core sess now frame after t told serve));
-      asked = asked_blocks (Served (session_of sess.ltxid) now frame Stopped) core after adds (asks core sess now frame after told Stopped (serve-adds core sess now frame after t told serve));
+      asked = asked_blocks (Served (session_of sess.ltxid) now frame Stopped) core after adds (asks core sess now frame after told Stopped (frame_blocks core sess now frame after t told serve));
     }
   where
     by : From core sess now frame told after → (after.entries ≡ core.entries) ⊎ ((entry : Entry) × ((after.entries ≡ core.entries ++ entry ∷ []) × CommitsAs entry (Served (session_of sess.ltxid) now frame Stopped)))

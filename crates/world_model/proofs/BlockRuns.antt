@@ -17,10 +17,7 @@ use Rattle.server_model.specs.Outcomes.{Telling, Says, Stopped, Outcomes, IsTold
 use Rattle.server_model.specs.Runs.{Happened, Served, Asked, Server, Moves, Makes, Answers, Halts, Loses, AnswersAsk, HaltsInAsk, Reaps, Falls, Opens, StopsOpening, Runs, Start, Then, reopened_core, forgetting}
 use Rattle.server_model.specs.Serve.{Serve, Connects, Begins, Ends, Closes, Asks, Runs as Serves, Refuses}
 use Rattle.server_model.specs.Sessions.{Sess}
-use Rattle.server_model.proofs.Offered.{runs_keep_base}
-use Rattle.server_model.proofs.BlocksTold.{Adds, AddsNone, AddsOne, serve-adds}
-use Rattle.server_model.proofs.Steps.{blocks-IsNext}
-use Rattle.server_model.proofs.ToldBlocked.{already-blocked}
+use Rattle.server_model.proofs.Offered.{runs_keep_base, BlocksAtMost, AddsNone, AddsOne, frame_blocks, blocks-IsNext, already-blocked}
 
 -- WHAT WAS ANSWERED -------------------------------------------------------------------------------
 
@@ -117,7 +114,7 @@ refused_frame : (core : Core) (frame : Up) → BlocksIn core core (answered_by_f
 refused_frame core (up.Outcome x) = BlocksNone core.blocked refl
 refused_frame core frame = BlocksNone core.blocked refl
 
-call_keeps : (core after : Core) (frame : Up) (told : Telling) → Adds core frame after told → ((x : Ltxid) → frame ≡ up.Outcome x → ⊥) → after.blocked ≡ core.blocked
+call_keeps : (core after : Core) (frame : Up) (told : Telling) → BlocksAtMost core frame after told → ((x : Ltxid) → frame ≡ up.Outcome x → ⊥) → after.blocked ≡ core.blocked
 call_keeps core after frame told (AddsNone same) other = same
 call_keeps core after frame told (AddsOne x is more by) other = absurd (other x is)
 
@@ -129,7 +126,7 @@ serve_blocks core sess now _ _ _ _ (Closes serving) = none_both core core _ up.C
 serve_blocks core sess now _ _ _ _ (Asks x after told serving asked) = let both = outcomes_block core x after told asked in record { said = both.said; unsaid = both.unsaid }
 serve_blocks core sess now _ _ _ _ (Serves replay kept called after t told begun calls) =
     none_both core after told (up.Call replay kept called)
-    (call_keeps core after (up.Call replay kept called) told (serve-adds core sess now (up.Call replay kept called) after t told (Serves replay kept called after t told begun calls)) (λ x is. let none : ⊥ = cc in none))
+    (call_keeps core after (up.Call replay kept called) told (frame_blocks core sess now (up.Call replay kept called) after t told (Serves replay kept called after t told begun calls)) (λ x is. let none : ⊥ = cc in none))
     (λ said. refl)
 serve_blocks core sess now _ _ _ _ (Refuses frame out) = record { said = refused_frame core frame; unsaid = lost_frame core frame }
 

@@ -20,10 +20,7 @@ use Rattle.server_model.specs.Outcomes.{Telling, Says, Stopped, Outcomes, IsTold
 use Rattle.server_model.specs.Runs.{Happened, Served, Asked, Server, Power, Off, On, Halted, Turns, Moves, Makes, Answers, Halts, Loses, AnswersAsk, HaltsInAsk, Reaps, Falls, Opens, StopsOpening, Runs, Start, Then, is_running}
 use Rattle.server_model.specs.Serve.{Serve}
 use Rattle.server_model.specs.Sessions.{Sess}
-use Rattle.server_model.proofs.Offered.{AddsBy, answered_adds, stopped_adds, IfCommitted, serve_stored, serve_stays, stores_by_commit}
-use Rattle.server_model.proofs.NumberRuns.{runs_number}
-use Rattle.server_model.proofs.Numbers.{AllMine, mine-at}
-use Rattle.server_model.proofs.Stays.{outcomes_stay}
+use Rattle.server_model.proofs.Offered.{AddsBy, answered_adds, stopped_adds, IfCommitted, serve_stored, serve_stays, stores_by_commit, runs_number, AllMine, mine-at, outcomes_stay}
 use Rattle.world_model.proofs.AnswersTold.{blocks_none}
 
 -- ONE THING ---------------------------------------------------------------------------------------
