@@ -31,6 +31,7 @@ use Rattle.server_model.proofs.Fronts.{moves_front}
 use Rattle.server_model.proofs.Following.{walk_behind, walked, walked-more, next-same}
 use Rattle.server_model.proofs.KeptDraws.{SameKept}
 use Rattle.server_model.proofs.SameNamesRuns.{runs-kept}
+use Rattle.server_model.proofs.RoomKept.{Few, moves-spelled, runs-spelled}
 use Rattle.server_model.proofs.Tracking.{count_in, TracksOne, Tracks}
 use Rattle.server_model.proofs.Spending.{Spent, tracks-spent, spent-opened, spent-after}
 use Rattle.server_model.proofs.DrawnFrames.{deed_draws, serve-draws}
@@ -128,9 +129,10 @@ deeds-more base walk (Asked x told ∷ history) more one other = deeds-more base
 
 -- ---- each move
 
-record StepDraws (base : Base) (history more : List Happened) (core : Core) (walk : Walk) : Type 0 where
+record StepDraws (base : Base) (history more : List Happened) (before core : Core) (walk : Walk) : Type 0 where
   right : deeds_drawn base walk more ≡ true
   keeps : Keeps (history ++ more) core (walked base walk more)
+  few : Few before.opening.identifiers → Few core.opening.identifiers → Few walk.numbers.identifiers → Few (walked base walk more).numbers.identifiers
 
 module _ (base : Base) (history : List Happened) (server : Server) (rest gained : List Entry) (walk : Walk) (lives : List (SessionId × Life)) (numbered : Numbered base server) (walks : Walks history server (gained ++ rest) walk lives) (keeps : Keeps history server.core walk)
     (after : Server) (old new : Sess) (now : ℕ) (frame : Up) (core : Core) (power : Power) (running : IsTrue (is_running server.power)) (turns : Turns server after old new core power) (told : Telling)
@@ -153,9 +155,9 @@ module _ (base : Base) (history : List Happened) (server : Server) (rest gained 
   never-ready same ok = (no_stop-right core.opening.incarnation history (Served (session_of old.ltxid) now frame Stopped ∷ []) ok).0 (own-incarnation ∙ sym same)
 
 step-draws : (base : Base) (history more : List Happened) (server after : Server) (rest gained : List Entry) (walk : Walk) (lives : List (SessionId × Life)) → Numbered base server → SameKept base server.core.opening → Moves server more after
-    → stops_last (history ++ more) ≡ true → Later rest (history ++ more) → after.core.entries ≡ server.core.entries ++ gained → Walks history server (gained ++ rest) walk lives → Keeps history server.core walk → StepDraws base history more after.core walk
+    → stops_last (history ++ more) ≡ true → Later rest (history ++ more) → after.core.entries ≡ server.core.entries ++ gained → Walks history server (gained ++ rest) walk lives → Keeps history server.core walk → StepDraws base history more server.core after.core walk
 unfolding walked
-step-draws base history _ server _ rest gained walk lives numbered kept (Makes on) stops later grew walks keeps = record { right = refl; keeps = keeps-on history [] server.core _ walk walk refl refl keeps }
+step-draws base history _ server _ rest gained walk lives numbered kept (Makes on) stops later grew walks keeps = record { right = refl; keeps = keeps-on history [] server.core _ walk walk refl refl keeps; few = λ before behind counted. counted }
 step-draws base history _ server _ rest gained walk lives numbered kept (Answers old new now frame core told after on serve answered turns) stops later grew walks keeps =
     let grew_here : core.entries ≡ server.core.entries ++ gained = sym (ap (λ (s : Server). s.core.entries) turns.turned) ∙ grew in
     let draws = serve-draws base server.core (entered walk (item_of 0 (Served (session_of old.ltxid) now frame told))) old
@@ -165,6 +167,7 @@ step-draws base history _ server _ rest gained walk lives numbered kept (Answers
       right = and-true _ draws.right;
       keeps = subst (λ (c : Core). Keeps (history ++ Served (session_of old.ltxid) now frame told ∷ []) c (walk_behind base walk (Served (session_of old.ltxid) now frame told))) (sym (ap (λ (s : Server). s.core) turns.turned))
           (keeps-tracks (history ++ Served (session_of old.ltxid) now frame told ∷ []) core (walk_behind base walk (Served (session_of old.ltxid) now frame told)) draws.tracks);
+      few = λ before behind counted. subst Few (ap (λ (s : Server). s.core.opening.identifiers) turns.turned ∙ sym draws.tracks.given) behind;
     }
 step-draws base history _ server _ rest gained walk lives numbered kept (Halts old new now frame core told after running serve turns) stops later grew walks keeps =
     let grew_here : core.entries ≡ server.core.entries ++ gained = sym (ap (λ (s : Server). s.core.entries) turns.turned) ∙ grew in
@@ -182,6 +185,8 @@ step-draws base history _ server _ rest gained walk lives numbered kept (Halts o
             spent = stop.spent;
             ready = λ ok. absurd (never-ready base history server rest gained walk lives numbered walks keeps after old new now frame core Halted running turns Stopped stops grew_here (serve_stays server.core old now frame core new told serve).incarnation ok);
           });
+      few = λ before behind counted. stop.few (subst Few (sym (tracks-here base history server rest gained walk lives numbered walks keeps after old new now frame core Halted running turns Stopped stops grew_here).given) before)
+          (subst Few (ap (λ (s : Server). s.core.opening.identifiers) turns.turned) behind);
     }
 step-draws base history _ server _ rest gained walk lives numbered kept (Loses old now frame after halt turns) stops later grew walks keeps =
     let grew_here : server.core.entries ≡ server.core.entries ++ gained = sym (ap (λ (s : Server). s.core.entries) turns.turned) ∙ grew in
@@ -197,20 +202,21 @@ step-draws base history _ server _ rest gained walk lives numbered kept (Loses o
             spent = stop.spent;
             ready = λ ok. absurd (never-ready base history server rest gained walk lives numbered walks keeps after old (ended old) now frame server.core Halted (ap is_running halt) turns Stopped stops grew_here refl ok);
           });
+      few = λ before behind counted. stop.few (subst Few (sym (tracks-here base history server rest gained walk lives numbered walks keeps after old (ended old) now frame server.core Halted (ap is_running halt) turns Stopped stops grew_here).given) before) before;
     }
 step-draws base history _ server _ rest gained walk lives numbered kept (AnswersAsk x core frame on asked) stops later grew walks keeps =
-    record { right = refl; keeps = keeps-on history (Asked x (Says frame) ∷ []) server.core core walk _ (outcomes_stay server.core x core _ asked).1 (ask-numbers base walk x (Says frame)) keeps }
+    record { right = refl; keeps = keeps-on history (Asked x (Says frame) ∷ []) server.core core walk _ (outcomes_stay server.core x core _ asked).1 (ask-numbers base walk x (Says frame)) keeps; few = λ before behind counted. subst (λ (n : Numbers). Few n.identifiers) (sym (ask-numbers base walk x (Says frame))) counted }
 step-draws base history _ server _ rest gained walk lives numbered kept (HaltsInAsk x core told running asked) stops later grew walks keeps =
-    record { right = refl; keeps = keeps-on history (Asked x Stopped ∷ []) server.core core walk _ (outcomes_stay server.core x core told asked).1 refl keeps }
-step-draws base history _ server _ rest gained walk lives numbered kept (Reaps front back sess split) stops later grew walks keeps = record { right = refl; keeps = keeps-on history [] server.core _ walk walk refl refl keeps }
-step-draws base history _ server _ rest gained walk lives numbered kept Falls stops later grew walks keeps = record { right = refl; keeps = keeps-on history [] server.core _ walk walk refl refl keeps }
-step-draws base history _ server _ rest gained walk lives numbered kept (Opens below off may) stops later grew walks keeps = record { right = refl; keeps = keeps-opened history server.core _ walk walks.within refl keeps }
+    record { right = refl; keeps = keeps-on history (Asked x Stopped ∷ []) server.core core walk _ (outcomes_stay server.core x core told asked).1 refl keeps; few = λ before behind counted. counted }
+step-draws base history _ server _ rest gained walk lives numbered kept (Reaps front back sess split) stops later grew walks keeps = record { right = refl; keeps = keeps-on history [] server.core _ walk walk refl refl keeps; few = λ before behind counted. counted }
+step-draws base history _ server _ rest gained walk lives numbered kept Falls stops later grew walks keeps = record { right = refl; keeps = keeps-on history [] server.core _ walk walk refl refl keeps; few = λ before behind counted. counted }
+step-draws base history _ server _ rest gained walk lives numbered kept (Opens below off may) stops later grew walks keeps = record { right = refl; keeps = keeps-opened history server.core _ walk walks.within refl keeps; few = λ before behind counted. counted }
 step-draws base history _ server _ rest gained walk lives numbered kept (StopsOpening below core off may (inl same)) stops later grew walks keeps =
-    record { right = refl; keeps = keeps-on history [] server.core core walk walk (ap (λ (c : Core). c.opening) same) refl keeps }
+    record { right = refl; keeps = keeps-on history [] server.core core walk walk (ap (λ (c : Core). c.opening) same) refl keeps; few = λ before behind counted. counted }
 step-draws base history _ server _ rest gained walk lives numbered kept (StopsOpening below core off may (inr (inl same))) stops later grew walks keeps =
-    record { right = refl; keeps = keeps-on history [] server.core core walk walk (ap (λ (c : Core). c.opening) same) refl keeps }
+    record { right = refl; keeps = keeps-on history [] server.core core walk walk (ap (λ (c : Core). c.opening) same) refl keeps; few = λ before behind counted. counted }
 step-draws base history _ server _ rest gained walk lives numbered kept (StopsOpening below core off may (inr (inr same))) stops later grew walks keeps =
-    record { right = refl; keeps = keeps-opened history server.core core walk walks.within (ap (λ (c : Core). c.opening) same) keeps }
+    record { right = refl; keeps = keeps-opened history server.core core walk walks.within (ap (λ (c : Core). c.opening) same) keeps; few = λ before behind counted. counted }
 
 -- ---- a whole run
 
@@ -226,6 +232,7 @@ start-tracks (sequence ∷ sequences) name = by (bytes_eq sequence.name name) (s
 pub record RunDraws (base : Base) (history : List Happened) (server : Server) (final : List Entry) : Type 0 where
   pub right : deeds_drawn base (walk_of base final) history ≡ true
   pub keeps : Keeps history server.core (walked base (walk_of base final) history)
+  pub few : Few (walked base (walk_of base final) history).numbers.identifiers
 
 -- The draws of a run are as the walk over it has them, which keeps to the source.
 pub runs-draws : (base : Base) (history : List Happened) (server : Server) → IsSound base → Runs base history server → stops_last history ≡ true → (rest final : List Entry) → Later rest history → final ≡ server.core.entries ++ rest → RunDraws base history server final
@@ -233,6 +240,7 @@ unfolding walked
 runs-draws base _ _ sound Start stops rest final later is = record {
   right = refl;
   keeps = keeps-tracks [] (core_of base) (walk_of base final) (record { opened_as = refl; given = refl; each = λ name. start-tracks base.sequences name });
+  few = omega arith;
 }
 runs-draws base _ _ sound (Then history more server after runs moves) stops rest final later is =
     let front = moves_front server after more moves in
@@ -246,6 +254,8 @@ runs-draws base _ _ sound (Then history more server after runs moves) stops rest
     record {
       right = deeds-more base (walk_of base final) history more drawn.right step.right;
       keeps = subst (Keeps (history ++ more) after.core) (sym (walked-more base (walk_of base final) history more)) step.keeps;
+      few = subst (λ (w : Walk). Few w.numbers.identifiers) (sym (walked-more base (walk_of base final) history more))
+          (step.few (runs-spelled base history server sound runs).few (moves-spelled server after more moves (runs-spelled base history server sound runs)).few drawn.few);
     }
 
 -- ---- as items

@@ -24,6 +24,7 @@ use Rattle.server_model.specs.Outcomes.{Telling}
 use Rattle.server_model.specs.Draws.{brought, DrawsAll}
 use Rattle.server_model.specs.Serve.{Commits, InReplay, Blocks, Conflicts, Stores, StopsBefore, StopsAfter, Works, Answers, Reaches, HaltsInDraw, Calls, IsWork, IsSet, IsAlter, AlterStops, AlterMarked, IsDisable, IsRollback, Serve, Connects, Begins, Ends, Closes, Asks, Runs as Serves, Refuses, with_opening}
 use Rattle.server_model.specs.Items.{without_answer}
+use Rattle.server_model.specs.NewValues.{Numbers}
 use Rattle.server_model.specs.Walk.{Walk, Performed, after_deed, deed, next_of, or_same, stopped, if_nothing}
 use Rattle.server_model.proofs.Deeds.{At, ran}
 use Rattle.server_model.proofs.Followed.{Left, behind_thing}
@@ -31,15 +32,17 @@ use Rattle.server_model.proofs.FollowedStops.{AllLater, none-performs, one-perfo
 use Rattle.server_model.proofs.Growth.{outcomes-entries}
 use Rattle.server_model.proofs.LegalServed.{deed_in}
 use Rattle.server_model.proofs.PlainAnswers.{work-ending}
+use Rattle.server_model.proofs.RoomKept.{Few}
 use Rattle.server_model.proofs.Spending.{Spent, tracks-spent, Aside, aside-same, aside-drawn, aside-halted, stopped-spent}
 use Rattle.server_model.proofs.Stays.{outcomes_stay}
 use Rattle.server_model.proofs.Tracking.{Tracks, drawn-all}
 use Rattle.server_model.proofs.DrawnFrames.{deed_draws, asked-so, unmarked, ran-numbers}
 
--- the draws are right, and the last blocks are the walk's
+-- the draws are right, the last blocks are the walk's, and where few identifiers were given the walk counts few
 pub record StopsRight (base : Base) (here : Walk) (session : SessionId) (now : ℕ) (frame : Up) (after : Core) : Type 0 where
   pub right : deed_draws base here (deed_in base here session now (without_answer frame)) ≡ true
   pub spent : Spent (behind_thing base here session now (without_answer frame)).numbers after.opening
+  pub few : Few here.numbers.identifiers → Few after.opening.identifiers → Few (behind_thing base here session now (without_answer frame)).numbers.identifiers
 
 module _ (base : Base) (core : Core) (here : Walk) (sess : Sess) (at : At base core here sess) (tracks : Tracks here.numbers core.opening) (rest : List Entry) (later : AllLater sess.ltxid.incarnation rest) where
   -- a call of which no entry stands
@@ -49,16 +52,17 @@ module _ (base : Base) (core : Core) (here : Walk) (sess : Sess) (at : At base c
       record {
         right = ap (λ p. deed_draws base here (deed base here p)) nothing;
         spent = subst (λ n. Spent n after.opening) (sym (ap (λ p. (stopped (if_nothing (deed base here p) (after_deed base here (deed base here p)) called)).numbers) nothing)) (stopped-spent called here.numbers core.opening after.opening tracks aside);
+        few = λ before behind. subst Few (sym (ap (λ p. (stopped (if_nothing (deed base here p) (after_deed base here (deed base here p)) called)).numbers.identifiers) nothing)) before;
       }
 
   -- a frame that left the source as it was
   pub lost-frame : (now : ℕ) (frame : Up) (after : Core) → here.left ≡ rest → after.opening ≡ core.opening → StopsRight base here (session_of sess.ltxid) now frame after
-  lost-frame now up.Connect after left same = record { right = refl; spent = subst (Spent here.numbers) (sym same) (tracks-spent here.numbers core.opening tracks) }
-  lost-frame now (up.Begin settings) after left same = record { right = refl; spent = subst (Spent here.numbers) (sym same) (tracks-spent here.numbers core.opening tracks) }
+  lost-frame now up.Connect after left same = record { right = refl; spent = subst (Spent here.numbers) (sym same) (tracks-spent here.numbers core.opening tracks); few = λ before behind. before }
+  lost-frame now (up.Begin settings) after left same = record { right = refl; spent = subst (Spent here.numbers) (sym same) (tracks-spent here.numbers core.opening tracks); few = λ before behind. before }
   lost-frame now (up.Call replay kept called) after left same = lost-call now replay kept called after left (aside-same (asked_by_call called) core.opening after.opening same)
-  lost-frame now (up.Outcome x) after left same = record { right = refl; spent = subst (Spent here.numbers) (sym same) (tracks-spent here.numbers core.opening tracks) }
-  lost-frame now up.End after left same = record { right = refl; spent = subst (Spent here.numbers) (sym same) (tracks-spent here.numbers core.opening tracks) }
-  lost-frame now up.Close after left same = record { right = refl; spent = subst (Spent here.numbers) (sym same) (tracks-spent here.numbers core.opening tracks) }
+  lost-frame now (up.Outcome x) after left same = record { right = refl; spent = subst (Spent here.numbers) (sym same) (tracks-spent here.numbers core.opening tracks); few = λ before behind. before }
+  lost-frame now up.End after left same = record { right = refl; spent = subst (Spent here.numbers) (sym same) (tracks-spent here.numbers core.opening tracks); few = λ before behind. before }
+  lost-frame now up.Close after left same = record { right = refl; spent = subst (Spent here.numbers) (sym same) (tracks-spent here.numbers core.opening tracks); few = λ before behind. before }
 
   module _ (number : next_of here (session_of sess.ltxid) ≡ sess.ltxid) where
     module _ (lives : sess.life ≡ Begun) (now : ℕ) (replay : Bool) (kept : List Draw) where
@@ -77,6 +81,8 @@ module _ (base : Base) (core : Core) (here : Walk) (sess : Sess) (at : At base c
             spent = subst (λ n. Spent n after.opening)
                 (sym (ap (λ d. (stopped (if_nothing d (after_deed base here d) called)).numbers) does ∙ ran-numbers base here it meant ∙ ap (or_same here.numbers) all.is))
                 (tracks-spent all.more after.opening all.tracks);
+            few = λ before behind. subst Few
+                (sym (ap (λ d. (stopped (if_nothing d (after_deed base here d) called)).numbers.identifiers) does ∙ ap (λ (n : Numbers). n.identifiers) (ran-numbers base here it meant ∙ ap (or_same here.numbers) all.is) ∙ all.tracks.given)) behind;
           }
 
       commits : (opening : Opening) (statements : List Statement) (commit : Bool) (draws over : List Draw) (meant : Meant) (after : Core) (new : Sess) (told : Telling)

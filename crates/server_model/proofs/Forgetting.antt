@@ -47,15 +47,15 @@ moves_forget base server _ _ (Reaps front back sess split) forgets = same base s
 moves_forget base server _ _ Falls forgets = down base server.core _ forgets.rises forgets.within refl _ _
 moves_forget base server _ _ (Opens below off may) forgets = record {
   rises = omega (arith, forgets.rises);
-  within = omega (arith, forgets.within, may);
-  living = λ on. omega (arith, forgets.within, may);
+  within = omega (arith, forgets.within, may.forgets);
+  living = λ on. omega (arith, forgets.within, may.forgets);
 }
 moves_forget base server _ _ (StopsOpening below core off may (inl is)) forgets =
     subst (λ (c : Core). Forgets base (record { power = Off; core = c; sessions = []; count = 0 })) (sym is) (down base server.core _ forgets.rises forgets.within refl _ _)
 moves_forget base server _ _ (StopsOpening below core off may (inr (inl is))) forgets =
-    subst (λ (c : Core). Forgets base (record { power = Off; core = c; sessions = []; count = 0 })) (sym is) (down base (forgetting server.core below) _ (omega (arith, forgets.rises)) (omega (arith, forgets.within, may)) refl _ _)
+    subst (λ (c : Core). Forgets base (record { power = Off; core = c; sessions = []; count = 0 })) (sym is) (down base (forgetting server.core below) _ (omega (arith, forgets.rises)) (omega (arith, forgets.within, may.forgets)) refl _ _)
 moves_forget base server _ _ (StopsOpening below core off may (inr (inr is))) forgets =
-    subst (λ (c : Core). Forgets base (record { power = Off; core = c; sessions = []; count = 0 })) (sym is) (down base (reopened_core (forgetting server.core below)) _ (omega (arith, forgets.rises)) (omega (arith, forgets.within, may)) refl _ _)
+    subst (λ (c : Core). Forgets base (record { power = Off; core = c; sessions = []; count = 0 })) (sym is) (down base (reopened_core (forgetting server.core below)) _ (omega (arith, forgets.rises)) (omega (arith, forgets.within, may.forgets)) refl _ _)
 
 pub runs_forget : RunsForget
 runs_forget base _ _ sound Start = record { rises = omega arith; within = sound.forgotten; living = λ on. absurd (let none : ⊥ = cc in none) }

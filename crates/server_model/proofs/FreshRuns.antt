@@ -12,6 +12,7 @@ use Rattle.server_model.proofs.Tracking.{count_in}
 use Rattle.server_model.proofs.DrawnRuns.{runs-draws, items-drawn}
 use Rattle.server_model.proofs.NewLater.{WithinOne, le-self}
 use Rattle.server_model.proofs.NewOnce.{items-once}
+use Rattle.server_model.proofs.RoomRuns.{runs_have_room}
 
 start-within : (sequences : List Sequence) (name : List ℕ) → WithinOne (count_in (map count_of sequences) name)
 start-within [] name = tt
@@ -22,6 +23,6 @@ start-within (sequence ∷ sequences) name = by (bytes_eq sequence.name name) (s
     by false more = more
 
 pub runs_fresh_new : RunsFreshNew
-runs_fresh_new base history server sound runs stops room =
+runs_fresh_new base history server sound runs stops =
     let drawn = runs-draws base history server sound runs stops [] server.core.entries (later-none history) (sym (append-nil server.core.entries)) in
-    (items-once base (walk_of base server.core.entries) (items_of history) (λ name. start-within base.sequences name) (items-drawn base (walk_of base server.core.entries) history 0 drawn.right) room).once
+    (items-once base (walk_of base server.core.entries) (items_of history) (λ name. start-within base.sequences name) (items-drawn base (walk_of base server.core.entries) history 0 drawn.right) (runs_have_room base history server sound runs stops)).once

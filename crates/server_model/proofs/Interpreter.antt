@@ -1,8 +1,9 @@
 -- The plain server as a function, where nothing stops. What it does is what `Serve` allows, so
 -- whole runs can be computed.
-use Rattle.std.specs.Prelude.{◌≡◌, ◌⊎◌, ◌||◌, ℕ, suc, Bool, true, false, not, IsTrue, List, [], ◌∷◌, ◌++◌, Option, Some, None, if◌then◌else◌}
-use Rattle.std.specs.List.{AllByRecursion}
+use Rattle.std.specs.Prelude.{◌≡◌, ◌⊎◌, ◌<◌, ◌^◌, ◌&&◌, ◌||◌, nat_lt, ℕ, suc, Bool, true, false, not, IsTrue, List, [], ◌∷◌, ◌++◌, Option, Some, None, if◌then◌else◌}
+use Rattle.std.specs.List.{AllByRecursion, list_all}
 use Rattle.std.proofs.Common.{refl, inl, inr, sym, ◌∙◌, ap, subst, append-nil, append_assoc, arith}
+use Rattle.std.proofs.lemmas.Bool.Decides.{nat_tests}
 use Rattle.std.proofs.lemmas.List.Elements.{All-from_recursion}
 use Rattle.svc_values.specs.declared.draw.Draw.{Draw}
 use Rattle.svc_values.specs.declared.draw.DrawKind.{DrawKind}
@@ -22,7 +23,7 @@ use Rattle.stmt_meaning.specs.SerialTest.{is_nil}
 use Rattle.ltxid_book.specs.Journal.{is_blocked}
 use Rattle.mutable_values.specs.declared.source.Drawn.{Drawn}
 use Rattle.mutable_values.specs.declared.source.Drawn.TheVariants as drawn
-use Rattle.mutable_values.specs.Sources.{Opening, DrawnFrom as Drew, draw_of, reserved_to}
+use Rattle.mutable_values.specs.Sources.{Opening, HasRoom, DrawnFrom as Drew, draw_of, has_room, reserved_to}
 use Rattle.server_model.specs.Core.{Core, committed, all_blocked}
 use Rattle.server_model.specs.Sessions.{Life, New, Idle, Begun, Ended, Sess, begun_with, dropped, ended, with_piece, with_work, raised, entry_of}
 use Rattle.stmt_meaning.specs.Reads.{Read, ReadsDiffer, ReadsStand}
@@ -33,6 +34,7 @@ use Rattle.server_model.specs.Serve.{Commits, InReplay, Blocks, Conflicts, Store
 use Rattle.svc_values.specs.Same.{same_rows, same_draw_kind as same_kind}
 use Rattle.server_model.specs.Legal.{differs}
 use Rattle.svc_values.specs.SameLaws.{same_rows_decide, same_draw_kind_decides as same_kind_decides}
+use Rattle.server_model.proofs.StoppedHistories.{and-left, and-right}
 
 either : {A B C : Type 0} → A ⊎ B → (A → C) → (B → C) → C
 either (inl a) one other = one a
@@ -64,8 +66,18 @@ abbrev pub first : Option Drew → List Draw → DrawKind → ℕ → Option Giv
 first None kept asked now = None
 first (Some told) kept asked now = first_in told.answer told kept asked now
 
+-- the source has room for a draw
+abbrev pub room_in : Opening → Bool
+room_in opening = list_all has_room opening.sequences && nat_lt opening.identifiers (2 ^ 60)
+
 abbrev pub draw_one : Opening → List Draw → DrawKind → ℕ → Option Given
-draw_one opening kept asked now = first (draw_of opening kept asked now) kept asked now
+draw_one opening kept asked now = if room_in opening then first (draw_of opening kept asked now) kept asked now else None
+
+has-room : (opening : Opening) → room_in opening ≡ true → HasRoom opening
+has-room opening is = record { reservations = and-left (list_all has_room opening.sequences) _ is; identifiers = below opening.identifiers (and-right (list_all has_room opening.sequences) _ is) }
+  where
+    below : (n : ℕ) → nat_lt n (2 ^ 60) ≡ true → n < 2 ^ 60
+    below n is = grind (arith, nat_tests)
 
 -- what is given is what is drawn
 second-is : (found : Option Drew) (given : Given) → second found ≡ Some given → found ≡ Some (record { answer = drawn.Value given.value; opening = given.opening; kept = given.left })
@@ -78,16 +90,23 @@ second-is (Some told) given is = by told.answer refl is
         (λ i. Some (record { answer = (same ∙ ap (λ (g : Given). drawn.Value g.value) one) i; opening = (one i).opening; kept = (one i).left }))
     by (drawn.Reserve name upto) same is = cc
 
-one-drawn : (opening : Opening) (kept : List Draw) (asked : DrawKind) (now : ℕ) (found : Option Drew) (given : Given) → draw_of opening kept asked now ≡ found → first found kept asked now ≡ Some given → Draws kept asked now opening given.value given.opening given.left
-one-drawn opening kept asked now None given same is = cc
-one-drawn opening kept asked now (Some told) given same is = by told.answer refl is
+told-drawn : (opening : Opening) (kept : List Draw) (asked : DrawKind) (now : ℕ) (found : Option Drew) (given : Given) → HasRoom opening → draw_of opening kept asked now ≡ found → first found kept asked now ≡ Some given → Draws kept asked now opening given.value given.opening given.left
+told-drawn opening kept asked now None given room same is = cc
+told-drawn opening kept asked now (Some told) given room same is = by told.answer refl is
   where
     by : (answer : Drawn) → told.answer ≡ answer → first_in answer told kept asked now ≡ Some given → Draws kept asked now opening given.value given.opening given.left
     by (drawn.Value value) at is =
         let one : record { value = value; opening = told.opening; left = told.kept } ≡ given = some_is _ given is in
-        Gives opening given.opening given.value given.left (same ∙ (λ i. Some (record { answer = (at ∙ ap (λ (g : Given). drawn.Value g.value) one) i; opening = (one i).opening; kept = (one i).left })))
+        Gives opening given.opening given.value given.left room (same ∙ (λ i. Some (record { answer = (at ∙ ap (λ (g : Given). drawn.Value g.value) one) i; opening = (one i).opening; kept = (one i).left })))
     by (drawn.Reserve name upto) at is =
-        Reserves opening told.opening given.opening name upto told.kept given.value given.left (same ∙ (λ i. Some (record { answer = at i; opening = told.opening; kept = told.kept }))) (second-is (draw_of (reserved_to told.opening name upto) kept asked now) given is)
+        Reserves opening told.opening given.opening name upto told.kept given.value given.left room (same ∙ (λ i. Some (record { answer = at i; opening = told.opening; kept = told.kept }))) (second-is (draw_of (reserved_to told.opening name upto) kept asked now) given is)
+
+one-drawn : (opening : Opening) (kept : List Draw) (asked : DrawKind) (now : ℕ) (given : Given) → draw_one opening kept asked now ≡ Some given → Draws kept asked now opening given.value given.opening given.left
+one-drawn opening kept asked now given is = by (room_in opening) refl is
+  where
+    by : (b : Bool) → room_in opening ≡ b → (if b then first (draw_of opening kept asked now) kept asked now else None) ≡ Some given → Draws kept asked now opening given.value given.opening given.left
+    by true room found = told-drawn opening kept asked now (draw_of opening kept asked now) given (has-room opening room) refl found
+    by false room found = cc
 
 -- ---- the draws of a call
 
@@ -164,7 +183,7 @@ if_given-is core sess called now before opening left asked (Some given) next fou
         let rest = inner given more found_more in
         let here : Found = record { draws = given.value ∷ more.draws; opening = more.opening; left = more.left; meant = more.meant } in
         let drawn_here : Draws left (kind_drawn given.value) now opening given.value given.opening given.left =
-        subst (λ k. Draws left k now opening given.value given.opening given.left) (sym ((same_kind_decides (kind_drawn given.value) asked).0 kind)) (one-drawn opening left asked now _ given refl drew) in
+        subst (λ k. Draws left k now opening given.value given.opening given.left) (sym ((same_kind_decides (kind_drawn given.value) asked).0 kind)) (one-drawn opening left asked now given drew) in
         let is_here : FoundIs core sess called now before opening left here = record {
           drew = (given.opening, given.left, (drawn_here, rest.drew));
           means = subst (λ ds. Means core sess called ds more.meant) (append_assoc before (given.value ∷ []) more.draws) rest.means;

@@ -34,6 +34,8 @@ pub mod Offered
 pub mod PlainAnswers
 pub mod Raising
 pub mod Ran
+pub mod RoomKept
+pub mod RoomRuns
 pub mod SameNames
 pub mod SameNamesRuns
 pub mod SerialFrames

@@ -80,8 +80,8 @@ reserved-tags : (opening : Opening) (name : List ℕ) (upto : ℤ) → tags (res
 reserved-tags opening name upto = changed-tags (λ sequence. record sequence { upto = upto }) (λ s. refl) name opening.sequences
 
 one-tags : (kept : List Draw) (asked : DrawKind) (now : ℕ) (before : Opening) (given : Draw) (after : Opening) (left : List Draw) → Draws kept asked now before given after left → tags after ≡ tags before
-one-tags kept asked now _ _ _ _ (Gives before after given left is) = draw-tags before kept asked now _ is
-one-tags kept asked now _ _ _ _ (Reserves before between after name upto same given left wants is) =
+one-tags kept asked now _ _ _ _ (Gives before after given left room is) = draw-tags before kept asked now _ is
+one-tags kept asked now _ _ _ _ (Reserves before between after name upto same given left room wants is) =
     draw-tags (reserved_to between name upto) kept asked now _ is ∙ reserved-tags between name upto ∙ draw-tags before kept asked now _ wants
 
 -- the draws of a call leave them,

@@ -72,8 +72,8 @@ unfolding draw_of
 draw-stays opening kept asked now told is = from-stays (first_kept asked kept) opening kept asked now told (if-some (is_there (names_of opening.sequences) asked) _ told is)
 
 one-stays : (kept : List Draw) (asked : DrawKind) (now : ℕ) (before : Opening) (given : Draw) (after : Opening) (left : List Draw) → Draws kept asked now before given after left → after.incarnation ≡ before.incarnation
-one-stays kept asked now _ _ _ _ (Gives before after given left is) = draw-stays before kept asked now _ is
-one-stays kept asked now _ _ _ _ (Reserves before between after name upto same given left wants is) = draw-stays (reserved_to between name upto) kept asked now _ is ∙ draw-stays before kept asked now _ wants
+one-stays kept asked now _ _ _ _ (Gives before after given left room is) = draw-stays before kept asked now _ is
+one-stays kept asked now _ _ _ _ (Reserves before between after name upto same given left room wants is) = draw-stays (reserved_to between name upto) kept asked now _ is ∙ draw-stays before kept asked now _ wants
 
 pub all-stays : (now : ℕ) (draws : List Draw) (before : Opening) (kept : List Draw) (after : Opening) (left : List Draw) → DrawsAll now before kept draws after left → after.incarnation ≡ before.incarnation
 all-stays now [] before kept after left drew = ap (λ (o : Opening). o.incarnation) drew.0

@@ -220,5 +220,5 @@ pub takes : (kept : List Draw) (given : Draw) (now : ℕ) (before after : Openin
 takes kept given now before after left drew = by before after left drew
   where
     by : (one other : Opening) (rest : List Draw) → Draws kept (kind_drawn given) now one given other rest → Takes kept now one given other rest
-    by _ _ _ (Gives one other _ rest is) = by-given kept (kind_drawn given) now one given other rest refl (draw_of one kept (kind_drawn given) now) is (draws_by one kept now (kind_drawn given))
-    by _ _ _ (Reserves one between other name upto same _ rest wants is) = by-reserved kept (kind_drawn given) now one given other rest refl between name upto same (draw_of one kept (kind_drawn given) now) wants (draws_by one kept now (kind_drawn given)) is
+    by _ _ _ (Gives one other _ rest room is) = by-given kept (kind_drawn given) now one given other rest refl (draw_of one kept (kind_drawn given) now) is (draws_by one kept now (kind_drawn given))
+    by _ _ _ (Reserves one between other name upto same _ rest room wants is) = by-reserved kept (kind_drawn given) now one given other rest refl between name upto same (draw_of one kept (kind_drawn given) now) wants (draws_by one kept now (kind_drawn given)) is

@@ -134,7 +134,7 @@ second = does first.core (added 2 (pos 7)) (asks commit)
 both-runs : Runs bank (both (answer.Conflict ∷ [])) (record { power = On; core = second.core; sessions = first.sess ∷ second.sess ∷ []; count = 2 })
 unfolding acc id bal row bank session get add commit asks connect begin replies rows both or_stay does opened fresh idle begun got added first second
 both-runs =
-    let on : Runs bank [] (record { power = On; core = opened; sessions = []; count = 0 }) = Then [] [] _ _ Start (Opens 0 refl (omega arith)) in
+    let on : Runs bank [] (record { power = On; core = opened; sessions = []; count = 0 }) = Then [] [] _ _ Start (Opens 0 refl (record { spelled = omega arith; forgets = omega arith })) in
     let one : Runs bank [] (record { power = On; core = opened; sessions = fresh 1 ∷ []; count = 1 }) = Then [] [] _ _ on (Makes refl) in
     let two : Runs bank [] (record { power = On; core = opened; sessions = fresh 1 ∷ fresh 2 ∷ []; count = 2 }) = Then [] [] _ _ one (Makes refl) in
     let r1 = serves [] _ [] (fresh 2 ∷ []) (fresh 1) up.Connect (does opened (fresh 1) up.Connect) two refl refl refl refl in

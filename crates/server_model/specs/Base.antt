@@ -1,5 +1,5 @@
 -- What a service begins with, and what stays so.
-use Rattle.std.specs.Prelude.{◌≡◌, ◌+◌, ◌≤◌, ℕ, ℤ, Bool, List, map, All}
+use Rattle.std.specs.Prelude.{◌≡◌, ◌+◌, ◌<◌, ◌≤◌, ◌^◌, ℕ, ℤ, Bool, List, map, All}
 use Rattle.svc_values.specs.declared.schema.Shape.{Shape}
 use Rattle.svc_values.specs.declared.entry.Entry.{Entry}
 use Rattle.svc_values.specs.declared.entry.Ltxid.{Ltxid}
@@ -35,11 +35,13 @@ abbrev pub name_of : Sequence → List ℕ
 name_of sequence = sequence.name
 
 -- What holds of every base that a store gives: the shape names the sequences, the tables are in
--- order and fit the shape, no entry is of a later incarnation, each blocked identifier is its
--- session's next one, and at most all incarnations so far are forgotten.
+-- order and fit the shape, its incarnation can be spelled in eight bytes, no entry is of a later one,
+-- each blocked identifier is its session's next one, and at most all incarnations so far are
+-- forgotten.
 pub record IsSound (base : Base) : Type 0 where
   pub names : base.shape.sequences ≡ map name_of base.sequences
   pub fitting : IsBase base.shape base.tables
+  pub spelled : base.incarnation < 2 ^ 64
   pub earlier : All (λ entry. entry.ltxid.incarnation ≤ base.incarnation) base.entries
   pub standing : BlocksStand (map committed_of base.entries) base.blocked
   pub forgotten : base.horizon ≤ base.incarnation + 1

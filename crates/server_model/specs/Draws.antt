@@ -6,19 +6,19 @@ use Rattle.stmt_meaning.specs.Asked.{kind_drawn}
 use Rattle.mutable_values.specs.declared.source.Drawn.TheVariants as drawn
 use Rattle.mutable_values.specs.declared.grants.Grants.{Grants}
 use Rattle.mutable_values.specs.Granting.{granted_of}
-use Rattle.mutable_values.specs.Sources.{Opening, draw_of, reserved_to}
+use Rattle.mutable_values.specs.Sources.{Opening, HasRoom, draw_of, reserved_to}
 
 -- the kept draws that a frame brings: with the mark those that are granted, without it none
 abbrev pub brought : Grants → Opening → Bool → List Draw → List Draw
 brought grants opening replay kept = if replay then granted_of grants opening.sequences kept else []
 
--- A value is drawn. Where a block has to be set aside first, it is stored, and the same draw then
--- gives the value.
+-- A value is drawn, of a source that has room. Where a block has to be set aside first, it is stored,
+-- and the same draw then gives the value.
 pub data Draws (kept : List Draw) (asked : DrawKind) (now : ℕ) : Opening → Draw → Opening → List Draw → Type 0 where
-  Gives : (before after : Opening) (given : Draw) (left : List Draw)
+  Gives : (before after : Opening) (given : Draw) (left : List Draw) → HasRoom before
       → draw_of before kept asked now ≡ Some (record { answer = drawn.Value given; opening = after; kept = left })
       → Draws kept asked now before given after left
-  Reserves : (before between after : Opening) (name : List ℕ) (upto : ℤ) (same : List Draw) (given : Draw) (left : List Draw)
+  Reserves : (before between after : Opening) (name : List ℕ) (upto : ℤ) (same : List Draw) (given : Draw) (left : List Draw) → HasRoom before
       → draw_of before kept asked now ≡ Some (record { answer = drawn.Reserve name upto; opening = between; kept = same })
       → draw_of (reserved_to between name upto) kept asked now ≡ Some (record { answer = drawn.Value given; opening = after; kept = left })
       → Draws kept asked now before given after left

@@ -112,10 +112,13 @@ RunsLegal = (base : Base) (history : List Happened) (server : Server) → IsSoun
 abbrev pub RunsAlerts : Type 0
 RunsAlerts = (base : Base) (history : List Happened) (server : Server) → Runs base history server → lines_stand (lines_of (items_of history)) server.core.alerts ≡ true
 
--- What was drawn anew is drawn once, as long as identifiers can be spelled.
+-- No opening counts identifiers past what they can spell: a source gives none where it has no room.
+abbrev pub RunsHaveRoom : Type 0
+RunsHaveRoom = (base : Base) (history : List Happened) (server : Server) → IsSound base → Runs base history server → stops_last history ≡ true → has_room base (items_of history) server.core.entries ≡ true
+
+-- So what was drawn anew is drawn once.
 abbrev pub RunsFreshNew : Type 0
-RunsFreshNew = (base : Base) (history : List Happened) (server : Server) → IsSound base → Runs base history server → stops_last history ≡ true → has_room base (items_of history) server.core.entries ≡ true
-    → fresh_new base (items_of history) server.core.entries ≡ true
+RunsFreshNew = (base : Base) (history : List Happened) (server : Server) → IsSound base → Runs base history server → stops_last history ≡ true → fresh_new base (items_of history) server.core.entries ≡ true
 
 -- Each frame is told as it has to be.
 abbrev pub RunsTold : Type 0
@@ -255,7 +258,7 @@ pub record ServesRight (seen : Seen) : Type 0 where
   pub entries : seen.state.store.entries ≡ seen.start.entries ++ gained
   pub alerts : seen.state.store.alerts ≡ seen.start.alerts ++ lines
   pub served : legal seen.start (items_of seen.history) gained lines ≡ true
-  pub drawn : has_room seen.start (items_of seen.history) gained ≡ true → fresh_new seen.start (items_of seen.history) gained ≡ true
+  pub drawn : fresh_new seen.start (items_of seen.history) gained ≡ true
   pub told : told_right seen.start seen.history gained ≡ true
 
 abbrev pub ServiceRuns : Type 0

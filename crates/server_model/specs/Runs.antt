@@ -1,6 +1,6 @@
 -- A history of the plain server: what happened, one thing after the other, and where the server
 -- stands then.
-use Rattle.std.specs.Prelude.{◌≡◌, ◌≤◌, ◌⊎◌, ◌+◌, max, ℕ, Bool, true, false, IsTrue, List, [], ◌∷◌, ◌++◌}
+use Rattle.std.specs.Prelude.{◌≡◌, ◌<◌, ◌≤◌, ◌⊎◌, ◌+◌, ◌^◌, max, ℕ, Bool, true, false, IsTrue, List, [], ◌∷◌, ◌++◌}
 use Rattle.svc_values.specs.declared.entry.Ltxid.{Ltxid}
 use Rattle.svc_values.specs.declared.frame.Up.{Up}
 use Rattle.svc_values.specs.declared.frame.Down.{Down}
@@ -57,9 +57,11 @@ reopened_core core = record core { opening = opening_after core.opening (core.op
 abbrev pub forgetting : Core → ℕ → Core
 forgetting core below = record core { horizon = max core.horizon below }
 
--- at most the incarnations so far may be forgotten: their sessions have ended
-abbrev pub MayForget : Core → ℕ → Type 0
-MayForget core below = below ≤ core.opening.incarnation + 1
+-- The next incarnation can be spelled in eight bytes, and at most the incarnations so far are to be
+-- forgotten: their sessions have ended.
+pub record MayOpen (core : Core) (below : ℕ) : Type 0 where
+  pub spelled : core.opening.incarnation + 1 < 2 ^ 64
+  pub forgets : below ≤ core.opening.incarnation + 1
 
 -- One session of the server, with those before and behind it, comes to be another, and the core
 -- too.
@@ -87,9 +89,9 @@ pub data Moves (server : Server) : List Happened → Server → Type 0 where
   -- a crash ends all sessions. What it leaves of a stopped call is chosen in the move of that call
   Falls : Moves server [] (record { power = Off; core = server.core; sessions = []; count = 0 })
   -- an opening stores the horizon that is wanted, and then its incarnation
-  Opens : (below : ℕ) → server.power ≡ Off → MayForget server.core below → Moves server [] (record { power = On; core = reopened_core (forgetting server.core below); sessions = []; count = 0 })
+  Opens : (below : ℕ) → server.power ≡ Off → MayOpen server.core below → Moves server [] (record { power = On; core = reopened_core (forgetting server.core below); sessions = []; count = 0 })
   -- one that is stopped has stored neither, the horizon or both
-  StopsOpening : (below : ℕ) (core : Core) → server.power ≡ Off → MayForget server.core below → (core ≡ server.core) ⊎ ((core ≡ forgetting server.core below) ⊎ (core ≡ reopened_core (forgetting server.core below)))
+  StopsOpening : (below : ℕ) (core : Core) → server.power ≡ Off → MayOpen server.core below → (core ≡ server.core) ⊎ ((core ≡ forgetting server.core below) ⊎ (core ≡ reopened_core (forgetting server.core below)))
       → Moves server [] (record { power = Off; core = core; sessions = []; count = 0 })
 
 -- a whole history, from the server as it was made

@@ -1,5 +1,5 @@
 //! Laws of the plain server. Each function does nothing, and its contract is the law.
-ghost use Rattle.server_model.specs.Laws.{ServeGrows, ServeStays, RunsForget, RunsSerial, RunsStand, NeverAfterBlock, EntryNumbers, EntryFromItem, AnswersStand, MarkedStoresNone, BlocksAreStored, TellsNext, TellsOutcomes, TellsAsks, RunsAlerts, RunsTold, RunsLegal, RunsFreshNew, RunsFront, RunsLast, RunsStopped, ServiceStores, ServiceStands, ServiceRuns};
+ghost use Rattle.server_model.specs.Laws.{ServeGrows, ServeStays, RunsForget, RunsSerial, RunsStand, NeverAfterBlock, EntryNumbers, EntryFromItem, AnswersStand, MarkedStoresNone, BlocksAreStored, TellsNext, TellsOutcomes, TellsAsks, RunsAlerts, RunsTold, RunsLegal, RunsHaveRoom, RunsFreshNew, RunsFront, RunsLast, RunsStopped, ServiceStores, ServiceStands, ServiceRuns};
 
 /// A frame stores no entry, or one of its session, under its identifier, which is not blocked. It
 /// leaves the base, the incarnation and which session it is.
@@ -67,7 +67,13 @@ pub fn runs_legal()
     ensures { RunsLegal }
 {}
 
-/// What was drawn anew in a run was drawn once, over all openings, as long as identifiers can be spelled.
+/// A run counts no more identifiers in an opening than can be spelled, since its source gives none where it
+/// has no room.
+pub fn runs_have_room()
+    ensures { RunsHaveRoom }
+{}
+
+/// What was drawn anew in a run was drawn once, over all openings.
 pub fn runs_fresh_new()
     ensures { RunsFreshNew }
 {}
