@@ -10,7 +10,7 @@ use Rattle.svc_values.specs.declared.draw.DrawKind.{DrawKind}
 use Rattle.svc_values.specs.declared.draw.DrawKind.TheVariants as kind
 use Rattle.svc_values.specs.Draws.{is_of_kind}
 use Rattle.mutable_values.specs.declared.source.Drawn.TheVariants as drawn
-use Rattle.mutable_values.specs.Sources.{Opening, DrawnFrom, draw_of, reserved_to}
+use Rattle.mutable_values.specs.Sources.{Opening, HasRoom, DrawnFrom, draw_of, reserved_to}
 use Rattle.redo_store.specs.declared.fault.RedoFault.{RedoFault}
 use Rattle.redo_store.specs.declared.fault.RedoFault.TheVariants as log_fault
 use Rattle.commit_log.specs.declared.journal.Reservation.{Reservation}
@@ -48,13 +48,13 @@ pub dealt_none : (now : ℕ) (desk : AtDesk) → IsPrepared desk.opening desk.lo
 dealt_none now desk prepared = record { reservations = []; few = omega arith; gained = gained_none desk.disk; draws = (refl, refl); prepared = prepared }
 
 -- a source that gives a value at once
-pub dealt_value : (now : ℕ) (before : AtDesk) (asked : DrawKind) (given : Draw) (opening : Opening) (left : List Draw) → IsPrepared before.opening before.log before.disk
+pub dealt_value : (now : ℕ) (before : AtDesk) (asked : DrawKind) (given : Draw) (opening : Opening) (left : List Draw) → IsPrepared before.opening before.log before.disk → HasRoom before.opening
     → draw_of before.opening before.left asked now ≡ Some (record { answer = drawn.Value given; opening = opening; kept = left }) → is_of_kind asked given ≡ true
     → HasDealt now before (given ∷ []) (record { opening = opening; left = left; log = before.log; disk = before.disk })
-dealt_value now before asked given opening left prepared is of_kind =
+dealt_value now before asked given opening left prepared room is of_kind =
     let told : DrawnFrom = record { answer = drawn.Value given; opening = opening; kept = left } in
     let here : Draws before.left (kind_drawn given) now before.opening given opening left =
-    subst (λ (k : DrawKind). Draws before.left k now before.opening given opening left) (sym (kind_is asked given of_kind)) (Gives before.opening opening given left is) in
+    subst (λ (k : DrawKind). Draws before.left k now before.opening given opening left) (sym (kind_is asked given of_kind)) (Gives before.opening opening given left room is) in
     record {
       reservations = [];
       few = omega arith;
@@ -69,16 +69,16 @@ one_at_most name (draw.Clock tick) e = cc
 one_at_most name (draw.Id id) e = cc
 
 -- a source that has to store a reservation first
-pub dealt_reserved : (now : ℕ) (before : AtDesk) (asked : DrawKind) (name : List ℕ) (upto : ℤ) (between : Opening) (same : List Draw) (given : Draw) (opening : Opening) (left : List Draw) (log : Log) (disk : DiskState)
+pub dealt_reserved : (now : ℕ) (before : AtDesk) (asked : DrawKind) (name : List ℕ) (upto : ℤ) (between : Opening) (same : List Draw) (given : Draw) (opening : Opening) (left : List Draw) (log : Log) (disk : DiskState) → HasRoom before.opening
     → draw_of before.opening before.left asked now ≡ Some (record { answer = drawn.Reserve name upto; opening = between; kept = same })
     → HasReserved name upto between before.disk (reserved_to between name upto) log disk
     → draw_of (reserved_to between name upto) before.left asked now ≡ Some (record { answer = drawn.Value given; opening = opening; kept = left }) → is_of_kind asked given ≡ true
     → HasDealt now before (given ∷ []) (record { opening = opening; left = left; log = log; disk = disk })
-dealt_reserved now before asked name upto between same given opening left log disk wanted reserved is of_kind =
+dealt_reserved now before asked name upto between same given opening left log disk room wanted reserved is of_kind =
     let told : DrawnFrom = record { answer = drawn.Value given; opening = opening; kept = left } in
     let asks = asks_reservation before.opening before.left asked now name upto between same wanted in
     let here : Draws before.left (kind_drawn given) now before.opening given opening left =
-    subst (λ (k : DrawKind). Draws before.left k now before.opening given opening left) (sym (kind_is asked given of_kind)) (ReservesFirst before.opening between opening name upto same given left wanted is) in
+    subst (λ (k : DrawKind). Draws before.left k now before.opening given opening left) (sym (kind_is asked given of_kind)) (ReservesFirst before.opening between opening name upto same given left room wanted is) in
     record {
       reservations = reservation_of name upto ∷ [];
       few = one_at_most name given (kind_is asked given of_kind ∙ asks.kind_is);

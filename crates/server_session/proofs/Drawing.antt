@@ -6,7 +6,7 @@ use Rattle.svc_values.specs.declared.draw.Draw.{Draw}
 use Rattle.svc_values.specs.declared.draw.DrawKind.{DrawKind}
 use Rattle.mutable_values.specs.declared.source.Drawn.{Drawn}
 use Rattle.mutable_values.specs.declared.source.Drawn.TheVariants as drawn
-use Rattle.mutable_values.specs.Sources.{Opening, DrawnFrom, draw_of, may_reserve, names_of, reserved_to}
+use Rattle.mutable_values.specs.Sources.{Opening, HasRoom, DrawnFrom, draw_of, may_reserve, names_of, reserved_to}
 use Rattle.mutable_values.proofs.Offered.{gives_as_asked, may_reserve_next}
 use Rattle.commit_log.specs.declared.log.Log.{Log}
 use Rattle.commit_log.specs.Logs.{is_live}
@@ -50,13 +50,13 @@ module _ (now : ℕ) (asked : DrawKind) (opening : Opening) (left : List Draw) (
   }
 
   -- the source gave a value
-  pub answered_value : (given : Draw) (later : Opening) (rest : List Draw) → IsPrepared opening log disk
+  pub answered_value : (given : Draw) (later : Opening) (rest : List Draw) → IsPrepared opening log disk → HasRoom opening
       → draw_of opening left asked now ≡ Some (record { answer = drawn.Value given; opening = later; kept = rest }) → HasAnswered now (desk_at opening left log disk) asked (Ok given) (desk_at later rest log disk)
-  answered_value given later rest prepared is =
+  answered_value given later rest prepared room is =
       let told : DrawnFrom = record { answer = drawn.Value given; opening = later; kept = rest } in
       let of_kind = gives_as_asked opening later left rest asked now given is in
       record {
-        drawn = (of_kind, dealt_value now (desk_at opening left log disk) asked given later rest prepared is of_kind);
+        drawn = (of_kind, dealt_value now (desk_at opening left log disk) asked given later rest prepared room is of_kind);
         names = names_after opening left asked now told is;
         ready = λ live. prepared_after opening left asked now told log disk is prepared;
       }
@@ -109,9 +109,9 @@ module _ (now : ℕ) (asked : DrawKind) (opening : Opening) (left : List Draw) (
       answered_again other end_of after rest is = answered_lacked_behind after rest (asks_reservation later same asked now other end_of after rest is).opening_is
 
       -- or gave the value
-      pub answered_reserved : (given : Draw) (after : Opening) (rest : List Draw) → draw_of later same asked now ≡ Some (record { answer = drawn.Value given; opening = after; kept = rest })
+      pub answered_reserved : (given : Draw) (after : Opening) (rest : List Draw) → HasRoom opening → draw_of later same asked now ≡ Some (record { answer = drawn.Value given; opening = after; kept = rest })
           → HasAnswered now (desk_at opening left log disk) asked (Ok given) (desk_at after rest last end)
-      answered_reserved given after rest is =
+      answered_reserved given after rest room is =
           let told : DrawnFrom = record { answer = drawn.Value given; opening = after; kept = rest } in
           let of_kind = gives_as_asked later after same rest asked now given is in
           let here : draw_of (reserved_to between name upto) left asked now ≡ Some told =
@@ -119,7 +119,7 @@ module _ (now : ℕ) (asked : DrawKind) (opening : Opening) (left : List Draw) (
           (subst (λ (l : List Draw). draw_of later l asked now ≡ Some told) (asks_reservation opening left asked now name upto between same wanted).left_is is) in
           let stored : HasReserved name upto between disk (reserved_to between name upto) last end = subst (λ (o : Opening). HasReserved name upto between disk o last end) reserved.told reserved in
           record {
-            drawn = (of_kind, dealt_reserved now (desk_at opening left log disk) asked name upto between same given after rest last end wanted stored here of_kind);
+            drawn = (of_kind, dealt_reserved now (desk_at opening left log disk) asked name upto between same given after rest last end room wanted stored here of_kind);
             names = names_after later same asked now told is ∙ names_reserved;
             ready = λ live. prepared_after later same asked now told last end is reserved.prepared;
           }

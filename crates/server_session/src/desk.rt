@@ -2,7 +2,7 @@
 //! reservations are stored before a value of one is given.
 ghost use Rattle.std.specs.Prelude.{◌≡◌, true, IsTrue, IfOk, OnErr, IsErrOf, Some};
 ghost use Rattle.svc_values.specs.Draws.{is_there as is_there_def};
-ghost use Rattle.mutable_values.specs.Sources.{draw_of, may_reserve, names_of};
+ghost use Rattle.mutable_values.specs.Sources.{HasRoom, draw_of, may_reserve, names_of};
 ghost use Rattle.server_session.specs.Dealing.{IsPrepared, IsReady, Reserves, DealsAs};
 
 use crate::store::stored;
@@ -96,6 +96,7 @@ fn ask(
     now: u64,
 ) -> Result<Drawn, ServeFault>
     ensures asked { IfOk result (λ told. draw_of source.old kept.old kind.now now ≡ Some (record { answer = told; opening = source.new; kept = kept.new })) }
+    ensures room { IfOk result (λ told. HasRoom source.old) }
     ensures source { OnErr result (source.new ≡ source.old) }
     ensures kept { OnErr result (kept.new ≡ kept.old) }
     ensures err { OnErr result (IsErrOf result ServeFault.NoMemory) }

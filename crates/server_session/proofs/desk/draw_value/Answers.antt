@@ -13,7 +13,7 @@ returns-in-Value g c =
     let disk = g.D.Disk.state c.args.disk.now in
     let prepared = c.requires.ready (sym c.is_live.ensures ∙ c.if-not-is_live.false) in
     let told = told_as c.args.source.now c.args.kept.now c.args.kind.now c.args.now c.in_ok-draw.field-0 (drawn.Value c.in-Value.draw) c.ask.new.source c.ask.new.kept c.in_ok-draw.ensures.asked c.in-Value.is in
-    let h = answered_value c.args.now c.args.kind.now c.args.source.now c.args.kept.now c.args.log.now disk c.in-Value.draw c.ask.new.source c.ask.new.kept prepared told in
+    let h = answered_value c.args.now c.args.kind.now c.args.source.now c.args.kept.now c.args.log.now disk c.in-Value.draw c.ask.new.source c.ask.new.kept prepared c.in_ok-draw.ensures.room told in
     record { drawn = h.drawn; names = h.names; ready = h.ready }
 
 pub reserve-requires : goal.reserve-requires
@@ -62,7 +62,7 @@ returns-in-Value-2 g c =
     let reserved = subst (λ (z : ℤ). HasReserved c.in-Reserve.name z c.ask.new.source disk c.reserve.new.source c.reserve.new.log (state c.reserve.new.disk)) same c.in_ok-reserve-in-Reserve.ensures in
     let again = told_as c.reserve.new.source c.ask.new.kept c.args.kind.now c.args.now c.in_ok-draw-in-Reserve.field-0 (drawn.Value c.in-Value-2.draw) c.ask-in-Reserve.new.source c.ask-in-Reserve.new.kept c.in_ok-draw-in-Reserve.ensures.asked c.in-Value-2.is in
     let h = answered_reserved c.args.now c.args.kind.now c.args.source.now c.args.kept.now c.args.log.now disk c.in-Reserve.name c.in-Reserve.upto c.ask.new.source c.ask.new.kept prepared told
-    c.reserve.new.source c.reserve.new.log (state c.reserve.new.disk) reserved c.in-Value-2.draw c.ask-in-Reserve.new.source c.ask-in-Reserve.new.kept again in
+    c.reserve.new.source c.reserve.new.log (state c.reserve.new.disk) reserved c.in-Value-2.draw c.ask-in-Reserve.new.source c.ask-in-Reserve.new.kept c.in_ok-draw.ensures.room again in
     record { drawn = h.drawn; names = h.names; ready = h.ready }
 
 pub returns : goal.returns
