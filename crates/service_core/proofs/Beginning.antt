@@ -1,5 +1,5 @@
 -- What a service begins with is such as a service may begin with: its tables are in order and fit, and it is what a journal keeps to.
-use Rattle.std.proofs.Common.{◌≡◌, ◌∙◌, ℕ, Bool, true, false, refl, ap, List, [], ◌∷◌, map}
+use Rattle.std.proofs.Common.{◌≡◌, ◌∙◌, ℕ, Bool, true, false, refl, ap, List, [], ◌∷◌, map, arith}
 use Rattle.std.specs.Prelude.{if◌then◌else◌}
 use Rattle.std.specs.List.{list_all, flat_map}
 use Rattle.std.proofs.lemmas.List.Folds.{list_all-append}
@@ -97,6 +97,7 @@ base_sound image journal grants keeps =
         ordered = AreTables-with_writes (start_of journal.base) writes (ordered (flat_map rows_of journal.base.tables) (start_apart journal.base keeps.base));
         fitting = fits_written schemas (start_of journal.base) writes (fits_ordered schemas (flat_map rows_of journal.base.tables) (start_fits journal.base keeps.base)) (entries_fit schemas journal.entries fitting);
       };
+      spelled = let few = keeps.incarnation in omega (arith, few);
       earlier = keeps.commits.earlier;
       standing = keeps.commits.standing;
       forgotten = keeps.horizon;

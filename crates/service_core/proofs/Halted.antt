@@ -12,7 +12,7 @@ use Rattle.mutable_values.specs.declared.grants.Grants.{Grants}
 use Rattle.server_model.specs.declared.fault.ServeFault.{ServeFault}
 use Rattle.server_model.specs.declared.fault.ServeFault.TheVariants as fault
 use Rattle.server_model.specs.Base.{Base}
-use Rattle.server_model.specs.Runs.{Happened, Server, Off, On, Runs, Then, StopsOpening, MayForget}
+use Rattle.server_model.specs.Runs.{Happened, Server, Off, On, Runs, Then, StopsOpening, MayOpen}
 use Rattle.server_model.specs.Seen.{Store, HasPower}
 use Rattle.server_model.specs.ServiceCalls.{StoppedOpening, OpenedSoFar, Neither, Forgets, Both, MayForget as MayForgetAt}
 use Rattle.server_session.specs.declared.shared.Core.{Core}
@@ -26,7 +26,7 @@ use Rattle.service_core.specs.Seeing.{store_in, store_of, state_in, Stands, Stan
 use Rattle.service_core.specs.Sound.{IsDown, IsSound, IsSoundWithin, Reads}
 use Rattle.service_core.proofs.Falling.{one_base}
 use Rattle.service_core.proofs.Faulty.{rises, never_falls, still_counted, still_none_by_less, none_before}
-use Rattle.service_core.proofs.Opened.{down_of, stands_down, may_forget}
+use Rattle.service_core.proofs.Opened.{down_of, stands_down, may_forget, may_open}
 use Rattle.service_core.proofs.Reaching.{Reaches, IsPartOf, reaches, grows_now}
 use Rattle.service_core.proofs.Reopening.{follows}
 use Rattle.service_core.proofs.Standing.{goes_from}
@@ -114,15 +114,15 @@ down_stands grants disk (Some core) held notes start history off stands = absurd
 never_on : Off ≢ On
 never_on same = absurd (cc)
 
-halted_stands : (old : Within) (new : DiskState) (stop : Option ℕ) (below calls : ℕ) (start : Base) (history : List Happened) → RaisesHorizon → is_some old.core ≡ false → old.notes.is_settled ≡ true → IsSoundWithin old → MayForgetAt (state_in old) below → IsHalted below calls old.disk new
+halted_stands : (old : Within) (new : DiskState) (stop : Option ℕ) (below calls : ℕ) (start : Base) (history : List Happened) → RaisesHorizon → old.notes.calls < 2 ^ 48 → is_some old.core ≡ false → old.notes.is_settled ≡ true → IsSoundWithin old → MayForgetAt (state_in old) below → IsHalted below calls old.disk new
     → StandsIn old start history → StandsIn (halted_from old new stop) start history
-halted_stands old new stop below calls start history raises off settled sound may halted stands =
+halted_stands old new stop below calls start history raises few off settled sound may halted stands =
     let down = down_of old off sound in
     let read = down.leaves old.disk.now.seen down.reads_now in
     let came = stands_down old start history off stands old.disk.now.seen down.reads_now in
     let stored = subst (λ (r : Result Journal ℕ). IfOk r (IsStored came.server.core)) read.reads came.stands.stored in
     let power : came.server.power ≡ Off = subst (λ (b : Bool). HasPower false b came.server.power) settled came.stands.power in
-    let forgets : MayForget came.server.core below = subst (λ (n : ℕ). below ≤ n + 1) (sym stored.source.incarnation) (may_forget old read.journal below read.reads may) in
+    let opens : MayOpen came.server.core below = may_open came.server.core read.journal below stored (omega (arith, few, read.room)) (may_forget old read.journal below read.reads may) in
     down_stands old.grants new old.core old.held (halted_notes old.notes stop) start history off
     (λ image leaves.
     let reached = reaches_in old new below calls raises settled down halted image leaves in
@@ -130,7 +130,7 @@ halted_stands old new stop below calls start history raises off settled sound ma
     let server : Server = record { power = Off; core = follow.core; sessions = []; count = 0 } in
     record {
       server = server;
-      runs = subst (λ (h : List Happened). Runs start h server) (append-nil history) (Then history [] came.server server came.runs (StopsOpening below follow.core power forgets follow.part));
+      runs = subst (λ (h : List Happened). Runs start h server) (append-nil history) (Then history [] came.server server came.runs (StopsOpening below follow.core power opens follow.part));
       is_base = follow.base ∙ came.is_base;
       stands = record {
         power = never_on;
@@ -166,7 +166,7 @@ halts old new stop below calls same raises live few off settled sound may halted
     (λ image leaves. so_far_stored read.journal below old.disk.now.seen image read.reads (reaches_in old new below calls raises settled down halted image leaves)) in
     record {
       later = history;
-      stands = halted_stands old new stop below calls start history raises off settled sound may halted stands;
+      stands = halted_stands old new stop below calls start history raises few off settled sound may halted stands;
       does = record {
         keeps = record {
           start = refl;

@@ -1,5 +1,5 @@
 -- What a service is seen as after an opening.
-use Rattle.std.proofs.Common.{◌≡◌, ◌∙◌, ◌+◌, ◌≤◌, ℕ, Bool, true, false, refl, sym, ap, subst, List, [], ◌∷◌, map, append-nil, arith}
+use Rattle.std.proofs.Common.{◌≡◌, ◌∙◌, ◌+◌, ◌≤◌, ◌^◌, ℕ, Bool, true, false, refl, sym, ap, subst, List, [], ◌∷◌, map, append-nil, arith}
 use Rattle.std.proofs.lemmas.Bool.Decides.{nat_tests}
 use Rattle.std.proofs.lemmas.List.Elements.{All-tail, All-head}
 use Rattle.std.specs.Prelude.{Option, Some, None, Result, Ok, Err, IsErrOf, IfOk, is_some, All, max, length, nat_lt, if◌then◌else◌}
@@ -17,7 +17,8 @@ use Rattle.commit_log.specs.Rules.{sessions_of}
 use Rattle.server_model.specs.declared.fault.ServeFault.{ServeFault}
 use Rattle.server_model.specs.declared.fault.ServeFault.TheVariants as fault
 use Rattle.server_model.specs.Base.{Base}
-use Rattle.server_model.specs.Runs.{Happened, Server, Off, On, Runs, Then, Opens, MayForget}
+use Rattle.server_model.specs.Core.{Core as Plain}
+use Rattle.server_model.specs.Runs.{Happened, Server, Off, On, Runs, Then, Opens, MayOpen}
 use Rattle.server_model.specs.Seen.{Store, HasPower}
 use Rattle.server_model.specs.ServiceCalls.{Opened, SameLists, MayForget as MayForgetAt}
 use Rattle.server_session.specs.declared.shared.Core.{Core}
@@ -59,6 +60,10 @@ none_at held connection session none is = absurd (let e : ◌≡◌ {A = Option 
 -- what may be forgotten by the state may be by the journal
 pub may_forget : (old : Within) (journal : Journal) (below : ℕ) → journal_of old.disk.now.seen ≡ Ok journal → MayForgetAt (state_in old) below → below ≤ journal.incarnation + 1
 may_forget old journal below reads may = subst (λ (s : Store). below ≤ s.incarnation + 1) (store_is old.disk.now.seen journal reads) may
+
+-- the plain server that has what the journal has may then be opened as well
+pub may_open : (plain : Plain) (journal : Journal) (below : ℕ) → IsStored plain journal → journal.incarnation ≤ 2 ^ 63 → below ≤ journal.incarnation + 1 → MayOpen plain below
+may_open plain journal below stored few may = record { spelled = omega (arith, stored.source.incarnation, few); forgets = subst (λ (n : ℕ). below ≤ n + 1) (sym stored.source.incarnation) may }
 
 -- ---- no session of this incarnation has committed
 
@@ -133,19 +138,19 @@ opens_soundly old new core stop below keeps off settled sound opening =
       apart = λ connection other session another here there one. none_at old.held connection session down.none here;
     }
 
-opened_stands : (old : Within) (new : DiskState) (core : Core) (stop : Option ℕ) (below : ℕ) (start : Base) (history : List Happened) → is_some old.core ≡ false → old.notes.is_settled ≡ true → IsSoundWithin old → MayForgetAt (state_in old) below → IsOpening below old new core
+opened_stands : (old : Within) (new : DiskState) (core : Core) (stop : Option ℕ) (below : ℕ) (start : Base) (history : List Happened) → EachKeeps → is_some old.core ≡ false → old.notes.is_settled ≡ true → IsSoundWithin old → MayForgetAt (state_in old) below → IsOpening below old new core
     → StandsIn old start history → StandsIn (opened_from old new core stop) start history
-opened_stands old new core stop below start history off settled sound may opening stands =
+opened_stands old new core stop below start history keeps off settled sound may opening stands =
     let down = down_of old off sound in
     let read = read_of old down in
     let came = stands_down old start history off stands old.disk.now.seen down.reads_now in
     let server : Server = record { power = On; core = opened_plain came.server.core below; sessions = []; count = 0 } in
     let stored = subst (λ (r : Result Journal ℕ). IfOk r (IsStored came.server.core)) read.reads came.stands.stored in
     let power : came.server.power ≡ Off = subst (λ (b : Bool). HasPower false b came.server.power) settled came.stands.power in
-    let forgets : MayForget came.server.core below = subst (λ (n : ℕ). below ≤ n + 1) (sym stored.source.incarnation) (may_forget old read.journal below read.reads may) in
+    let opens : MayOpen came.server.core below = may_open came.server.core read.journal below stored (keeps old.disk.now.seen read.journal read.reads).incarnation (may_forget old read.journal below read.reads may) in
     record {
       server = server;
-      runs = subst (λ (h : List Happened). Runs start h server) (append-nil history) (Then history [] came.server server came.runs (Opens below power forgets));
+      runs = subst (λ (h : List Happened). Runs start h server) (append-nil history) (Then history [] came.server server came.runs (Opens below power opens));
       is_base = came.is_base;
       stands = record {
         power = refl;
@@ -176,7 +181,7 @@ opens old new core stop below same keeps live off settled sound may opening =
     let store = store_opened old.disk.now.seen new.now.seen read.journal below read.reads (opened_reads read.journal below old.grants old.disk new core read.reads opening.opened) in
     record {
       later = history;
-      stands = opened_stands old new core stop below start history off settled sound may opening stands;
+      stands = opened_stands old new core stop below start history keeps off settled sound may opening stands;
       does = record {
         keeps = record {
           start = refl;
