@@ -35,7 +35,7 @@ use Rattle.stmt_meaning.proofs.Commits.{Tells, tells}
 -- ---- parts
 
 -- nothing is asked for
-no_need : (draws : List Draw) (is_refused : Bool) → UsesInOrder [] draws draws is_refused
+pub no_need : (draws : List Draw) (is_refused : Bool) → UsesInOrder [] draws draws is_refused
 no_need draws is_refused = record { used = []; unused = []; first = refl; in_order = refl; whole = λ kept. refl }
 
 -- a refusal before anything was drawn
@@ -57,7 +57,7 @@ cut asked more draws rest is_refused u = record {
 }
 
 -- and more was drawn
-onward : (asked more : List DrawKind) (draws between rest : List Draw) (is_refused : Bool) → UsesInOrder asked draws between false → UsesInOrder more between rest is_refused → UsesInOrder (asked ++ more) draws rest is_refused
+pub onward : (asked more : List DrawKind) (draws between rest : List Draw) (is_refused : Bool) → UsesInOrder asked draws between false → UsesInOrder more between rest is_refused → UsesInOrder (asked ++ more) draws rest is_refused
 onward asked more draws between rest is_refused u v =
     let here : List DrawKind = map kind_drawn u.used in
     let all : here ≡ asked = sym (append-nil here) ∙ ap (λ kinds. here ++ kinds) (sym (u.whole refl)) ∙ u.in_order in
@@ -84,7 +84,7 @@ abbrev Uses : {A : Type 0} → List DrawKind → List Draw → Reading A → Typ
 Uses asked draws None = Unit {0}
 Uses asked draws (Some (come, rest)) = UsesInOrder asked draws rest (refuses come)
 
-kind_is : (asked : DrawKind) (given : Draw) → is_of_kind asked given ≡ true → kind_drawn given ≡ asked
+pub kind_is : (asked : DrawKind) (given : Draw) → is_of_kind asked given ≡ true → kind_drawn given ≡ asked
 kind_is (kind.Seq asked) (draw.Seq name n) h = ap kind.Seq ((bytes_decide name asked).0 h)
 kind_is (kind.Seq asked) (draw.Clock tick) h = cc
 kind_is (kind.Seq asked) (draw.Id id) h = cc

@@ -1,4 +1,6 @@
 mod Adjacent
+mod AnswersTell
+mod AskedExactly
 mod Asking
 mod Commits
 mod DrawOrder

@@ -14,6 +14,9 @@ pub use Rattle.stmt_meaning.proofs.Commits.{commits_last}
 pub use Rattle.stmt_meaning.proofs.MeanLocal.{mean1-same, mean-same}
 -- a call takes the draws that its operands ask for, in order
 pub use Rattle.stmt_meaning.proofs.DrawOrder.{mean-uses, sequences-counted, sequences-few}
+-- exactly those of its answered statements, in its settings; so its answers tell which
+pub use Rattle.stmt_meaning.proofs.AskedExactly.{mean-exact}
+pub use Rattle.stmt_meaning.proofs.AnswersTell.{answers_tell}
 -- a call leaves its tables with its writes, which fit what is declared
 pub use Rattle.stmt_meaning.proofs.MeanLocal.{mean-tables}
 pub use Rattle.stmt_meaning.proofs.TablesFit.{mean-fits}

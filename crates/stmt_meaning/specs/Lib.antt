@@ -1,4 +1,6 @@
 pub mod Asked
+pub mod AskedIn
+pub mod DrawLaws
 pub mod Drawing
 pub mod Effects
 pub mod Laws

@@ -1,4 +1,5 @@
 //! Laws of the definitions. Each function does nothing, and its contract is the law.
+ghost use Rattle.stmt_meaning.specs.DrawLaws.{AnswersTellDraws, CallsDrawAsAnswered};
 ghost use Rattle.stmt_meaning.specs.Laws.{DrawsLookAtNoRow, PlacesLookAtNoRow, StatementsReadOnePlace, StatementsAreLocal, CallsAreLocal, CallsDrawInOrder, SequencesAreCounted, CallsDrawFewSequences, CallsLeaveWrites, CallsKeepTables, CommitsComeLast};
 ghost use Rattle.stmt_meaning.specs.SerialLaws.{SerialGoesOn, SerialLeavesOne, SerialIsTested, RunsGoOn, UnchangedRunSame, UnchangedRunWhole, UnchangedIsSerial};
 
@@ -22,6 +23,13 @@ pub fn calls_draw_in_order()
     ensures in_order { CallsDrawInOrder }
     ensures counted { SequencesAreCounted }
     ensures few { CallsDrawFewSequences }
+{}
+
+/// A call takes exactly the draws that its statements ask for in its settings, up to the last that has an
+/// answer. So where it is answered as often on other tables, it takes draws of the same kinds and names.
+pub fn answers_tell_draws()
+    ensures exact { CallsDrawAsAnswered }
+    ensures same { AnswersTellDraws }
 {}
 
 /// A call leaves the tables with its writes, in order and fitting what is declared of them.
