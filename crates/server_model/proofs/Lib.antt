@@ -18,6 +18,7 @@ pub mod FromItems
 pub mod Fronts
 pub mod Growth
 pub mod Interpreter
+pub mod KeptAgain
 pub mod KeptDraws
 pub mod LegalFrames
 pub mod LegalRuns
@@ -36,11 +37,13 @@ pub mod Raising
 pub mod Ran
 pub mod RoomKept
 pub mod RoomRuns
+pub mod Redraws
 pub mod SameNames
 pub mod SameNamesRuns
 pub mod SerialFrames
 pub mod SerialRuns
 pub mod Services
+pub mod SettingsTold
 pub mod Spending
 pub mod Stays
 pub mod StoppedBefore

@@ -33,3 +33,5 @@ pub use Rattle.server_model.proofs.Stays.{outcomes_stay}
 pub use Rattle.server_model.proofs.BlocksTold.{BlocksAtMost, AddsNone, AddsOne, frame_blocks}
 pub use Rattle.server_model.proofs.Steps.{blocks-IsNext}
 pub use Rattle.server_model.proofs.ToldBlocked.{already-blocked}
+-- a call that is served again with the draws of its first time draws the granted ones of these
+pub use Rattle.server_model.proofs.Redraws.{legal_redraws}

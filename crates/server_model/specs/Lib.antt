@@ -14,3 +14,4 @@ pub mod Walk
 pub mod Seen
 pub mod ServiceCalls
 pub mod Laws
+pub mod Redraws

@@ -1,5 +1,6 @@
 //! Laws of the plain server. Each function does nothing, and its contract is the law.
 ghost use Rattle.server_model.specs.Laws.{ServeGrows, ServeStays, RunsForget, RunsSerial, RunsStand, NeverAfterBlock, EntryNumbers, EntryFromItem, AnswersStand, MarkedStoresNone, BlocksAreStored, TellsNext, TellsOutcomes, TellsAsks, RunsAlerts, RunsTold, RunsLegal, RunsHaveRoom, RunsFreshNew, RunsFront, RunsLast, RunsStopped, ServiceStores, ServiceStands, ServiceRuns};
+ghost use Rattle.server_model.specs.Redraws.{LegalRedraws, RunsRedraw};
 
 /// A frame stores no entry, or one of its session, under its identifier, which is not blocked. It
 /// leaves the base, the incarnation and which session it is.
@@ -71,6 +72,14 @@ pub fn runs_legal()
 /// has no room.
 pub fn runs_have_room()
     ensures { RunsHaveRoom }
+{}
+
+/// A call that is served again with the mark, brings the draws of its first time, and is answered the same
+/// draws the granted ones of these, in order, where both times it ran in the same settings or it was not
+/// refused for want of one.
+pub fn marked_calls_redraw()
+    ensures legal { LegalRedraws }
+    ensures runs { RunsRedraw }
 {}
 
 /// What was drawn anew in a run was drawn once, over all openings.
