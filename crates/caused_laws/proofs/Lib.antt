@@ -1,0 +1,20 @@
+mod Agreeing
+mod Committed
+mod Comparing
+mod FactsKnown
+mod Frames
+mod Growing
+mod Inputs
+mod Judging
+mod Losing
+pub mod Offered
+mod OutcomesTold
+mod Repeating
+mod Replying
+mod Reporting
+mod Slots
+mod Standing
+mod Submitting
+mod Taking
+mod Telling
+mod Uncommitted

@@ -1,0 +1,4 @@
+pub mod Replies
+pub mod Laws
+pub mod Telling
+pub mod ServiceTerms
