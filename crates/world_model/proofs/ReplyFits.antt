@@ -152,13 +152,13 @@ handled_answers commits one reply is here =
 -- LISTS -------------------------------------------------------------------------------------------
 
 -- what stands at the place of the next one
-front_at : {A : Type 0} (same : A → A → Bool) (xs ys zs : List A) (x : A) → is_front same (xs ++ x ∷ ys) zs ≡ true → (z : A) × ((slice_get zs (length xs) ≡ Some z) × (same x z ≡ true))
+pub front_at : {A : Type 0} (same : A → A → Bool) (xs ys zs : List A) (x : A) → is_front same (xs ++ x ∷ ys) zs ≡ true → (z : A) × ((slice_get zs (length xs) ≡ Some z) × (same x z ≡ true))
 front_at same [] ys [] x front = absurd (let none : ⊥ = cc in none)
 front_at same [] ys (z ∷ zs) x front = (z, (refl, (and_parts (same x z) (is_front same ys zs) front).0))
 front_at same (w ∷ xs) ys [] x front = absurd (let none : ⊥ = cc in none)
 front_at same (w ∷ xs) ys (z ∷ zs) x front = front_at same xs ys zs x (and_parts (same w z) (is_front same (xs ++ x ∷ ys) zs) front).1
 
-last_at : {A : Type 0} (xs : List A) (index : ℕ) (x : A) (found : Option A) → slice_get xs index ≡ Some x → length xs ≡ index + 1 → last_or found xs ≡ Some x
+pub last_at : {A : Type 0} (xs : List A) (index : ℕ) (x : A) (found : Option A) → slice_get xs index ≡ Some x → length xs ≡ index + 1 → last_or found xs ≡ Some x
 last_at [] index x found is long = absurd (let none : ⊥ = cc in none)
 last_at (y ∷ []) zero x found is long = is
 last_at (y ∷ z ∷ ys) zero x found is long = absurd (let none : ⊥ = omega arith in none)

@@ -37,6 +37,7 @@ pub mod ServiceDid
 pub mod SessionHistory
 pub mod Serving
 pub mod Settings
+pub mod Showing
 pub mod Shown
 pub mod Told
 pub mod ToldByStore

@@ -27,6 +27,17 @@ RunsRan =
     (document : Document) (events : List Event) (notes : List Note) (items : List Served) (seen : Seen) (t : Traced)
     → IsTrue (all_requests_right document) → Reached document events notes items seen t → IsTrue (entries_ran t)
 
+-- a test of each state that a run comes to
+abbrev pub HoldsInRuns : (Traced → Bool) → Type 0
+HoldsInRuns test =
+    (document : Document) (events : List Event) (notes : List Note) (items : List Served) (seen : Seen) (t : Traced)
+    → IsTrue (all_requests_right document) → Reached document events notes items seen t → IsTrue (test t)
+
+-- and of the state at the end of a whole run
+abbrev pub HoldsAtEnds : (Traced → Bool) → Type 0
+HoldsAtEnds test =
+    (document : Document) (notes : List Note) (items : List Served) (seen : Seen) (t : Traced) → IsTrue (all_requests_right document) → IsRun document notes items seen t → IsTrue (test t)
+
 -- a test of each state that is as the invariant says
 abbrev pub FollowsInvariant : (Traced → Bool) → Type 0
 FollowsInvariant test = (t : Traced) → Invariant t → IsTrue (test t)

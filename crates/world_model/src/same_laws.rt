@@ -1,7 +1,8 @@
-//! How the frames that connections served, and the entries of their sessions, are those of the service, and their calls those of scripts.
-//! Each law is the clause of a function with nothing to run.
+//! How the frames that connections served, and the entries of their sessions, are those of the service, and their calls those of scripts;
+//! and that replies were shown. Each law is the clause of a function with nothing to run.
 ghost use Rattle.world_model.specs.Same.{open_entries_known, run_script_calls};
-ghost use Rattle.world_model.specs.SameLaws.{FollowsInvariant, RunsFollowScripts, RunsRan, RunsServe, RunsStoreScripts, WholeRunsFollowScripts, WholeRunsStoreScripts};
+ghost use Rattle.world_model.specs.SameLaws.{FollowsInvariant, HoldsAtEnds, HoldsInRuns, RunsFollowScripts, RunsRan, RunsServe, RunsStoreScripts, WholeRunsFollowScripts, WholeRunsStoreScripts};
+ghost use Rattle.world_model.specs.Showing.{show_replies};
 
 /// Wherever a run of a document whose requests are right has come to, what the service's history has of a connection's session is
 /// what the connection served: frame by frame, with what was told.
@@ -19,6 +20,15 @@ pub fn runs_ran()
     runs_serve();
     crate::laws::runs_are_orderly();
     server_model::laws::runs_legal();
+}
+
+/// Wherever such a run has come to, and at its end: each reply to a call without the mark that its request took, on whatever connection, has the
+/// answers, the draws and the identifier that were shown of that call.
+pub fn replies_are_shown()
+    ensures reached { HoldsInRuns show_replies }
+    ensures run { HoldsAtEnds show_replies }
+{
+    crate::kept_laws::runs_keep_invariant();
 }
 
 /// In each state that is as the invariant says: a transaction that was run on a connection that a request held, and that has a call of this
