@@ -55,4 +55,5 @@ pub mod Reported
 pub mod StoredLaws
 pub mod OnceLaws
 pub mod StoredOnce
+pub mod CallEndings
 pub mod ValueLaws

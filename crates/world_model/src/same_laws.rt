@@ -1,5 +1,6 @@
 //! How the frames that connections served, and the entries of their sessions, are those of the service, and their calls those of scripts;
-//! and that replies were shown. Each law is the clause of a function with nothing to run.
+//! how the answers to calls end, and that replies were shown. Each law is the clause of a function with nothing to run.
+ghost use Rattle.world_model.specs.CallEndings.{end_fittingly};
 ghost use Rattle.world_model.specs.Same.{open_entries_known, run_script_calls};
 ghost use Rattle.world_model.specs.SameLaws.{FollowsInvariant, HoldsAtEnds, HoldsInRuns, RunsFollowScripts, RunsRan, RunsServe, RunsStoreScripts, WholeRunsFollowScripts, WholeRunsStoreScripts};
 ghost use Rattle.world_model.specs.Showing.{show_replies};
@@ -20,6 +21,16 @@ pub fn runs_ran()
     runs_serve();
     crate::laws::runs_are_orderly();
     server_model::laws::runs_legal();
+}
+
+/// Wherever such a run has come to, and at its end: the answers to a call that a connection served end with RolledBack exactly where the call
+/// is a rollback; and where they end with Committed, the call has a commit, and was sent without the mark.
+pub fn calls_end_fittingly()
+    ensures reached { HoldsInRuns end_fittingly }
+    ensures run { HoldsAtEnds end_fittingly }
+{
+    runs_serve();
+    crate::laws::runs_are_orderly();
 }
 
 /// Wherever such a run has come to, and at its end: each reply to a call without the mark that its request took, on whatever connection, has the
