@@ -129,7 +129,7 @@ module _ (keep : Sent → Bool) where
 
 -- WHAT WAS SERVED ---------------------------------------------------------------------------------
 
-front_got : {A : Type 0} (same : A → A → Bool) (xs zs : List A) (index : ℕ) (x : A) → is_front same xs zs ≡ true → slice_get xs index ≡ Some x → (z : A) × ((slice_get zs index ≡ Some z) × (same x z ≡ true))
+pub front_got : {A : Type 0} (same : A → A → Bool) (xs zs : List A) (index : ℕ) (x : A) → is_front same xs zs ≡ true → slice_get xs index ≡ Some x → (z : A) × ((slice_get zs index ≡ Some z) × (same x z ≡ true))
 front_got same [] zs index x is at = absurd (let none : ⊥ = cc in none)
 front_got same (y ∷ ys) [] index x is at = absurd (let none : ⊥ = cc in none)
 front_got {A} same (y ∷ ys) (z ∷ zs) zero x is at = let equal : y ≡ x = cc in (z, (refl, subst (λ (one : A). same one z ≡ true) equal (and_parts (same y z) (is_front same ys zs) is).0))

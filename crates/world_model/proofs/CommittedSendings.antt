@@ -95,7 +95,7 @@ any_filtered test keep (x ∷ xs) any = by (keep x) any (λ later. any_filtered 
     by true any again = either (or_cases (test x) (list_any test (filter keep xs)) any) again
     by false any again = or_right (test x && false) (list_any (λ y. test y && keep y) xs) (again any)
 
-any_reversed : (test : Sending → Bool) (xs done : List Sending) → list_any test (reverse_onto xs done) ≡ true → (list_any test xs || list_any test done) ≡ true
+pub any_reversed : (test : Sending → Bool) (xs done : List Sending) → list_any test (reverse_onto xs done) ≡ true → (list_any test xs || list_any test done) ≡ true
 any_reversed test [] done any = any
 any_reversed test (x ∷ xs) done any = by (test x) (list_any test xs) (any_reversed test xs (x ∷ done) any)
   where
@@ -104,7 +104,7 @@ any_reversed test (x ∷ xs) done any = by (test x) (list_any test xs) (any_reve
     by false true any = refl
     by false false any = any
 
-any_pair : (test : Sent → Bool) (next : Sending → Bool) (xs : List Sent) (ys : List Sending) → ((x : Sent) (y : Sending) → is_sending_of x y ≡ true → test x ≡ true → next y ≡ true) → pointwise is_sending_of xs ys ≡ true → list_any test xs ≡ true
+pub any_pair : (test : Sent → Bool) (next : Sending → Bool) (xs : List Sent) (ys : List Sending) → ((x : Sent) (y : Sending) → is_sending_of x y ≡ true → test x ≡ true → next y ≡ true) → pointwise is_sending_of xs ys ≡ true → list_any test xs ≡ true
     → list_any next ys ≡ true
 any_pair test next [] ys goes pairs any = absurd (let none : ⊥ = cc in none)
 any_pair test next (x ∷ xs) [] goes pairs any = absurd (let none : ⊥ = cc in none)
@@ -115,7 +115,7 @@ any_pair test next (x ∷ xs) (y ∷ ys) goes pairs any =
     by (inl here) pair again = or_left (next y) (list_any next ys) (goes x y pair here)
     by (inr later) pair again = or_right (next y) (list_any next ys) (again later)
 
-either_false : (a : Bool) → (a || false) ≡ true → a ≡ true
+pub either_false : (a : Bool) → (a || false) ≡ true → a ≡ true
 either_false true is = refl
 either_false false is = is
 
@@ -127,7 +127,7 @@ pub record CommitOut (link : Link) : Type 0 where
   pub is : out_frame link ≡ Some sent
   pub commits : is_commit_call sent ≡ true
 
-commit_alike : (a b : Up) → same_up a b ≡ true → is_commit_frame a ≡ true → is_commit_frame b ≡ true
+pub commit_alike : (a b : Up) → same_up a b ≡ true → is_commit_frame a ≡ true → is_commit_frame b ≡ true
 commit_alike (up.Call false k c) (up.Call s l d) same commit = by s refl
   where
     parts : (same_bool false s ≡ true) × ((same_draws k l && same_call c d) ≡ true)
@@ -161,13 +161,13 @@ commit_unmarked frame commit = absurd (let none : ⊥ = cc in none)
 
 -- ITS SENDING -------------------------------------------------------------------------------------
 
-abbrev calls_at : ℕ → Sent → Bool
+abbrev pub calls_at : ℕ → Sent → Bool
 calls_at count sent = (sent.call == count) && is_commit_call sent
 
-abbrev sends_at : ℕ → Sending → Bool
+abbrev pub sends_at : ℕ → Sending → Bool
 sends_at count sending = (sending.at == count) && has_commit sending.call
 
-pair_sends : (count : ℕ) (sent : Sent) (sending : Sending) → is_sending_of sent sending ≡ true → calls_at count sent ≡ true → sends_at count sending ≡ true
+pub pair_sends : (count : ℕ) (sent : Sent) (sending : Sending) → is_sending_of sent sending ≡ true → calls_at count sent ≡ true → sends_at count sending ≡ true
 pair_sends count sent sending pair here =
     let one = and_parts (sent.call == sending.at) (is_call_of sending.call sent.frame) pair in
     let two = and_parts (sent.call == count) (is_commit_call sent) here in

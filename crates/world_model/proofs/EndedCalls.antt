@@ -47,7 +47,7 @@ committed_ends answers here = by (last_or None answers) here
 pub shown_same : (answers : List Answer) (test : List Answer → Bool) (calls : List ShownCall) (at : ℕ) → test answers ≡ true → shows_at (same_answers answers) calls at ≡ true → shows_at test calls at ≡ true
 shown_same answers test calls at is here = shows_weaker (same_answers answers) test (λ other same. ap test (sym ((same_answers_decide answers other).0 same)) ∙ is) calls at here
 
-place_behind : (call : ShownCall) (calls : List ShownCall) (at : ℕ) → transaction_at (call ∷ calls) (suc at) ≡ cond (ends_transaction call.answers) 1 0 + transaction_at calls at
+pub place_behind : (call : ShownCall) (calls : List ShownCall) (at : ℕ) → transaction_at (call ∷ calls) (suc at) ≡ cond (ends_transaction call.answers) 1 0 + transaction_at calls at
 place_behind call calls at = sum_by-cons (λ (one : ShownCall). cond (ends_transaction one.answers) 1 0) call (take at calls)
 
 -- a call that ended its transaction is of one before that of each place behind it

@@ -70,7 +70,7 @@ parted served one is = by (parted_by None served one is)
     by (inl none) = absurd (let same : None ≡ Some one = none.0 in let never : ⊥ = cc in never)
     by (inr parts) = parts
 
-handled_parts : (commits : ℕ) (xs ys : List Handled) → handled_from commits (xs ++ ys) ≡ true → (handled_from commits xs ≡ true) × ((between : ℕ) × (handled_from between ys ≡ true))
+pub handled_parts : (commits : ℕ) (xs ys : List Handled) → handled_from commits (xs ++ ys) ≡ true → (handled_from commits xs ≡ true) × ((between : ℕ) × (handled_from between ys ≡ true))
 handled_parts commits [] ys here = (refl, (commits, here))
 handled_parts commits (x ∷ xs) ys here =
     let now : ℕ = counted_with commits x.served.item in
@@ -78,7 +78,7 @@ handled_parts commits (x ∷ xs) ys here =
     let rest = handled_parts now xs ys parts.1 in
     (and_from (is_handled now x) (handled_from now xs) parts.0 rest.0, rest.1)
 
-front_cut : {A : Type 0} (same : A → A → Bool) (xs ys zs : List A) → is_front same xs (ys ++ zs) ≡ true → length xs ≤ length ys → is_front same xs ys ≡ true
+pub front_cut : {A : Type 0} (same : A → A → Bool) (xs ys zs : List A) → is_front same xs (ys ++ zs) ≡ true → length xs ≤ length ys → is_front same xs ys ≡ true
 front_cut same [] ys zs here most = refl
 front_cut same (x ∷ xs) [] zs here most = absurd (let never : ⊥ = omega arith in never)
 front_cut same (x ∷ xs) (y ∷ ys) zs here most =

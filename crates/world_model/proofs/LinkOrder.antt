@@ -80,7 +80,7 @@ same_some (Some a) (Some b) same = refl
 same_some None (Some b) same = absurd (let none : ⊥ = cc in none)
 same_some (Some a) None same = absurd (let none : ⊥ = cc in none)
 
-handled_replied : (commits : ℕ) (one : Handled) → is_stopped one.served.item ≡ false → is_handled commits one ≡ true → is_some one.reply ≡ is_rep one.sent
+pub handled_replied : (commits : ℕ) (one : Handled) → is_stopped one.served.item ≡ false → is_handled commits one ≡ true → is_some one.reply ≡ is_rep one.sent
 handled_replied commits one going is =
     by (or_cases (is_item_of one.sent.frame one.served.item && same_replies one.reply (reply_of one.served.session commits one.served.item)) (is_crashed_item one.sent.frame one.served.item && is_none one.reply) is)
   where
