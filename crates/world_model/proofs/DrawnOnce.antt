@@ -6,6 +6,7 @@ use Rattle.svc_values.specs.declared.draw.Draw.{Draw}
 use Rattle.svc_values.specs.Same.{same_draw}
 use Rattle.svc_values.specs.SameLaws.{same_draw_decides}
 use Rattle.server_model.specs.Fresh.{is_single, stands_again, none_twice}
+use Rattle.server_model.specs.NewValues.{new_among}
 
 abbrev one_if : Bool → ℕ
 one_if test = cond test 1 0
@@ -87,3 +88,8 @@ time_some one draws some = by (list_any (same_draw one) draws) refl
     by : (any : Bool) → list_any (same_draw one) draws ≡ any → any ≡ true
     by true is = refl
     by false is = let none : times one draws ≡ 0 = no_time one draws is in absurd (let never : ⊥ = omega (arith, none, some) in never)
+
+-- where nothing was kept, each value is new
+pub all_new : (draws : List Draw) → new_among [] draws ≡ draws
+all_new [] = refl
+all_new (given ∷ more) = ap (λ (all : List Draw). given ∷ all) (all_new more)

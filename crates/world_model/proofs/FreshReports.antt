@@ -1,4 +1,4 @@
--- Where no call of a request is stored twice in a whole run, no value stands twice among what the entries of its report drew.
+-- No value stands twice among what the entries of a run's report drew: no call of a request is stored twice.
 use Rattle.std.proofs.Common.{◌≡◌, sym, ap, ◌∙◌, true}
 use Rattle.std.specs.Prelude.{drop}
 use Rattle.outage_schedule.specs.declared.document.Document.{Document}
@@ -12,8 +12,10 @@ use Rattle.server_model.specs.Runs.{Server}
 use Rattle.server_model.specs.Seen.{Seen}
 use Rattle.world_model.specs.Invariant.{Invariant}
 use Rattle.world_model.specs.Judged.{has_room_for}
+use Rattle.world_model.specs.KeptLaws.{WholeRunsKeepInvariant}
 use Rattle.world_model.specs.Ready.{all_requests_right}
-use Rattle.world_model.specs.Reported.{IsReported}
+use Rattle.world_model.specs.Reported.{IsReported, RunsAreFresh}
+use Rattle.world_model.specs.SameLaws.{HoldsAtEnds}
 use Rattle.world_model.specs.StoredOnce.{are_stored_once}
 use Rattle.world_model.specs.Traced.{Traced}
 use Rattle.world_model.specs.ValueLaws.{StoredValuesEndFresh}
@@ -31,3 +33,7 @@ fresh_by_calls law document report seen t server calls is inv room stored =
     ap (λ (base : Base). has_room base (items_of seen.history) (drop t.image t.entries)) start
     ∙ (ap (has_room (service_base document) (items_of seen.history)) same ∙ (room_alike document report seen t server is ∙ room)) in
     ap fresh (sym same) ∙ implied (are_stored_once t) (fresh (drop t.image t.entries)) stored (law document report.notes report.served seen t calls is.run here)
+
+pub runs_fresh : WholeRunsKeepInvariant → StoredValuesEndFresh → HoldsAtEnds are_stored_once → RunsAreFresh
+runs_fresh keeps values once document report seen t server calls is room =
+    fresh_by_calls values document report seen t server calls is (keeps document report.notes report.served seen t calls is.run) room (once document report.notes report.served seen t calls is.run)

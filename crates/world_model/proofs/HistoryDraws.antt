@@ -36,10 +36,9 @@ use Rattle.world_model.proofs.RanHistory.{whole_of, same_whole, moved_whole, ask
 use Rattle.world_model.proofs.RanSessions.{Stands, GoesTo, GoesOn, IsDone, same_stands, same_stored, others_stand, own_stands}
 use Rattle.world_model.proofs.RanWalks.{IsSameWalk, Moved, enters, thing_moved}
 use Rattle.world_model.proofs.StoppedDraws.{stopped_in, last_drawn, found_in, none_in}
-use Rattle.world_model.proofs.StoredDraws.{all_new}
 use Rattle.world_model.proofs.Tests.{same_session_is, session_self, not_both}
 use Rattle.world_model.proofs.FrameDraws.{anew, is_drawn, performed_drew, own_drew, over_counts, is_crashed}
-use Rattle.world_model.proofs.DrawnOnce.{times}
+use Rattle.world_model.proofs.DrawnOnce.{times, all_new}
 use Rattle.world_model.proofs.SessionEntries.{its, open_in, same_its, same_open, other_its, other_open, none_stored}
 use Rattle.world_model.specs.StoredOnce.{is_stored_next}
 use Rattle.world_model.proofs.StoredCalls.{count_if, stored_times, IsSpent, Behind, going_spent, stop_spent, behind_spent}

@@ -142,7 +142,7 @@ finishing_items document _ _ _ _ _ (Finishes place later notes items more before
 -- THE REPORT --------------------------------------------------------------------------------------
 
 module _ (document : Document) (report : Report) (seen : Seen) (t : Traced) (server : Server) (is : IsReported document report seen t server) where
-  pub judged_history : plain_items (judged_items document report) ≡ map plain_of seen.history
+  judged_history : plain_items (judged_items document report) ≡ map plain_of seen.history
   judged_history =
       let so = finishing_items document is.run.place report.notes report.served seen t is.run.finishing [] [] in
       ap plain_items

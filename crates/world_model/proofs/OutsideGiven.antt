@@ -35,9 +35,8 @@ use Rattle.world_model.specs.Settings.{Setting}
 use Rattle.world_model.specs.Traced.{Traced}
 use Rattle.world_model.specs.Walking.{follow}
 use Rattle.world_model.proofs.DrawnFor.{is_by, new_by, drawn_for, among}
-use Rattle.world_model.proofs.DrawnOnce.{times, times_both}
+use Rattle.world_model.proofs.DrawnOnce.{times, times_both, all_new}
 use Rattle.world_model.proofs.FrameDraws.{performed_drew}
-use Rattle.world_model.proofs.StoredDraws.{all_new}
 use Rattle.world_model.proofs.Tests.{session_self, not_both}
 
 -- the draws that calls of these sessions were answered with, those without the mark

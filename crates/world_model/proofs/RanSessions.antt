@@ -30,9 +30,8 @@ use Rattle.world_model.specs.Parts.{implies}
 use Rattle.world_model.specs.Same.{ServedCall, Ran, is_no_commit, did_all, with_call, ran_item, is_piece_of, are_pieces}
 use Rattle.world_model.proofs.AllLists.{weaker_all}
 use Rattle.world_model.proofs.RanFrames.{Deals, DealsBegin, DealsEnd, DealsCall, DealsStop, DealsQuietly, rests_behind, is_call, is_quiet_item, is_quiet_thing}
-use Rattle.world_model.proofs.RanWalks.{IsSameWalk, Stores, Takes, Keeps, Calls, Stops, IsStored, IsNothing, Moved}
+use Rattle.world_model.proofs.RanWalks.{IsSameWalk, Stores, Takes, Keeps, Calls, Stops, IsStored, IsNothing, Moved, committed_ends}
 use Rattle.world_model.proofs.Recalling.{get_further, get_last}
-use Rattle.world_model.proofs.StoredDraws.{committed_ends}
 use Rattle.world_model.proofs.Tests.{session_self, same_session_is}
 
 -- TRANSACTIONS OF SESSIONS ------------------------------------------------------------------------

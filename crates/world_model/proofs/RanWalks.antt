@@ -1,9 +1,11 @@
 -- What an item does to the entries that are stored and to the transactions of sessions, along the walk over legal items.
 use Rattle.std.proofs.Common.{◌≡◌, refl, sym, ap, subst, ◌∙◌, ℕ, ◌&&◌, Bool, true, false, not, List, [], ◌∷◌, ◌++◌, Option, Some, None, if◌then◌else◌}
 use Rattle.std.specs.Prelude.{nat_lt}
+use Rattle.std.specs.Option.{option_map_or}
 use Rattle.std.specs.Cmp.Lexicographic.{pointwise, pointwise_decides}
 use Rattle.std.proofs.lemmas.Bool.{and_parts}
 use Rattle.svc_values.specs.declared.answer.Answer.{Answer}
+use Rattle.svc_values.specs.declared.answer.Answer.TheVariants as answer
 use Rattle.svc_values.specs.declared.call.Call.{Call}
 use Rattle.svc_values.specs.declared.draw.Draw.{Draw}
 use Rattle.svc_values.specs.declared.entry.Entry.{Entry}
@@ -12,7 +14,7 @@ use Rattle.svc_values.specs.declared.entry.Piece.{Piece}
 use Rattle.svc_values.specs.declared.entry.SessionId.{SessionId}
 use Rattle.svc_values.specs.declared.value.Value.{Value}
 use Rattle.svc_values.specs.Calls.{has_commit}
-use Rattle.svc_values.specs.Endings.{ends_committed}
+use Rattle.svc_values.specs.Endings.{is_committed, ends_committed}
 use Rattle.svc_values.specs.Identifiers.{same_ltxid}
 use Rattle.svc_values.specs.Same.{same_piece}
 use Rattle.svc_values.specs.SameLaws.{same_ltxid_decides, same_piece_decides}
@@ -22,8 +24,14 @@ use Rattle.server_model.specs.Base.{Base}
 use Rattle.server_model.specs.Items.{Thing, Began, Called, MetBlock, TellsOutcome, CallStopped, OutcomeStopped, Outcome, Uncommitted, Item, Did, AskTold, AskStopped}
 use Rattle.server_model.specs.Legal.{answers_hold, is_free, is_first_entry, stores, draws_hold, deed_holds, is_of_now, item_holds}
 use Rattle.server_model.specs.NewValues.{opened}
-use Rattle.server_model.specs.Walk.{Transaction, begun, Walk, with_transaction, transaction_in, next_of, Performed, stands, if_stands, performed_by, Deed, Ran, meaning, deed, with_meaning, deed_of, ends, with_call, if_ended, take_entry, if_commits, with_numbers, stopped, after_deed, if_uncommitted, if_nothing, entered, after}
+use Rattle.server_model.specs.Walk.{Transaction, begun, Walk, with_transaction, transaction_in, next_of, Performed, stands, if_stands, performed_by, Deed, Ran, meaning, deed, with_meaning, deed_of, is_ending, ends, with_call, if_ended, take_entry, if_commits, with_numbers, stopped, after_deed, if_uncommitted, if_nothing, entered, after}
 use Rattle.world_model.proofs.NumbersItems.{same_some}
+
+-- what ends with Committed ends a transaction
+pub committed_ends : (last : Option Answer) → option_map_or is_committed last false ≡ true → option_map_or is_ending last false ≡ true
+committed_ends None is = is
+committed_ends (Some answer.Committed) is = refl
+committed_ends (Some other) is = absurd (let never : ⊥ = cc in never)
 
 -- the entries and transactions are as before
 pub record IsSameWalk (walk later : Walk) : Type 0 where

@@ -1,15 +1,12 @@
 -- What a run's service did, for its judgement: the plain items of a report, one for each frame that was served, each call that was run
 -- outside and each identifier that was asked, in the order of events. Each frame is the one that stands first on its connection, where the
 -- walk over the events has come.
-use Rattle.std.specs.Prelude.{◌+◌, Bool, true, false, not, List, [], ◌∷◌, ◌++◌, map, Option, Some, if◌then◌else◌}
-use Rattle.std.specs.List.{list_all}
+use Rattle.std.specs.Prelude.{◌+◌, Bool, false, List, [], ◌∷◌, ◌++◌, map, Option, Some, if◌then◌else◌}
 use Rattle.std.specs.Option.{option_map_or}
 use Rattle.svc_values.specs.declared.call.Call.{Call}
 use Rattle.outage_schedule.specs.declared.document.Document.{Document}
 use Rattle.outage_schedule.specs.declared.event.Event.{Event}
 use Rattle.outage_schedule.specs.declared.event.Event.TheVariants as event
-use Rattle.outage_schedule.specs.declared.item.Item.{Item as Told}
-use Rattle.outage_schedule.specs.declared.item.Item.TheVariants as told
 use Rattle.outage_schedule.specs.declared.item.Served.{Served}
 use Rattle.outage_schedule.specs.declared.note.Note.{Note}
 use Rattle.outage_schedule.specs.declared.note.Note.TheVariants as note
@@ -96,11 +93,3 @@ is_fresh_new document report = fresh_new (service_base document) (judged_items d
 -- An opening counts identifiers, and no further than an identifier can spell.
 abbrev pub has_room_for : Document → Report → Bool
 has_room_for document report = has_room (service_base document) (judged_items document report) report.entries
-
--- a call of a replay
-abbrev pub is_repeated : Told → Bool
-is_repeated (told.Call true call answers draws) = true
-is_repeated _ = false
-
-abbrev pub none_repeated : Report → Bool
-none_repeated report = list_all (λ one. not (is_repeated one.item)) report.served

@@ -8,8 +8,9 @@ use Rattle.run_clauses.specs.ServiceBase.{service_base}
 use Rattle.server_model.specs.Runs.{Server, Runs}
 use Rattle.server_model.specs.Seen.{Seen}
 use Rattle.world_model.specs.Followed.{transcripts_of}
-use Rattle.world_model.specs.Judged.{is_legal, is_fresh_new, has_room_for, none_repeated}
+use Rattle.world_model.specs.Judged.{is_legal, is_fresh_new, has_room_for}
 use Rattle.world_model.specs.Reached.{IsRun}
+use Rattle.world_model.specs.Ready.{all_requests_right}
 use Rattle.world_model.specs.Traced.{Traced}
 
 -- The report has the notes and items of a whole run, what its clients were shown, what the plain server beside it has gained, and the
@@ -34,8 +35,8 @@ abbrev pub RunsAreFreshNew : Type 0
 RunsAreFreshNew =
     (document : Document) (report : Report) (seen : Seen) (t : Traced) (server : Server) → IsReported document report seen t server → IsTrue (has_room_for document report) → IsTrue (is_fresh_new document report)
 
--- Where no call was repeated, no value stands twice among what the entries drew.
+-- No value stands twice among what the entries drew, as long as identifiers can be spelled, where the requests of the document are right.
 abbrev pub RunsAreFresh : Type 0
 RunsAreFresh =
-    (document : Document) (report : Report) (seen : Seen) (t : Traced) (server : Server) → IsReported document report seen t server
-    → IsTrue (has_room_for document report) → IsTrue (none_repeated report) → IsTrue (fresh report)
+    (document : Document) (report : Report) (seen : Seen) (t : Traced) (server : Server)
+    → IsTrue (all_requests_right document) → IsReported document report seen t server → IsTrue (has_room_for document report) → IsTrue (fresh report)

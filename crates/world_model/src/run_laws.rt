@@ -15,10 +15,12 @@ pub fn runs_are_fresh_new()
     server_model::laws::runs_fresh_new();
 }
 
-/// Where no call of a run was one of a replay, no value stands twice among what its entries drew, as long as identifiers can be spelled.
+/// No value stands twice among what the entries of a run drew, in documents whose requests are right, as long as identifiers can be
+/// spelled. A tick of the clock may. A call that was repeated gives its values again, and no call is stored twice.
 pub fn runs_are_fresh()
     ensures { RunsAreFresh }
 {
-    runs_are_legal();
-    runs_are_fresh_new();
+    crate::kept_laws::runs_keep_invariant();
+    crate::value_laws::stored_values_are_fresh();
+    crate::value_laws::calls_are_stored_once();
 }
