@@ -101,7 +101,7 @@ quiet_gives base stopped frame one quiet = (refl, refl)
 pub own_drew : (base : Base) (stopped : List Draw) (walk : Walk) (n now : ℕ) (session : SessionId) (frame : Up) (thing : Thing) (one : ItemTold) → Deals frame thing one → is_stopped_call one ≡ false
     → item_holds base walk (Did n now session thing) (deed_of base walk (Did n now session thing)) ≡ true
     → (new_in base (deed_of base walk (Did n now session thing)) ≡ anew base stopped frame one) × (is_drawn base frame one ≡ true)
-own_drew base stopped walk n now session _ _ _ (DealsBegin settings begun) going holds = (refl, refl)
+own_drew base stopped walk n now session _ _ _ (DealsBegin settings) going holds = (refl, refl)
 own_drew base stopped walk n now session _ _ _ DealsEnd going holds = (refl, refl)
 own_drew base stopped walk n now session _ _ _ (DealsCall replay marked kept called answers draws) going holds =
     let performed : Performed = record { session = session; now = now; replay = replay; kept = kept; called = called; answers = answers; draws = draws } in

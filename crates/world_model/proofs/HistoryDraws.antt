@@ -151,7 +151,7 @@ module _ (base : Base) (all : List Entry) (session : SessionId) (stopped : List 
   stop_gives : (walk : Walk) (n now : ℕ) (frame : Up) (thing : Thing) (one : ItemTold) → Deals frame thing one → is_stopped_call one ≡ true → item_holds base walk (Did n now session thing) (deed_of base walk (Did n now session thing)) ≡ true
       → whole_of walk ≡ all → (x : Ltxid) → next_of walk session ≡ x → stopped ≡ stopped_in all x → ((after base walk (Did n now session thing) (deed_of base walk (Did n now session thing))).stored ≡ walk.stored → stopped_in all x ≡ [])
       → (new_in base (deed_of base walk (Did n now session thing)) ≡ anew base stopped frame one) × (is_drawn base frame one ≡ true)
-  stop_gives walk n now _ _ _ (DealsBegin settings begun) is holds whole x next are none = absurd (let never : ⊥ = cc in never)
+  stop_gives walk n now _ _ _ (DealsBegin settings) is holds whole x next are none = absurd (let never : ⊥ = cc in never)
   stop_gives walk n now _ _ _ DealsEnd is holds whole x next are none = absurd (let never : ⊥ = cc in never)
   stop_gives walk n now _ _ _ (DealsCall replay marked kept called answers draws) is holds whole x next are none = absurd (let never : ⊥ = cc in never)
   stop_gives walk n now _ _ _ (DealsStop replay marked kept called) is holds whole x next are none =
@@ -286,7 +286,7 @@ module _ (base : Base) (all : List Entry) (session : SessionId) (stopped : List 
 
           none_stored_here : later.stored ≡ here.stored → stopped_in all (ltxid_of session (length ran.over)) ≡ []
           none_stored_here same =
-              none_in session ran.over all (done_all base all session ran.over history later (n + 1) both.1 whole_later empty (same_stored walk later session ran.over (same ∙ same_here.stored) stand.all))
+              none_in session ran all (done_all base all session ran history later (n + 1) both.1 whole_later empty (same_stored walk later session ran (same ∙ same_here.stored) stand.all))
 
       own_tells : Told walk (it ∷ rest) (one ∷ others)
       own_tells = by (is_stop one) refl

@@ -276,7 +276,7 @@ pub record OutRan (link : Link) : Type 0 where
 
 module _ (link : Link) (known : Known link) (alone : none_behind link.served ≡ true) (n : ℕ) (ahead : n ≡ held_number link + 1) (counted : ((n == link.commits) || ((n == link.commits + 1) && last_is_stopped_commit link)) ≡ true) where
   abbrev start : Ran
-  start = record { settings = []; at_start = []; pieces = []; over = [] }
+  start = record { settings = []; at_start = []; pieces = []; over = []; starts = [] }
 
   -- there are as many as the number held, and one more
   held_count : length (ran_by link).over ≡ held_number link + 1

@@ -53,7 +53,7 @@ use Rattle.world_model.proofs.LinkHandled.{commits_behind}
 use Rattle.world_model.proofs.OwnedLists.{firsts, firsts_both, each_owned}
 use Rattle.world_model.proofs.RanBefore.{counts_none, none_before}
 use Rattle.world_model.proofs.RanFrames.{link_rests}
-use Rattle.world_model.proofs.RanSessions.{is_its, has_ran, other_ran}
+use Rattle.world_model.proofs.RanSessions.{is_its, has_ran, none_ran, other_ran}
 use Rattle.world_model.proofs.RepeatedGiven.{repeats_given, are_repeated, repeated_now}
 use Rattle.world_model.proofs.RunStarts.{finishing_reached, reached_coupled}
 use Rattle.world_model.proofs.ShownGiven.{are_given, given_start, given_now}
@@ -160,7 +160,7 @@ module _ (orderly : RunsAreOrderly) (serve : RunsServe) (legal : RunsLegal) (fre
       let none = none_before orderly document events notes items seen t calls reached number link session there its in
       let all : List Entry = seen.start.entries ++ gained in
       history_draws seen.start all session (stopped_draws t link.held) (stood_in t link.held) (subst (λ (all : List Entry). numbered_after [] all ≡ true) entries inv.number.entries) seen.history walk 0 link.served
-      (record { settings = []; at_start = []; pieces = []; over = [] }) false held refl
+      none_ran false held refl
       (record {
         has = serve document events notes items seen t calls reached number link session there its;
         handled = at_link (λ l. handled_from 0 l.served) t.machine.links number link inv.wire.handled there;
@@ -169,8 +169,9 @@ module _ (orderly : RunsAreOrderly) (serve : RunsServe) (legal : RunsLegal) (fre
       })
       (record {
         count = counts_none seen.start.entries session none;
-        now = λ is. refl;
-        all = weaker_all (λ entry. not (is_its session entry)) (has_ran session []) seen.start.entries (λ entry is. other_ran session [] entry (not-true (is_its session entry) is)) none;
+        many = refl;
+        now = λ is. record { pieces = refl; settings = refl; at_start = refl };
+        all = weaker_all (λ entry. not (is_its session entry)) (has_ran session none_ran) seen.start.entries (λ entry is. other_ran session none_ran entry (not-true (is_its session entry) is)) none;
       })
       (λ stopped.
       let held_is = stopped_held link session (known_of t inv number link there) (at_link is_fresh t.machine.links number link inv.wire.fresh there) (at_link is_named t.machine.links number link inv.basic.named there) its stopped in (

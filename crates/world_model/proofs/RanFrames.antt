@@ -28,6 +28,7 @@ use Rattle.world_model.specs.Serving.{is_item_of, reply_of}
 use Rattle.world_model.specs.SessionHistory.{told_with}
 use Rattle.world_model.specs.Wire.{up_of, is_sent_front, same_replies, is_handled, Stage, New, Told, Repeated, Begun, Rested, Shut, Wrong, stage_if, next_stage, stage_of, is_right}
 use Rattle.world_model.proofs.Fronts.{same_frames, moved, wrong_stays}
+use Rattle.world_model.proofs.RanSettings.{settings_decide}
 use Rattle.world_model.proofs.Tests.{not_both}
 
 -- NO CALL BEHIND AN END ---------------------------------------------------------------------------
@@ -146,7 +147,7 @@ is_quiet_item one = true
 
 -- what the session did with the frame, by the item
 pub data Deals : Up → Thing → Item → Type 0 where
-  DealsBegin : (settings begun : List (List ℕ × Value)) → Deals (up.Begin settings) (Began settings) (item.Begin begun)
+  DealsBegin : (settings : List (List ℕ × Value)) → Deals (up.Begin settings) (Began settings) (item.Begin settings)
   DealsEnd : Deals up.End EndedRequest item.End
   DealsCall : (replay marked : Bool) (kept : List Draw) (call : Call) (answers : List Answer) (draws : List Draw) → Deals (up.Call replay kept call) (Called replay kept call answers draws) (item.Call marked call answers draws)
   DealsStop : (replay marked : Bool) (kept : List Draw) (call : Call) → Deals (up.Call replay kept call) (CallStopped replay call) (item.CrashedCall marked call)
@@ -183,7 +184,8 @@ connect_deals (Some frame) = DealsQuietly up.Connect Refused item.Connect (λ te
 
 ordinary_deals : (session : SessionId) (commits : ℕ) (frame : Up) (one : Item) (reply : Option Down) → is_item_of frame one ≡ true → same_replies reply (reply_of session commits one) ≡ true → Deals frame (thing_of frame (told_with one reply)) one
 ordinary_deals session commits up.Connect item.Connect reply is same = connect_deals reply
-ordinary_deals session commits (up.Begin settings) (item.Begin begun) None is same = DealsBegin settings begun
+ordinary_deals session commits (up.Begin settings) (item.Begin begun) None is same =
+    subst (λ (one : List (List ℕ × Value)). Deals (up.Begin settings) (Began settings) (item.Begin one)) (sym ((settings_decide begun settings).0 is)) (DealsBegin settings)
 ordinary_deals session commits (up.Begin settings) (item.Begin begun) (Some frame) is same = absurd (let never : ⊥ = cc in never)
 ordinary_deals session commits (up.Call replay kept call) (item.Call marked served answers draws) reply is same =
     answer_deals replay marked kept call served answers draws _ reply ((same_call_decides served call).0 (and_parts (same_bool marked replay) (same_call served call) is).1) same

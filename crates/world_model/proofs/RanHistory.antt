@@ -19,7 +19,7 @@ use Rattle.server_model.specs.Walk.{Transaction, Walk, deed_of, entered, after}
 use Rattle.world_model.specs.Basic.{is_stopped, ends_life, none_behind}
 use Rattle.world_model.specs.Serving.{is_last}
 use Rattle.world_model.specs.Frames.{Handled}
-use Rattle.world_model.specs.Same.{ServedCall, Ran, ran_item}
+use Rattle.world_model.specs.Same.{Ran, ran_item}
 use Rattle.world_model.specs.SessionHistory.{served_in, told_with, told_of}
 use Rattle.world_model.specs.Wire.{is_handled, counted_with, handled_from}
 use Rattle.world_model.proofs.RanFrames.{handled_deals, rests_behind, is_call, rests_rightly}
@@ -37,7 +37,7 @@ same_whole walk later same = ap (λ (stored : List Entry). stored ++ later.left)
 
 stores_whole : (walk later : Walk) (session : SessionId) (made : Transaction) (test : Bool) → Stores walk later session made test → whole_of later ≡ whole_of walk
 stores_whole walk later session made _ (Keeps stored left) = ap (λ (all : List Entry). all ++ later.left) stored ∙ ap (λ (all : List Entry). walk.stored ++ all) left
-stores_whole walk later session made _ (Takes entry rest left stored gone named pieces) =
+stores_whole walk later session made _ (Takes entry rest left stored gone named pieces start) =
     ap (λ (all : List Entry). all ++ later.left) stored ∙ ap (λ (all : List Entry). (walk.stored ++ entry ∷ []) ++ all) gone ∙ append_assoc walk.stored (entry ∷ []) rest ∙ ap (λ (all : List Entry). walk.stored ++ all) (sym left)
 
 pub moved_whole : (walk later : Walk) (session : SessionId) (thing : Thing) → Moved walk later session thing → whole_of later ≡ whole_of walk
@@ -64,8 +64,8 @@ asked_same base walk n x Stopped = record { stored = refl; left = refl; sessions
 
 module _ (base : Base) (all : List Entry) (session : SessionId) where
   -- where the session's transactions are these, and the history has nothing more of it
-  abbrev pub Done : List (List ServedCall) → List Happened → Type 0
-  Done over history = (walk : Walk) (n : ℕ) → items_hold base walk (items_from n history) ≡ true → whole_of walk ≡ all → served_in history session ≡ [] → StoredRight walk session over → list_all (has_ran session over) all ≡ true
+  abbrev pub Done : Ran → List Happened → Type 0
+  Done ran history = (walk : Walk) (n : ℕ) → items_hold base walk (items_from n history) ≡ true → whole_of walk ≡ all → served_in history session ≡ [] → StoredRight walk session ran → list_all (has_ran session ran) all ≡ true
 
   abbrev item_at : ℕ → SessionId → ℕ → Up → Telling → Item
   item_at n other now frame told = Did n now other (thing_of frame told)
@@ -77,20 +77,20 @@ module _ (base : Base) (all : List Entry) (session : SessionId) where
   pub both_hold : (walk : Walk) (one : Item) (items : List Item) → items_hold base walk (one ∷ items) ≡ true → (item_holds base (entered walk one) one (deed_of base (entered walk one) one) ≡ true) × (items_hold base (behind walk one) items ≡ true)
   both_hold walk one items held = and_parts (item_holds base (entered walk one) one (deed_of base (entered walk one) one)) (items_hold base (behind walk one) items) held
 
-  all_right : (over : List (List ServedCall)) (walk : Walk) → all_stored walk.left ≡ true → whole_of walk ≡ all → StoredRight walk session over → list_all (has_ran session over) all ≡ true
-  all_right over walk stored whole right =
-      ap (list_all (has_ran session over)) (sym whole ∙ ap (λ (left : List Entry). walk.stored ++ left) (none_left walk.left stored) ∙ append-nil walk.stored) ∙ right
+  all_right : (ran : Ran) (walk : Walk) → all_stored walk.left ≡ true → whole_of walk ≡ all → StoredRight walk session ran → list_all (has_ran session ran) all ≡ true
+  all_right ran walk stored whole right =
+      ap (list_all (has_ran session ran)) (sym whole ∙ ap (λ (left : List Entry). walk.stored ++ left) (none_left walk.left stored) ∙ append-nil walk.stored) ∙ right
 
-  done_asked : (over : List (List ServedCall)) (x : Ltxid) (told : Telling) (history : List Happened) → Done over history → Done over (Asked x told ∷ history)
-  done_asked over x told history again walk n held whole none right =
+  done_asked : (ran : Ran) (x : Ltxid) (told : Telling) (history : List Happened) → Done ran history → Done ran (Asked x told ∷ history)
+  done_asked ran x told history again walk n held whole none right =
       let one : Item = asked_of n x told in
       let same : IsSameWalk walk (behind walk one) = asked_same base walk n x told in
-      again (behind walk one) (n + 1) (both_hold walk one (items_from (n + 1) history) held).1 (same_whole walk (behind walk one) same ∙ whole) none (same_stored walk (behind walk one) session over same.stored right)
+      again (behind walk one) (n + 1) (both_hold walk one (items_from (n + 1) history) held).1 (same_whole walk (behind walk one) same ∙ whole) none (same_stored walk (behind walk one) session ran same.stored right)
 
-  done_served : (over : List (List ServedCall)) (other : SessionId) (now : ℕ) (frame : Up) (told : Telling) (history : List Happened) → Done over history → Done over (Served other now frame told ∷ history)
-  done_served over other now frame told history again walk n held whole none right = by (same_session other session) refl none
+  done_served : (ran : Ran) (other : SessionId) (now : ℕ) (frame : Up) (told : Telling) (history : List Happened) → Done ran history → Done ran (Served other now frame told ∷ history)
+  done_served ran other now frame told history again walk n held whole none right = by (same_session other session) refl none
     where
-      by : (test : Bool) → same_session other session ≡ test → (if test then (frame, told) ∷ served_in history session else served_in history session) ≡ [] → list_all (has_ran session over) all ≡ true
+      by : (test : Bool) → same_session other session ≡ test → (if test then (frame, told) ∷ served_in history session else served_in history session) ≡ [] → list_all (has_ran session ran) all ≡ true
       by true is none = absurd (let never : ⊥ = cc in never)
       by false apart none =
           let one : Item = item_at n other now frame told in
@@ -98,12 +98,12 @@ module _ (base : Base) (all : List Entry) (session : SessionId) where
           let parts = both_hold walk one (items_from (n + 1) history) held in
           let moved = thing_moved base here n now other (thing_of frame told) parts.0 in
           again (behind walk one) (n + 1) parts.1 (moved_whole here (behind walk one) other (thing_of frame told) moved ∙ same_whole walk here (enters walk one) ∙ whole) none
-          (others_stored here (behind walk one) other session (thing_of frame told) over apart moved (same_stored walk here session over (enters walk one).stored right))
+          (others_stored here (behind walk one) other session (thing_of frame told) ran apart moved (same_stored walk here session ran (enters walk one).stored right))
 
-  pub done_all : (over : List (List ServedCall)) (history : List Happened) → Done over history
-  done_all over [] = λ walk n held whole none right. all_right over walk held whole right
-  done_all over (Asked x told ∷ history) = done_asked over x told history (done_all over history)
-  done_all over (Served other now frame told ∷ history) = done_served over other now frame told history (done_all over history)
+  pub done_all : (ran : Ran) (history : List Happened) → Done ran history
+  done_all ran [] = λ walk n held whole none right. all_right ran walk held whole right
+  done_all ran (Asked x told ∷ history) = done_asked ran x told history (done_all ran history)
+  done_all ran (Served other now frame told ∷ history) = done_served ran other now frame told history (done_all ran history)
 
   -- A SESSION THAT GOES ON ------------------------------------------------------------------------
 
@@ -119,7 +119,7 @@ module _ (base : Base) (all : List Entry) (session : SessionId) where
 
   abbrev Runs : List Happened → Type 0
   Runs history = (walk : Walk) (n : ℕ) (served : List Handled) (ran : Ran) (resting : Bool) (commits : ℕ) → items_hold base walk (items_from n history) ≡ true → whole_of walk ≡ all → Rest history served resting commits → Stands walk session ran resting
-      → list_all (has_ran session (fold step ran served).over) all ≡ true
+      → list_all (has_ran session (fold step ran served)) all ≡ true
 
   runs_asked : (x : Ltxid) (told : Telling) (history : List Happened) → Runs history → Runs (Asked x told ∷ history)
   runs_asked x told history again walk n served ran resting commits held whole rest stands =
@@ -143,7 +143,7 @@ module _ (base : Base) (all : List Entry) (session : SessionId) where
   runs_own : (now : ℕ) (frame : Up) (told : Telling) (history : List Happened) → Runs history → (walk : Walk) (n : ℕ) (one : Handled) (others : List Handled) (ran : Ran) (resting : Bool) (commits : ℕ)
       → items_hold base walk (item_at n session now frame told ∷ items_from (n + 1) history) ≡ true → whole_of walk ≡ all → (frame, told) ≡ told_of one → served_in history session ≡ map told_of others
       → handled_from commits (one ∷ others) ≡ true → none_behind (one ∷ others) ≡ true → rests_rightly resting (map (λ h. h.sent.frame) (one ∷ others)) ≡ true → Stands walk session ran resting
-      → list_all (has_ran session (fold step ran (one ∷ others)).over) all ≡ true
+      → list_all (has_ran session (fold step ran (one ∷ others))) all ≡ true
   runs_own now frame told history again walk n one others ran resting commits held whole is has handled lone rests stands =
       by (own_stands (entered walk (item_at n session now frame told)) (behind walk (item_at n session now frame told)) session ran resting one.sent one.sent.frame (thing_of one.sent.frame (told_with one.served.item one.reply)) one.served.item
       (handled_deals (counted_with commits one.served.item) one parts.0) frames.0
@@ -165,20 +165,20 @@ module _ (base : Base) (all : List Entry) (session : SessionId) where
       whole_later : whole_of (behind walk (item_at n session now frame told)) ≡ all
       whole_later = moved_whole (entered walk (item_at n session now frame told)) (behind walk (item_at n session now frame told)) session (thing_of frame told) moved ∙ same_whole walk (entered walk (item_at n session now frame told)) (enters walk (item_at n session now frame told)) ∙ whole
 
-      by : GoesTo (behind walk (item_at n session now frame told)) session (step ran one) (rests_behind resting one.sent.frame) one.served.item → list_all (has_ran session (fold step (step ran one) others).over) all ≡ true
+      by : GoesTo (behind walk (item_at n session now frame told)) session (step ran one) (rests_behind resting one.sent.frame) one.served.item → list_all (has_ran session (fold step (step ran one) others)) all ≡ true
       by (GoesOn goes) =
           again (behind walk (item_at n session now frame told)) (n + 1) others (step ran one) (rests_behind resting one.sent.frame) (counted_with commits one.served.item) both.1 whole_later
           (record { has = has; handled = parts.1; lone = lone_later one others lone; rests = frames.1 }) goes
       by (IsDone marked called crashed right) =
           let none : others ≡ [] = stopped_last one others marked called lone crashed in
-          subst (λ (more : List Handled). list_all (has_ran session (fold step (step ran one) more).over) all ≡ true) (sym none)
-          (done_all (step ran one).over history (behind walk (item_at n session now frame told)) (n + 1) both.1 whole_later (has ∙ ap (map told_of) none) right)
+          subst (λ (more : List Handled). list_all (has_ran session (fold step (step ran one) more)) all ≡ true) (sym none)
+          (done_all (step ran one) history (behind walk (item_at n session now frame told)) (n + 1) both.1 whole_later (has ∙ ap (map told_of) none) right)
 
   runs_served : (other : SessionId) (now : ℕ) (frame : Up) (told : Telling) (history : List Happened) → Runs history → Runs (Served other now frame told ∷ history)
   runs_served other now frame told history again walk n served ran resting commits held whole rest stands = by (same_session other session) refl rest.has
     where
       of_list : (served : List Handled) → (frame, told) ∷ served_in history session ≡ map told_of served → handled_from commits served ≡ true → none_behind served ≡ true → rests_rightly resting (map (λ h. h.sent.frame) served) ≡ true
-          → items_hold base walk (item_at n session now frame told ∷ items_from (n + 1) history) ≡ true → list_all (has_ran session (fold step ran served).over) all ≡ true
+          → items_hold base walk (item_at n session now frame told ∷ items_from (n + 1) history) ≡ true → list_all (has_ran session (fold step ran served)) all ≡ true
       of_list [] has handled lone rests held = absurd (let never : ⊥ = cc in never)
       of_list (first ∷ others) has handled lone rests held =
           runs_own now frame told history again walk n first others ran resting commits held whole (head_same has) (tail_same has) handled lone rests stands
@@ -189,7 +189,7 @@ module _ (base : Base) (all : List Entry) (session : SessionId) where
           tail_same : {A : Type 0} {x y : A} {xs ys : List A} → x ∷ xs ≡ y ∷ ys → xs ≡ ys
           tail_same same = cc
 
-      by : (test : Bool) → same_session other session ≡ test → (if test then (frame, told) ∷ served_in history session else served_in history session) ≡ map told_of served → list_all (has_ran session (fold step ran served).over) all ≡ true
+      by : (test : Bool) → same_session other session ≡ test → (if test then (frame, told) ∷ served_in history session else served_in history session) ≡ map told_of served → list_all (has_ran session (fold step ran served)) all ≡ true
       by true is has =
           of_list served has rest.handled rest.lone rest.rests
           (subst (λ (s : SessionId). items_hold base walk (item_at n s now frame told ∷ items_from (n + 1) history) ≡ true) (same_session_is other session is) held)
@@ -203,7 +203,7 @@ module _ (base : Base) (all : List Entry) (session : SessionId) where
           (others_stand here (behind walk one) other session (thing_of frame told) ran resting apart moved (same_stands walk here session ran resting (enters walk one) stands))
 
   runs_none : Runs []
-  runs_none walk n [] ran resting commits held whole rest stands = all_right ran.over walk held whole stands.all
+  runs_none walk n [] ran resting commits held whole rest stands = all_right ran walk held whole stands.all
   runs_none walk n (one ∷ served) ran resting commits held whole rest stands = absurd (let has = rest.has in let never : ⊥ = cc in never)
 
   runs_all : (history : List Happened) → Runs history
@@ -213,6 +213,6 @@ module _ (base : Base) (all : List Entry) (session : SessionId) where
 
   -- from the start, where no entry of the time before is the session's
   pub history_ran : (history : List Happened) (walk : Walk) (served : List Handled) (ran : Ran) → items_hold base walk (items_from 0 history) ≡ true → whole_of walk ≡ all → served_in history session ≡ map told_of served → handled_from 0 served ≡ true
-      → none_behind served ≡ true → rests_rightly false (map (λ one. one.sent.frame) served) ≡ true → Stands walk session ran false → list_all (has_ran session (fold step ran served).over) all ≡ true
+      → none_behind served ≡ true → rests_rightly false (map (λ one. one.sent.frame) served) ≡ true → Stands walk session ran false → list_all (has_ran session (fold step ran served)) all ≡ true
   history_ran history walk served ran held whole has handled lone rests stands =
       runs_all history walk 0 served ran false 0 held whole (record { has = has; handled = handled; lone = lone; rests = rests }) stands

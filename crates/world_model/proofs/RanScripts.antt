@@ -315,7 +315,7 @@ module _ (course : Course) where
 link_scripts : (course : Course) (current : Bool) (link : Link) → is_sent_front link ≡ true → is_right (stage_of link) ≡ true → handled_from 0 link.served ≡ true → none_behind link.served ≡ true → is_row course current (calls_on course link) ≡ true
     → runs_script_calls course link ≡ true
 link_scripts course current link sent right handled lone row =
-    all_known course link.served New start (record { settings = []; at_start = []; pieces = []; over = [] }) 0 handled lone (front_right New served link.sent front right) (front_row course start served link.sent front parts.0)
+    all_known course link.served New start (record { settings = []; at_start = []; pieces = []; over = []; starts = [] }) 0 handled lone (front_right New served link.sent front right) (front_row course start served link.sent front parts.0)
     (front_all (follows course) (follows_alike course) served link.sent front (unfiltered (λ (s : Sent). is_script_frame course s s.frame) (is_mine course) link.sent (and_parts (list_all (λ (s : Sent). is_script_frame course s s.frame) (calls_on course link)) _ parts.1).0))
     refl refl
   where

@@ -3,7 +3,7 @@ use Rattle.std.proofs.Common.{◌≡◌, refl, sym, ap, subst, ◌∙◌, arith,
 use Rattle.std.specs.Prelude.{slice_get}
 use Rattle.std.specs.List.{list_all}
 use Rattle.std.specs.Option.{option_map_or}
-use Rattle.std.proofs.lemmas.Bool.{and_from, or_left, or_right}
+use Rattle.std.proofs.lemmas.Bool.{and_parts, and_from, or_left, or_right}
 use Rattle.std.proofs.lemmas.List.{map-append, length_push}
 use Rattle.std.proofs.lemmas.List.Elements.{filter-append}
 use Rattle.std.proofs.lemmas.List.Folds.{list_all-append}
@@ -17,20 +17,23 @@ use Rattle.svc_values.specs.declared.entry.Ltxid.{Ltxid}
 use Rattle.svc_values.specs.declared.entry.Piece.{Piece}
 use Rattle.svc_values.specs.declared.entry.SessionId.{SessionId}
 use Rattle.svc_values.specs.declared.frame.Up.{Up}
+use Rattle.svc_values.specs.declared.value.Value.{Value}
 use Rattle.svc_values.specs.Endings.{last_answer, ends_committed, is_committed, is_conflict, is_rolled_back}
 use Rattle.svc_values.specs.Identifiers.{is_of, same_session}
 use Rattle.svc_values.specs.Same.{same_piece, same_call}
 use Rattle.svc_values.specs.SameLaws.{same_call_decides, same_piece_decides}
+use Rattle.svc_values.specs.SettingsList.{same_settings, with_set}
 use Rattle.outage_schedule.specs.declared.item.Item.{Item as ItemTold}
 use Rattle.outage_schedule.specs.declared.item.Item.TheVariants as item
 use Rattle.server_model.specs.Items.{Thing, Began, Called, CallStopped}
 use Rattle.server_model.specs.Walk.{Transaction, begun, Walk, with_transaction, transaction_in, number_of, next_of, is_ending, ends, if_ended}
 use Rattle.world_model.specs.Frames.{Sent}
 use Rattle.world_model.specs.Parts.{implies}
-use Rattle.world_model.specs.Same.{ServedCall, Ran, is_no_commit, did_all, with_call, ran_item, is_piece_of, are_pieces}
+use Rattle.world_model.specs.Same.{ServedCall, Ran, begins, is_no_commit, did_all, with_call, ran_item, is_piece_of, are_pieces}
 use Rattle.world_model.proofs.AllLists.{weaker_all}
 use Rattle.world_model.proofs.RanFrames.{Deals, DealsBegin, DealsEnd, DealsCall, DealsStop, DealsQuietly, rests_behind, is_call, is_quiet_item, is_quiet_thing}
 use Rattle.world_model.proofs.RanWalks.{IsSameWalk, Stores, Takes, Keeps, Calls, Stops, IsStored, IsNothing, Moved, committed_ends}
+use Rattle.world_model.proofs.RanSettings.{IsBeside, set_beside, set_settings}
 use Rattle.world_model.proofs.Recalling.{get_further, get_last}
 use Rattle.world_model.proofs.Tests.{session_self, same_session_is}
 
@@ -71,55 +74,107 @@ number_other : (stored : List Entry) (entry : Entry) (session : SessionId) → i
 number_other stored entry session is =
     number_more stored entry session ∙ ap (λ (test : Bool). number_of stored session + length (cond test (entry ∷ []) [])) is ∙ (let same : number_of stored session + 0 ≡ number_of stored session = omega arith in same)
 
--- an entry of this session has the pieces of its transaction
-abbrev pub has_ran : SessionId → List (List ServedCall) → Entry → Bool
-has_ran session over entry = implies (is_its session entry) (option_map_or (λ dids. are_pieces dids entry.pieces) (slice_get over entry.ltxid.number) false)
+-- before anything was served
+abbrev pub none_ran : Ran
+none_ran = record { settings = []; at_start = []; pieces = []; over = []; starts = [] }
 
-more_ran : (session : SessionId) (over more : List (List ServedCall)) (entry : Entry) → has_ran session over entry ≡ true → has_ran session (over ++ more) entry ≡ true
-more_ran session over more entry = by (is_its session entry)
+-- an entry of this session has the pieces of its transaction, and the settings at its start
+abbrev pub has_pieces_of : Ran → Entry → Bool
+has_pieces_of ran entry = option_map_or (λ dids. are_pieces dids entry.pieces) (slice_get ran.over entry.ltxid.number) false
+
+abbrev pub has_start_of : Ran → Entry → Bool
+has_start_of ran entry = option_map_or (same_settings entry.settings) (slice_get ran.starts entry.ltxid.number) false
+
+abbrev pub has_ran : SessionId → Ran → Entry → Bool
+has_ran session ran entry = implies (is_its session entry) (has_pieces_of ran entry && has_start_of ran entry)
+
+pub ran_pieces : (session : SessionId) (ran : Ran) (entry : Entry) → has_ran session ran entry ≡ true → implies (is_its session entry) (has_pieces_of ran entry) ≡ true
+ran_pieces session ran entry = by (is_its session entry)
   where
-    found : (dids : Option (List ServedCall)) → slice_get over entry.ltxid.number ≡ dids → option_map_or (λ dids. are_pieces dids entry.pieces) dids false ≡ true
-        → option_map_or (λ dids. are_pieces dids entry.pieces) (slice_get (over ++ more) entry.ltxid.number) false ≡ true
-    found None is ran = absurd (let never : ⊥ = cc in never)
-    found (Some dids) is ran = ap (λ (all : Option (List ServedCall)). option_map_or (λ dids. are_pieces dids entry.pieces) all false) (get_further over more entry.ltxid.number dids is) ∙ ran
+    by : (own : Bool) → implies own (has_pieces_of ran entry && has_start_of ran entry) ≡ true → implies own (has_pieces_of ran entry) ≡ true
+    by false is = refl
+    by true is = (and_parts (has_pieces_of ran entry) (has_start_of ran entry) is).0
 
-    by : (own : Bool) → implies own (option_map_or (λ dids. are_pieces dids entry.pieces) (slice_get over entry.ltxid.number) false) ≡ true
-        → implies own (option_map_or (λ dids. are_pieces dids entry.pieces) (slice_get (over ++ more) entry.ltxid.number) false) ≡ true
-    by false ran = refl
-    by true ran = found (slice_get over entry.ltxid.number) refl ran
+pub ran_start : (session : SessionId) (ran : Ran) (entry : Entry) → has_ran session ran entry ≡ true → implies (is_its session entry) (has_start_of ran entry) ≡ true
+ran_start session ran entry = by (is_its session entry)
+  where
+    by : (own : Bool) → implies own (has_pieces_of ran entry && has_start_of ran entry) ≡ true → implies own (has_start_of ran entry) ≡ true
+    by false is = refl
+    by true is = (and_parts (has_pieces_of ran entry) (has_start_of ran entry) is).1
 
-pub other_ran : (session : SessionId) (over : List (List ServedCall)) (entry : Entry) → is_its session entry ≡ false → has_ran session over entry ≡ true
-other_ran session over entry is = ap (λ (own : Bool). implies own (option_map_or (λ dids. are_pieces dids entry.pieces) (slice_get over entry.ltxid.number) false)) is
+further : {A : Type 0} (test : A → Bool) (list more : List A) (number : ℕ) → option_map_or test (slice_get list number) false ≡ true → option_map_or test (slice_get (list ++ more) number) false ≡ true
+further {A} test list more number = by (slice_get list number) refl
+  where
+    by : (found : Option A) → slice_get list number ≡ found → option_map_or test found false ≡ true → option_map_or test (slice_get (list ++ more) number) false ≡ true
+    by None is passes = absurd (let never : ⊥ = cc in never)
+    by (Some x) is passes = ap (λ (found : Option A). option_map_or test found false) (get_further list more number x is) ∙ passes
+
+-- one transaction more is over
+pub record IsMore (ran later : Ran) (dids : List ServedCall) (start : List (List ℕ × Value)) : Type 0 where
+  pub over : later.over ≡ ran.over ++ dids ∷ []
+  pub starts : later.starts ≡ ran.starts ++ start ∷ []
+
+more_ran : (session : SessionId) (ran later : Ran) (dids : List ServedCall) (start : List (List ℕ × Value)) → IsMore ran later dids start → (entry : Entry) → has_ran session ran entry ≡ true → has_ran session later entry ≡ true
+more_ran session ran later dids start more entry = by (is_its session entry)
+  where
+    by : (own : Bool) → implies own (has_pieces_of ran entry && has_start_of ran entry) ≡ true → implies own (has_pieces_of later entry && has_start_of later entry) ≡ true
+    by false is = refl
+    by true is =
+        let parts = and_parts (has_pieces_of ran entry) (has_start_of ran entry) is in
+        and_from (has_pieces_of later entry) (has_start_of later entry)
+        (ap (λ (over : List (List ServedCall)). option_map_or (λ dids. are_pieces dids entry.pieces) (slice_get over entry.ltxid.number) false) more.over ∙ further (λ dids. are_pieces dids entry.pieces) ran.over (dids ∷ []) entry.ltxid.number parts.0)
+        (ap (λ (starts : List (List (List ℕ × Value))). option_map_or (same_settings entry.settings) (slice_get starts entry.ltxid.number) false) more.starts ∙ further (same_settings entry.settings) ran.starts (start ∷ []) entry.ltxid.number parts.1)
+
+pub other_ran : (session : SessionId) (ran : Ran) (entry : Entry) → is_its session entry ≡ false → has_ran session ran entry ≡ true
+other_ran session ran entry is = ap (λ (own : Bool). implies own (has_pieces_of ran entry && has_start_of ran entry)) is
+
+last_at : {A : Type 0} (test : A → Bool) (list : List A) (x : A) (number : ℕ) → number ≡ length list → test x ≡ true → option_map_or test (slice_get (list ++ x ∷ []) number) false ≡ true
+last_at {A} test list x number is passes =
+    ap (λ (n : ℕ). option_map_or test (slice_get (list ++ x ∷ []) n) false) is ∙ ap (λ (found : Option A). option_map_or test found false) (get_last list x) ∙ passes
 
 -- the last one
-last_ran : (session : SessionId) (over : List (List ServedCall)) (dids : List ServedCall) (entry : Entry) → is_its session entry ≡ true → entry.ltxid.number ≡ length over → are_pieces dids entry.pieces ≡ true → has_ran session (over ++ dids ∷ []) entry ≡ true
-last_ran session over dids entry own number pieces =
-    ap (λ (test : Bool). implies test (option_map_or (λ all. are_pieces all entry.pieces) (slice_get (over ++ dids ∷ []) entry.ltxid.number) false)) own
-    ∙ ap (λ (n : ℕ). option_map_or (λ all. are_pieces all entry.pieces) (slice_get (over ++ dids ∷ []) n) false) number
-    ∙ ap (λ (all : Option (List ServedCall)). option_map_or (λ all. are_pieces all entry.pieces) all false) (get_last over dids) ∙ pieces
+last_ran : (session : SessionId) (ran later : Ran) (dids : List ServedCall) (start : List (List ℕ × Value)) (entry : Entry) → IsMore ran later dids start → length ran.starts ≡ length ran.over → is_its session entry ≡ true → entry.ltxid.number ≡ length ran.over
+    → are_pieces dids entry.pieces ≡ true → same_settings entry.settings start ≡ true → has_ran session later entry ≡ true
+last_ran session ran later dids start entry more many own number pieces settings =
+    ap (λ (test : Bool). implies test (has_pieces_of later entry && has_start_of later entry)) own
+    ∙ and_from (has_pieces_of later entry) (has_start_of later entry)
+    (ap (λ (over : List (List ServedCall)). option_map_or (λ dids. are_pieces dids entry.pieces) (slice_get over entry.ltxid.number) false) more.over ∙ last_at (λ dids. are_pieces dids entry.pieces) ran.over dids entry.ltxid.number number pieces)
+    (ap (λ (starts : List (List (List ℕ × Value))). option_map_or (same_settings entry.settings) (slice_get starts entry.ltxid.number) false) more.starts
+    ∙ last_at (same_settings entry.settings) ran.starts start entry.ltxid.number (number ∙ sym many) settings)
 
 -- WHERE A SESSION STANDS --------------------------------------------------------------------------
 
-abbrev pub StoredRight : Walk → SessionId → List (List ServedCall) → Type 0
-StoredRight walk session over = list_all (has_ran session over) walk.stored ≡ true
+abbrev pub StoredRight : Walk → SessionId → Ran → Type 0
+StoredRight walk session ran = list_all (has_ran session ran) walk.stored ≡ true
 
 abbrev pub pieces_of : List ServedCall → List Piece
 pieces_of dids = map (λ did. did.piece) dids
 
--- It has an entry for each transaction that is over; what is open has the pieces of the walk's transaction, but between requests.
+-- what is open is the walk's transaction
+pub record IsNow (transaction : Transaction) (ran : Ran) : Type 0 where
+  pub pieces : transaction.pieces ≡ pieces_of ran.pieces
+  pub settings : transaction.settings ≡ ran.settings
+  pub at_start : transaction.at_start ≡ ran.at_start
+
+-- It has an entry for each transaction that is over; what is open is the walk's transaction, but between requests.
 pub record Stands (walk : Walk) (session : SessionId) (ran : Ran) (resting : Bool) : Type 0 where
   pub count : number_of walk.stored session ≡ length ran.over
-  pub now : resting ≡ false → (transaction_in walk.sessions session).pieces ≡ pieces_of ran.pieces
-  pub all : StoredRight walk session ran.over
+  pub many : length ran.starts ≡ length ran.over
+  pub now : resting ≡ false → IsNow (transaction_in walk.sessions session) ran
+  pub all : StoredRight walk session ran
 
-pub same_stored : (walk later : Walk) (session : SessionId) (over : List (List ServedCall)) → later.stored ≡ walk.stored → StoredRight walk session over → StoredRight later session over
-same_stored walk later session over same all = ap (list_all (has_ran session over)) same ∙ all
+pub same_stored : (walk later : Walk) (session : SessionId) (ran : Ran) → later.stored ≡ walk.stored → StoredRight walk session ran → StoredRight later session ran
+same_stored walk later session ran same all = ap (list_all (has_ran session ran)) same ∙ all
+
+now_same : (a b : Transaction) (ran : Ran) → b ≡ a → IsNow a ran → IsNow b ran
+now_same a b ran same now = subst (λ (transaction : Transaction). IsNow transaction ran) (sym same) now
 
 pub same_stands : (walk later : Walk) (session : SessionId) (ran : Ran) (resting : Bool) → IsSameWalk walk later → Stands walk session ran resting → Stands later session ran resting
 same_stands walk later session ran resting same stands = record {
   count = ap (λ (stored : List Entry). number_of stored session) same.stored ∙ stands.count;
-  now = λ is. ap (λ (sessions : List (SessionId × Transaction)). (transaction_in sessions session).pieces) same.sessions ∙ stands.now is;
-  all = same_stored walk later session ran.over same.stored stands.all;
+  many = stands.many;
+  now = λ is. now_same (transaction_in walk.sessions session) (transaction_in later.sessions session) ran (ap (λ (sessions : List (SessionId × Transaction)). transaction_in sessions session) same.sessions) (stands.now is);
+  all = same_stored walk later session ran same.stored stands.all;
 }
 
 -- ANOTHER SESSION'S ITEM --------------------------------------------------------------------------
@@ -128,13 +183,13 @@ same_stands walk later session ran resting same stands = record {
 pub record IsOthers (walk later : Walk) (session : SessionId) : Type 0 where
   pub count : number_of later.stored session ≡ number_of walk.stored session
   pub transaction : transaction_in later.sessions session ≡ transaction_in walk.sessions session
-  pub all : (over : List (List ServedCall)) → StoredRight walk session over → StoredRight later session over
+  pub all : (ran : Ran) → StoredRight walk session ran → StoredRight later session ran
 
 same_others : (walk later : Walk) (session : SessionId) → IsSameWalk walk later → IsOthers walk later session
 same_others walk later session same = record {
   count = ap (λ (stored : List Entry). number_of stored session) same.stored;
   transaction = ap (λ (sessions : List (SessionId × Transaction)). transaction_in sessions session) same.sessions;
-  all = λ over all. same_stored walk later session over same.stored all;
+  all = λ ran all. same_stored walk later session ran same.stored all;
 }
 
 calls_others : (walk later : Walk) (other session : SessionId) (called : Call) (answers : List Answer) (draws : List Draw) → same_session other session ≡ false → Calls walk later other called answers draws → IsOthers walk later session
@@ -147,36 +202,41 @@ calls_others walk later other session called answers draws apart calls = by (end
     by _ (Keeps stored left) = record {
       count = ap (λ (all : List Entry). number_of all session) stored;
       transaction = transaction_is;
-      all = λ over all. same_stored walk later session over stored all;
+      all = λ ran all. same_stored walk later session ran stored all;
     }
-    by _ (Takes entry rest left stored gone named pieces) =
+    by _ (Takes entry rest left stored gone named pieces start) =
         let foreign : is_its session entry ≡ false = ap (λ (x : Ltxid). is_of x session.incarnation session.session) named ∙ apart in
         record {
           count = ap (λ (all : List Entry). number_of all session) stored ∙ number_other walk.stored entry session foreign;
           transaction = transaction_is;
-          all = λ over all.
-              ap (list_all (has_ran session over)) stored ∙ list_all-append (has_ran session over) walk.stored (entry ∷ [])
-              ∙ and_from (list_all (has_ran session over) walk.stored) (list_all (has_ran session over) (entry ∷ [])) all (and_from (has_ran session over entry) true (other_ran session over entry foreign) refl);
+          all = λ ran all.
+              ap (list_all (has_ran session ran)) stored ∙ list_all-append (has_ran session ran) walk.stored (entry ∷ [])
+              ∙ and_from (list_all (has_ran session ran) walk.stored) (list_all (has_ran session ran) (entry ∷ [])) all (and_from (has_ran session ran entry) true (other_ran session ran entry foreign) refl);
         }
 
 pub moved_others : (walk later : Walk) (other session : SessionId) (thing : Thing) → same_session other session ≡ false → Moved walk later other thing → IsOthers walk later session
 moved_others walk later other session (Began settings) apart moved = record {
   count = ap (λ (stored : List Entry). number_of stored session) moved.stored;
   transaction = ap (λ (sessions : List (SessionId × Transaction)). transaction_in sessions session) moved.sessions ∙ transaction_other walk.sessions other session (begun settings) apart;
-  all = λ over all. same_stored walk later session over moved.stored all;
+  all = λ ran all. same_stored walk later session ran moved.stored all;
 }
 moved_others walk later other session (Called replay kept called answers draws) apart moved = calls_others walk later other session called answers draws apart moved
 moved_others walk later other session (CallStopped replay called) apart (IsStored answers draws calls) = calls_others walk later other session called answers draws apart calls
 moved_others walk later other session (CallStopped replay called) apart (IsNothing same) = same_others walk later session same
 moved_others walk later other session thing apart moved = same_others walk later session moved
 
-pub others_stored : (walk later : Walk) (other session : SessionId) (thing : Thing) (over : List (List ServedCall)) → same_session other session ≡ false → Moved walk later other thing → StoredRight walk session over → StoredRight later session over
-others_stored walk later other session thing over apart moved all = (moved_others walk later other session thing apart moved).all over all
+pub others_stored : (walk later : Walk) (other session : SessionId) (thing : Thing) (ran : Ran) → same_session other session ≡ false → Moved walk later other thing → StoredRight walk session ran → StoredRight later session ran
+others_stored walk later other session thing ran apart moved all = (moved_others walk later other session thing apart moved).all ran all
 
 pub others_stand : (walk later : Walk) (other session : SessionId) (thing : Thing) (ran : Ran) (resting : Bool) → same_session other session ≡ false → Moved walk later other thing → Stands walk session ran resting → Stands later session ran resting
 others_stand walk later other session thing ran resting apart moved stands =
     let so = moved_others walk later other session thing apart moved in
-    record { count = so.count ∙ stands.count; now = λ is. ap (λ (t : Transaction). t.pieces) so.transaction ∙ stands.now is; all = so.all ran.over stands.all }
+    record {
+      count = so.count ∙ stands.count;
+      many = stands.many;
+      now = λ is. now_same (transaction_in walk.sessions session) (transaction_in later.sessions session) ran so.transaction (stands.now is);
+      all = so.all ran stands.all;
+    }
 
 -- ITS OWN ITEM ------------------------------------------------------------------------------------
 
@@ -205,13 +265,21 @@ over_same ran called = refl
 own_entry : (walk : Walk) (session : SessionId) (entry : Entry) → entry.ltxid ≡ next_of walk session → is_its session entry ≡ true
 own_entry walk session entry named = ap (λ (x : Ltxid). is_of x session.incarnation session.session) named ∙ session_self session
 
-more_stored : (walk later : Walk) (session : SessionId) (over : List (List ServedCall)) (dids : List ServedCall) (entry : Entry) → number_of walk.stored session ≡ length over → StoredRight walk session over → later.stored ≡ walk.stored ++ entry ∷ []
-    → entry.ltxid ≡ next_of walk session → are_pieces dids entry.pieces ≡ true → StoredRight later session (over ++ dids ∷ [])
-more_stored walk later session over dids entry count all stored named pieces =
-    ap (list_all (has_ran session (over ++ dids ∷ []))) stored ∙ list_all-append (has_ran session (over ++ dids ∷ [])) walk.stored (entry ∷ [])
-    ∙ and_from (list_all (has_ran session (over ++ dids ∷ [])) walk.stored) (list_all (has_ran session (over ++ dids ∷ [])) (entry ∷ []))
-    (weaker_all (has_ran session over) (has_ran session (over ++ dids ∷ [])) walk.stored (more_ran session over (dids ∷ [])) all)
-    (and_from (has_ran session (over ++ dids ∷ []) entry) true (last_ran session over dids entry (own_entry walk session entry named) (ap (λ (x : Ltxid). x.number) named ∙ count) pieces) refl)
+more_stored : (walk later : Walk) (session : SessionId) (ran behind : Ran) (dids : List ServedCall) (start : List (List ℕ × Value)) (entry : Entry) → IsMore ran behind dids start → length ran.starts ≡ length ran.over → number_of walk.stored session ≡ length ran.over
+    → StoredRight walk session ran → later.stored ≡ walk.stored ++ entry ∷ [] → entry.ltxid ≡ next_of walk session → are_pieces dids entry.pieces ≡ true → same_settings entry.settings start ≡ true → StoredRight later session behind
+more_stored walk later session ran behind dids start entry more many count all stored named pieces settings =
+    ap (list_all (has_ran session behind)) stored ∙ list_all-append (has_ran session behind) walk.stored (entry ∷ [])
+    ∙ and_from (list_all (has_ran session behind) walk.stored) (list_all (has_ran session behind) (entry ∷ []))
+    (weaker_all (has_ran session ran) (has_ran session behind) walk.stored (more_ran session ran behind dids start more) all)
+    (and_from (has_ran session behind entry) true (last_ran session ran behind dids start entry more many (own_entry walk session entry named) (ap (λ (x : Ltxid). x.number) named ∙ count) pieces settings) refl)
+
+-- a `set` is beside what is over
+set_right : (walk : Walk) (session : SessionId) (ran : Ran) (called : Call) → StoredRight walk session ran → StoredRight walk session (with_call ran called)
+set_right walk session ran (call.Set name x) all = all
+set_right walk session ran called all = all
+
+begun_right : (walk : Walk) (session : SessionId) (ran : Ran) → StoredRight walk session ran → StoredRight walk session (begins ran)
+begun_right walk session ran all = all
 
 call_stands : (walk later : Walk) (session : SessionId) (ran : Ran) (sent : Sent) (marked : Bool) (called : Call) (answers : List Answer) (draws : List Draw) → Calls walk later session called answers draws → Stands walk session ran false
     → Stands later session (ran_item ran sent (item.Call marked called answers draws)) false
@@ -228,59 +296,90 @@ call_stands walk later session ran sent marked called answers draws calls stands
     behind : Ran
     behind = with_call ran called
 
-    count_is : number_of walk.stored session ≡ length behind.over
-    count_is = stands.count ∙ ap length (sym (over_same ran called))
+    beside : IsBeside ran called
+    beside = set_beside ran called
 
-    all_is : StoredRight walk session behind.over
-    all_is = subst (StoredRight walk session) (sym (over_same ran called)) stands.all
+    was : IsNow (transaction_in walk.sessions session) ran
+    was = stands.now refl
+
+    count_is : number_of walk.stored session ≡ length behind.over
+    count_is = stands.count ∙ ap length (sym beside.over)
+
+    many_is : length behind.starts ≡ length behind.over
+    many_is = ap length beside.starts ∙ stands.many ∙ ap length (sym beside.over)
+
+    all_is : StoredRight walk session behind
+    all_is = set_right walk session ran called stands.all
 
     made_is : calls.made.pieces ≡ pieces_of dids
-    made_is = calls.pieces ∙ ap (λ (pieces : List Piece). pieces ++ did.piece ∷ []) (stands.now refl) ∙ sym (map-append (λ (d : ServedCall). d.piece) ran.pieces (did ∷ []))
+    made_is = calls.pieces ∙ ap (λ (pieces : List Piece). pieces ++ did.piece ∷ []) was.pieces ∙ sym (map-append (λ (d : ServedCall). d.piece) ran.pieces (did ∷ []))
 
-    open_is : (transaction : Transaction) → later.sessions ≡ with_transaction walk.sessions session transaction → (transaction_in later.sessions session).pieces ≡ transaction.pieces
-    open_is transaction is = ap (λ (sessions : List (SessionId × Transaction)). (transaction_in sessions session).pieces) is ∙ ap (λ (t : Transaction). t.pieces) (transaction_own walk.sessions session transaction)
+    settings_is : calls.made.settings ≡ behind.settings
+    settings_is = calls.settings ∙ ap (λ (settings : List (List ℕ × Value)). with_set settings called) was.settings ∙ sym (set_settings ran called)
+
+    start_is : calls.made.at_start ≡ behind.at_start
+    start_is = calls.at_start ∙ was.at_start ∙ sym beside.at_start
+
+    open_is : (transaction : Transaction) (made : Ran) → later.sessions ≡ with_transaction walk.sessions session transaction → IsNow transaction made → IsNow (transaction_in later.sessions session) made
+    open_is transaction made is now =
+        now_same transaction (transaction_in later.sessions session) made (ap (λ (sessions : List (SessionId × Transaction)). transaction_in sessions session) is ∙ transaction_own walk.sessions session transaction) now
+
+    begun_is : (made : Ran) → made.pieces ≡ [] → made.settings ≡ behind.settings → made.at_start ≡ behind.settings → IsNow (begun calls.made.settings) made
+    begun_is made none settings start = record { pieces = sym (ap pieces_of none); settings = settings_is ∙ sym settings; at_start = settings_is ∙ sym start }
 
     by : (committed ended : Bool) → (committed ≡ true → ended ≡ true) → Stores walk later session calls.made committed → later.sessions ≡ with_transaction walk.sessions session (if_ended ended calls.made)
         → Stands later session (did_all behind committed ended dids) false
-    by true true also (Takes entry rest left stored gone named pieces) sessions = record {
+    by true true also (Takes entry rest left stored gone named pieces start) sessions = record {
       count = ap (λ (all : List Entry). number_of all session) stored ∙ number_own walk.stored entry session (own_entry walk session entry named) ∙ ap (λ (n : ℕ). n + 1) count_is ∙ sym (length_push behind.over dids);
-      now = λ is. open_is (begun calls.made.settings) sessions;
-      all = more_stored walk later session behind.over dids entry count_is all_is stored named (ap (are_pieces dids) (pieces ∙ made_is) ∙ pieces_own dids);
+      many = length_push behind.starts behind.at_start ∙ ap (λ (n : ℕ). n + 1) many_is ∙ sym (length_push behind.over dids);
+      now = λ is. open_is (begun calls.made.settings) (did_all behind true true dids) sessions (begun_is (did_all behind true true dids) refl refl refl);
+      all = more_stored walk later session behind (did_all behind true true dids) dids behind.at_start entry (record { over = refl; starts = refl }) many_is count_is all_is stored named (ap (are_pieces dids) (pieces ∙ made_is) ∙ pieces_own dids)
+          (ap (same_settings entry.settings) (sym start_is) ∙ start);
     }
     by true false also stores sessions = absurd (let so : false ≡ true = also refl in let never : ⊥ = cc in never)
     by false true also (Keeps stored left) sessions = record {
       count = ap (λ (all : List Entry). number_of all session) stored ∙ count_is;
-      now = λ is. open_is (begun calls.made.settings) sessions;
-      all = same_stored walk later session behind.over stored all_is;
+      many = many_is;
+      now = λ is. open_is (begun calls.made.settings) (begins behind) sessions (begun_is (begins behind) refl refl refl);
+      all = begun_right later session behind (same_stored walk later session behind stored all_is);
     }
     by false false also (Keeps stored left) sessions = record {
       count = ap (λ (all : List Entry). number_of all session) stored ∙ count_is;
-      now = λ is. open_is calls.made sessions ∙ made_is;
-      all = same_stored walk later session behind.over stored all_is;
+      many = many_is;
+      now = λ is. open_is calls.made (did_all behind false false dids) sessions (record { pieces = made_is; settings = settings_is; at_start = start_is });
+      all = same_stored walk later session behind stored all_is;
     }
 
 stop_stored : (walk later : Walk) (session : SessionId) (ran : Ran) (sent : Sent) (marked : Bool) (called : Call) → Stops walk later session called → Stands walk session ran false
-    → StoredRight later session (ran_item ran sent (item.CrashedCall marked called)).over
+    → StoredRight later session (ran_item ran sent (item.CrashedCall marked called))
 stop_stored walk later session ran sent marked called stops stands = by stops
   where
     did : ServedCall
     did = record { sent = sent; mark = marked; piece = record { call = called; answers = []; draws = [] } }
 
-    none_more : later.stored ≡ walk.stored → StoredRight later session (ran.over ++ (ran.pieces ++ did ∷ []) ∷ [])
-    none_more same = same_stored walk later session (ran.over ++ (ran.pieces ++ did ∷ []) ∷ []) same (weaker_all (has_ran session ran.over) (has_ran session (ran.over ++ (ran.pieces ++ did ∷ []) ∷ [])) walk.stored (more_ran session ran.over ((ran.pieces ++ did ∷ []) ∷ [])) stands.all)
+    behind : Ran
+    behind = ran_item ran sent (item.CrashedCall marked called)
 
-    stored_by : (answers : List Answer) (draws : List Draw) (made : Transaction) (test : Bool) → made.pieces ≡ (transaction_in walk.sessions session).pieces ++ record { call = called; answers = answers; draws = draws } ∷ [] → Stores walk later session made test
-        → StoredRight later session (ran.over ++ (ran.pieces ++ did ∷ []) ∷ [])
-    stored_by answers draws made _ is (Keeps stored left) = none_more stored
-    stored_by answers draws made _ is (Takes entry rest left stored gone named pieces) =
+    more : IsMore ran behind (ran.pieces ++ did ∷ []) ran.at_start
+    more = record { over = refl; starts = refl }
+
+    none_more : later.stored ≡ walk.stored → StoredRight later session behind
+    none_more same = same_stored walk later session behind same (weaker_all (has_ran session ran) (has_ran session behind) walk.stored (more_ran session ran behind (ran.pieces ++ did ∷ []) ran.at_start more) stands.all)
+
+    stored_by : (answers : List Answer) (draws : List Draw) (made : Transaction) (test : Bool) → made.pieces ≡ (transaction_in walk.sessions session).pieces ++ record { call = called; answers = answers; draws = draws } ∷ []
+        → made.at_start ≡ (transaction_in walk.sessions session).at_start → Stores walk later session made test → StoredRight later session behind
+    stored_by answers draws made _ is from (Keeps stored left) = none_more stored
+    stored_by answers draws made _ is from (Takes entry rest left stored gone named pieces start) =
         let piece : Piece = record { call = called; answers = answers; draws = draws } in
-        more_stored walk later session ran.over (ran.pieces ++ did ∷ []) entry stands.count stands.all stored named
-        (ap (are_pieces (ran.pieces ++ did ∷ [])) (pieces ∙ is ∙ ap (λ (all : List Piece). all ++ piece ∷ []) (stands.now refl))
+        let now : IsNow (transaction_in walk.sessions session) ran = stands.now refl in
+        more_stored walk later session ran behind (ran.pieces ++ did ∷ []) ran.at_start entry more stands.many stands.count stands.all stored named
+        (ap (are_pieces (ran.pieces ++ did ∷ [])) (pieces ∙ is ∙ ap (λ (all : List Piece). all ++ piece ∷ []) now.pieces)
         ∙ pieces_more ran.pieces did piece (or_right (same_piece did.piece piece) (same_call called called) ((same_call_decides called called).1 refl)))
+        (ap (same_settings entry.settings) (sym (from ∙ now.at_start)) ∙ start)
 
-    by : Stops walk later session called → StoredRight later session (ran.over ++ (ran.pieces ++ did ∷ []) ∷ [])
+    by : Stops walk later session called → StoredRight later session behind
     by (IsNothing same) = none_more same.stored
-    by (IsStored answers draws calls) = stored_by answers draws calls.made (ends_committed answers) calls.pieces calls.stores
+    by (IsStored answers draws calls) = stored_by answers draws calls.made (ends_committed answers) calls.pieces calls.at_start calls.stores
 
 quiet_item : (ran : Ran) (sent : Sent) (one : ItemTold) → is_quiet_item one ≡ true → ran_item ran sent one ≡ ran
 quiet_item ran sent (item.Begin settings) is = absurd (let never : ⊥ = cc in never)
@@ -298,7 +397,7 @@ quiet_same walk later session thing is moved = moved
 -- It goes on, or the call was stopped: then the session serves nothing more.
 pub data GoesTo (later : Walk) (session : SessionId) (ran : Ran) (resting : Bool) (one : ItemTold) : Type 0 where
   GoesOn : Stands later session ran resting → GoesTo later session ran resting one
-  IsDone : (marked : Bool) (called : Call) → one ≡ item.CrashedCall marked called → StoredRight later session ran.over → GoesTo later session ran resting one
+  IsDone : (marked : Bool) (called : Call) → one ≡ item.CrashedCall marked called → StoredRight later session ran → GoesTo later session ran resting one
 
 serves_call : (resting : Bool) → not (resting && true) ≡ true → resting ≡ false
 serves_call true is = absurd (let never : ⊥ = cc in never)
@@ -306,15 +405,19 @@ serves_call false is = refl
 
 pub own_stands : (walk later : Walk) (session : SessionId) (ran : Ran) (resting : Bool) (sent : Sent) (frame : Up) (thing : Thing) (one : ItemTold) → Deals frame thing one → not (resting && is_call frame) ≡ true → Moved walk later session thing → Stands walk session ran resting
     → GoesTo later session (ran_item ran sent one) (rests_behind resting frame) one
-own_stands walk later session ran resting sent _ _ _ (DealsBegin settings begun_with) calls moved stands = GoesOn (record {
+own_stands walk later session ran resting sent _ _ _ (DealsBegin settings) calls moved stands = GoesOn (record {
   count = ap (λ (stored : List Entry). number_of stored session) moved.stored ∙ stands.count;
-  now = λ is. ap (λ (sessions : List (SessionId × Transaction)). (transaction_in sessions session).pieces) moved.sessions ∙ ap (λ (t : Transaction). t.pieces) (transaction_own walk.sessions session (begun settings));
-  all = same_stored walk later session ran.over moved.stored stands.all;
+  many = stands.many;
+  now = λ is.
+      now_same (begun settings) (transaction_in later.sessions session) (ran_item ran sent (item.Begin settings))
+      (ap (λ (sessions : List (SessionId × Transaction)). transaction_in sessions session) moved.sessions ∙ transaction_own walk.sessions session (begun settings)) (record { pieces = refl; settings = refl; at_start = refl });
+  all = same_stored walk later session ran moved.stored stands.all;
 })
 own_stands walk later session ran resting sent _ _ _ DealsEnd calls moved stands = GoesOn (record {
   count = ap (λ (stored : List Entry). number_of stored session) moved.stored ∙ stands.count;
+  many = stands.many;
   now = λ is. absurd (let never : ⊥ = cc in never);
-  all = same_stored walk later session ran.over moved.stored stands.all;
+  all = same_stored walk later session ran moved.stored stands.all;
 })
 own_stands walk later session ran resting sent _ _ _ (DealsCall replay marked kept called answers draws) calls moved stands =
     let serving : resting ≡ false = serves_call resting calls in

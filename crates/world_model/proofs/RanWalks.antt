@@ -17,6 +17,7 @@ use Rattle.svc_values.specs.Calls.{has_commit}
 use Rattle.svc_values.specs.Endings.{is_committed, ends_committed}
 use Rattle.svc_values.specs.Identifiers.{same_ltxid}
 use Rattle.svc_values.specs.Same.{same_piece}
+use Rattle.svc_values.specs.SettingsList.{same_settings, with_set}
 use Rattle.svc_values.specs.SameLaws.{same_ltxid_decides, same_piece_decides}
 use Rattle.stmt_meaning.specs.Meaning.{Meant}
 use Rattle.stmt_meaning.specs.SerialTest.{is_nil}
@@ -24,8 +25,9 @@ use Rattle.server_model.specs.Base.{Base}
 use Rattle.server_model.specs.Items.{Thing, Began, Called, MetBlock, TellsOutcome, CallStopped, OutcomeStopped, Outcome, Uncommitted, Item, Did, AskTold, AskStopped}
 use Rattle.server_model.specs.Legal.{answers_hold, is_free, is_first_entry, stores, draws_hold, deed_holds, is_of_now, item_holds}
 use Rattle.server_model.specs.NewValues.{opened}
-use Rattle.server_model.specs.Walk.{Transaction, begun, Walk, with_transaction, transaction_in, next_of, Performed, stands, if_stands, performed_by, Deed, Ran, meaning, deed, with_meaning, deed_of, is_ending, ends, with_call, if_ended, take_entry, if_commits, with_numbers, stopped, after_deed, if_uncommitted, if_nothing, entered, after}
+use Rattle.server_model.specs.Walk.{Transaction, begun, Walk, with_transaction, transaction_in, next_of, Performed, stands, if_stands, performed_by, Deed, Ran, meaning, deed, with_meaning, deed_of, is_ending, ends, with_call, if_ended, take_entry, if_commits, with_numbers, stopped, after_deed, if_uncommitted, if_nothing, entered, after, view}
 use Rattle.world_model.proofs.NumbersItems.{same_some}
+use Rattle.world_model.proofs.RanSettings.{mean_settings}
 
 -- what ends with Committed ends a transaction
 pub committed_ends : (last : Option Answer) → option_map_or is_committed last false ≡ true → option_map_or is_ending last false ≡ true
@@ -54,16 +56,19 @@ tells_same walk x outcome = record { stored = refl; left = refl; sessions = refl
 
 -- A CALL ------------------------------------------------------------------------------------------
 
--- The entry that comes next is stored exactly where the call commits: it is the session's next one, with the pieces of the transaction.
+-- The entry that comes next is stored exactly where the call commits: it is the session's next one, with the pieces of the transaction, and the
+-- settings at its start.
 pub data Stores (walk later : Walk) (session : SessionId) (made : Transaction) : Bool → Type 0 where
   Takes : (entry : Entry) (left : List Entry) → walk.left ≡ entry ∷ left → later.stored ≡ walk.stored ++ entry ∷ [] → later.left ≡ left → entry.ltxid ≡ next_of walk session → entry.pieces ≡ made.pieces
-      → Stores walk later session made true
+      → same_settings entry.settings made.at_start ≡ true → Stores walk later session made true
   Keeps : later.stored ≡ walk.stored → later.left ≡ walk.left → Stores walk later session made false
 
--- the transaction has the call as its last piece, and is over or goes on
+-- the transaction has the call as its last piece, and the settings that a `set` changes; it is over or goes on
 pub record Calls (walk later : Walk) (session : SessionId) (call : Call) (answers : List Answer) (draws : List Draw) : Type 0 where
   pub made : Transaction
   pub pieces : made.pieces ≡ (transaction_in walk.sessions session).pieces ++ record { call = call; answers = answers; draws = draws } ∷ []
+  pub settings : made.settings ≡ with_set (transaction_in walk.sessions session).settings call
+  pub at_start : made.at_start ≡ (transaction_in walk.sessions session).at_start
   pub sessions : later.sessions ≡ with_transaction walk.sessions session (if_ended (ends answers) made)
   pub stores : Stores walk later session made (ends_committed answers)
 
@@ -91,12 +96,20 @@ module _ (base : Base) (walk : Walk) where
   takes performed meant (entry ∷ left) is first writes later stored gone =
       let named = and_parts (same_ltxid entry.ltxid (next_of walk performed.session)) _ first in
       let pieces = and_parts (pointwise same_piece entry.pieces (with_call walk performed meant).pieces) _ named.1 in
+      let start = and_parts (same_settings entry.settings (with_call walk performed meant).at_start) _ pieces.1 in
       let taken = ap (λ (all : List Entry). take_entry walk.stored all) is in
       Takes entry left is (stored ∙ ap (λ pair. pair.0) taken) (gone ∙ ap (λ pair. pair.1) taken)
-      ((same_ltxid_decides entry.ltxid (next_of walk performed.session)).0 named.0) ((pointwise_decides same_piece_decides entry.pieces (with_call walk performed meant).pieces).0 pieces.0)
+      ((same_ltxid_decides entry.ltxid (next_of walk performed.session)).0 named.0) ((pointwise_decides same_piece_decides entry.pieces (with_call walk performed meant).pieces).0 pieces.0) start.0
 
-  ran_calls : (performed : Performed) (meant : Meant) → stores walk performed meant ≡ true → Calls walk (after_deed base walk (Ran performed meant)) performed.session performed.called performed.answers performed.draws
-  ran_calls performed meant stored = record { made = with_call walk performed meant; pieces = refl; sessions = refl; stores = by (ends_committed performed.answers) refl }
+  ran_calls : (performed : Performed) (meant : Meant) → meaning base walk performed.session performed.called performed.draws ≡ Some meant → stores walk performed meant ≡ true → Calls walk (after_deed base walk (Ran performed meant)) performed.session performed.called performed.answers performed.draws
+  ran_calls performed meant means stored = record {
+    made = with_call walk performed meant;
+    pieces = refl;
+    settings = mean_settings base.shape (view walk performed.session) (transaction_in walk.sessions performed.session).settings performed.called performed.draws meant means;
+    at_start = refl;
+    sessions = refl;
+    stores = by (ends_committed performed.answers) refl;
+  }
     where
       by : (test : Bool) → ends_committed performed.answers ≡ test → Stores walk (after_deed base walk (Ran performed meant)) performed.session (with_call walk performed meant) (ends_committed performed.answers)
       by true is = subst (Stores walk (after_deed base walk (Ran performed meant)) performed.session (with_call walk performed meant)) (sym is)
@@ -118,15 +131,22 @@ module _ (base : Base) (walk : Walk) where
           let two = and_parts (is_nil meant.rest) _ holds in
           let three = and_parts (answers_hold walk performed meant) _ two.1 in
           let four = and_parts (is_free walk performed) _ three.1 in
-          (meant, (ap (with_meaning performed) is, ran_calls performed meant (and_parts (stores walk performed meant) (draws_hold base walk performed) four.1).0))
+          (meant, (ap (with_meaning performed) is, ran_calls performed meant is (and_parts (stores walk performed meant) (draws_hold base walk performed) four.1).0))
 
 -- AN ITEM -----------------------------------------------------------------------------------------
 
 calls_as : (walk a b : Walk) (session : SessionId) (call : Call) (answers : List Answer) (draws : List Draw) → IsSameWalk a b → Calls walk a session call answers draws → Calls walk b session call answers draws
-calls_as walk a b session call answers draws same calls = record { made = calls.made; pieces = calls.pieces; sessions = same.sessions ∙ calls.sessions; stores = by (ends_committed answers) calls.stores }
+calls_as walk a b session call answers draws same calls = record {
+  made = calls.made;
+  pieces = calls.pieces;
+  settings = calls.settings;
+  at_start = calls.at_start;
+  sessions = same.sessions ∙ calls.sessions;
+  stores = by (ends_committed answers) calls.stores;
+}
   where
     by : (test : Bool) → Stores walk a session calls.made test → Stores walk b session calls.made test
-    by _ (Takes entry left is stored gone named pieces) = Takes entry left is (same.stored ∙ stored) (same.left ∙ gone) named pieces
+    by _ (Takes entry left is stored gone named pieces start) = Takes entry left is (same.stored ∙ stored) (same.left ∙ gone) named pieces start
     by _ (Keeps stored left) = Keeps (same.stored ∙ stored) (same.left ∙ left)
 
 stopped_moved : (base : Base) (walk : Walk) (now : ℕ) (session : SessionId) (replay : Bool) (call : Call) (performed : Option Performed) → performed_by walk now session (CallStopped replay call) ≡ performed → deed_holds base walk (deed base walk performed) ≡ true

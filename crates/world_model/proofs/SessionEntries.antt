@@ -43,7 +43,7 @@ module _ (session : SessionId) where
 
   other_stores : (walk later : Walk) (other : SessionId) (made : Transaction) (test : Bool) → same_session other session ≡ false → Stores walk later other made test → its later ≡ its walk
   other_stores walk later other made _ apart (Keeps stored left) = ap (filter (is_its session)) left
-  other_stores walk later other made _ apart (Takes entry rest left stored gone named pieces) =
+  other_stores walk later other made _ apart (Takes entry rest left stored gone named pieces start) =
       let foreign : is_its session entry ≡ false = ap (λ (x : Ltxid). is_of x session.incarnation session.session) named ∙ apart in
       ap (filter (is_its session)) gone ∙ sym (ap (filter (is_its session)) left ∙ ap (λ (own : Bool). cond own (entry ∷ filter (is_its session) rest) (filter (is_its session) rest)) foreign)
 
@@ -102,7 +102,7 @@ module _ (session : SessionId) where
       where
         by : (committed ended : Bool) → (committed ≡ true → ended ≡ true) → Stores walk later session calls.made committed → times value (open_in later) ≡ times value (flat_map draws_in (if_ended ended calls.made).pieces) → Spent committed ended
         by true false also stores opens = absurd (let never : false ≡ true = also refl in let none : ⊥ = cc in none)
-        by true true also (Takes entry rest left stored gone named pieces) opens =
+        by true true also (Takes entry rest left stored gone named pieces start) opens =
             let own : is_its session entry ≡ true = ap (λ (x : Ltxid). is_of x session.incarnation session.session) named ∙ own_session in
             let first : its walk ≡ entry ∷ filter (is_its session) rest = ap (filter (is_its session)) left ∙ ap (λ (test : Bool). cond test (entry ∷ filter (is_its session) rest) (filter (is_its session) rest)) own in
             let more : filter (is_its session) rest ≡ its later = sym (ap (filter (is_its session)) gone) in

@@ -17,10 +17,10 @@ use Rattle.run_clauses.specs.EntryEvents.{entries_of}
 use Rattle.world_model.specs.Number.{numbered_after}
 use Rattle.world_model.specs.Once.{last_draws}
 use Rattle.world_model.specs.Parts.{implies}
-use Rattle.world_model.specs.Same.{ServedCall, are_pieces}
+use Rattle.world_model.specs.Same.{Ran, ServedCall, are_pieces}
 use Rattle.world_model.proofs.FrontLists.{last_pushed}
 use Rattle.world_model.proofs.Numbered.{entries_cons, numbered_parts}
-use Rattle.world_model.proofs.RanSessions.{is_its, has_ran}
+use Rattle.world_model.proofs.RanSessions.{is_its, has_ran, ran_pieces}
 use Rattle.world_model.proofs.Tests.{session_self}
 
 -- the draws of the last piece of the entry of this identifier, if there is one
@@ -88,24 +88,24 @@ own_entry session number entry is =
     let equal : entry.ltxid ≡ ltxid_of session number = (same_ltxid_decides entry.ltxid (ltxid_of session number)).0 is in
     (subst (λ (x : Ltxid). is_its session (record entry { ltxid = x }) ≡ true) (sym equal) (session_self session), ap (λ (x : Ltxid). x.number) equal)
 
-none_under : (session : SessionId) (over : List (List ServedCall)) (entries : List Entry) → list_all (has_ran session over) entries ≡ true → filter (under (ltxid_of session (length over))) entries ≡ []
-none_under session over [] all = refl
-none_under session over (entry ∷ entries) all = by (same_ltxid entry.ltxid (ltxid_of session (length over))) refl (none_under session over entries parts.1)
+none_under : (session : SessionId) (ran : Ran) (entries : List Entry) → list_all (has_ran session ran) entries ≡ true → filter (under (ltxid_of session (length ran.over))) entries ≡ []
+none_under session ran [] all = refl
+none_under session ran (entry ∷ entries) all = by (same_ltxid entry.ltxid (ltxid_of session (length ran.over))) refl (none_under session ran entries parts.1)
   where
-    parts : (has_ran session over entry ≡ true) × (list_all (has_ran session over) entries ≡ true)
-    parts = and_parts (has_ran session over entry) (list_all (has_ran session over) entries) all
+    parts : (has_ran session ran entry ≡ true) × (list_all (has_ran session ran) entries ≡ true)
+    parts = and_parts (has_ran session ran entry) (list_all (has_ran session ran) entries) all
 
-    by : (test : Bool) → same_ltxid entry.ltxid (ltxid_of session (length over)) ≡ test → filter (under (ltxid_of session (length over))) entries ≡ []
-        → (if test then entry ∷ filter (under (ltxid_of session (length over))) entries else filter (under (ltxid_of session (length over))) entries) ≡ []
+    by : (test : Bool) → same_ltxid entry.ltxid (ltxid_of session (length ran.over)) ≡ test → filter (under (ltxid_of session (length ran.over))) entries ≡ []
+        → (if test then entry ∷ filter (under (ltxid_of session (length ran.over))) entries else filter (under (ltxid_of session (length ran.over))) entries) ≡ []
     by false is rest = rest
     by true is rest =
-        let own = own_entry session (length over) entry is in
+        let own = own_entry session (length ran.over) entry is in
         let number = own.1 in
-        let past : slice_get over entry.ltxid.number ≡ None = slice_get_past over entry.ltxid.number (omega (arith, number)) in
+        let past : slice_get ran.over entry.ltxid.number ≡ None = slice_get_past ran.over entry.ltxid.number (omega (arith, number)) in
         let here : implies true (option_map_or (λ dids. are_pieces dids entry.pieces) None false) ≡ true =
-        sym (ap (λ (test : Bool). implies test (option_map_or (λ dids. are_pieces dids entry.pieces) (slice_get over entry.ltxid.number) false)) own.0 ∙ ap (λ (found : Option (List ServedCall)). implies true (option_map_or (λ dids. are_pieces dids entry.pieces) found false)) past) ∙ parts.0 in
+        sym (ap (λ (test : Bool). implies test (option_map_or (λ dids. are_pieces dids entry.pieces) (slice_get ran.over entry.ltxid.number) false)) own.0 ∙ ap (λ (found : Option (List ServedCall)). implies true (option_map_or (λ dids. are_pieces dids entry.pieces) found false)) past) ∙ ran_pieces session ran entry parts.0 in
         absurd (let never : ⊥ = cc in never)
 
 -- where each entry of the session is of a transaction that is over, the next identifier has none
-pub none_in : (session : SessionId) (over : List (List ServedCall)) (entries : List Entry) → list_all (has_ran session over) entries ≡ true → stopped_in entries (ltxid_of session (length over)) ≡ []
-none_in session over entries all = ap (λ (found : List Entry). option_map_or (λ one. last_draws one.pieces) (last_or None found) []) (none_under session over entries all)
+pub none_in : (session : SessionId) (ran : Ran) (entries : List Entry) → list_all (has_ran session ran) entries ≡ true → stopped_in entries (ltxid_of session (length ran.over)) ≡ []
+none_in session ran entries all = ap (λ (found : List Entry). option_map_or (λ one. last_draws one.pieces) (last_or None found) []) (none_under session ran entries all)

@@ -76,7 +76,7 @@ module _ (session : SessionId) (stopped : List Draw) (stood : Bool) (value : Dra
 
   -- an item that was not stopped
   pub going_spent : (walk later : Walk) (frame : Up) (thing : Thing) (one : ItemTold) → Deals frame thing one → is_stopped_call one ≡ false → Moved walk later session thing → (next : Bool) (rest : ℕ) → left_times later ≤ count_if next (open_times later) + rest → Behind walk one next rest
-  going_spent walk later _ _ _ (DealsBegin settings begun_with) going moved next rest most =
+  going_spent walk later _ _ _ (DealsBegin settings) going moved next rest most =
       let left : left_times later ≡ left_times walk = ap (λ (all : List Entry). times value (flat_map draws_of (filter (is_its session) all))) moved.left in
       let opens : open_times later ≡ 0 = ap (λ sessions. times value (flat_map draws_in (transaction_in sessions session).pieces)) moved.sessions ∙ ap (λ (made : Transaction). times value (flat_map draws_in made.pieces)) (transaction_own walk.sessions session (begun settings)) in
       by next opens most left
@@ -119,7 +119,7 @@ module _ (session : SessionId) (stopped : List Draw) (stood : Bool) (value : Dra
     stored : (called : Call) (answers : List Answer) (draws : List Draw) (calls : Calls walk later session called answers draws) (test ended : Bool) → Stores walk later session calls.made test → Spent session value walk later called answers draws calls test ended
         → left_times walk ≤ count_if stood (open_times walk) + (count_if stood (times value stopped) + 0)
     stored called answers draws calls _ _ (Keeps kept left) spent = let zero = nothing (ap (filter (is_its session)) left) in omega (arith, zero)
-    stored called answers draws calls _ _ (Takes entry rest left kept gone named pieces) (Commits ended spent opens) =
+    stored called answers draws calls _ _ (Takes entry rest left kept gone named pieces start) (Commits ended spent opens) =
         let split : all ≡ walk.stored ++ entry ∷ rest = sym whole ∙ ap (λ (more : List Entry). walk.stored ++ more) left in
         let mine : entry.ltxid ≡ x = named ∙ next_is in
         let same : same_ltxid entry.ltxid x ≡ true = (same_ltxid_decides entry.ltxid x).1 mine in
@@ -137,7 +137,7 @@ module _ (session : SessionId) (stopped : List Draw) (stood : Bool) (value : Dra
         omega (arith, spent, drew, zero, first, second)
 
     pub stop_spent : (frame : Up) (thing : Thing) (one : ItemTold) → Deals frame thing one → is_stopped_call one ≡ true → Moved walk later session thing → Behind walk one false 0
-    stop_spent _ _ _ (DealsBegin settings begun_with) is moved = absurd (let never : ⊥ = cc in never)
+    stop_spent _ _ _ (DealsBegin settings) is moved = absurd (let never : ⊥ = cc in never)
     stop_spent _ _ _ DealsEnd is moved = absurd (let never : ⊥ = cc in never)
     stop_spent _ _ _ (DealsCall replay marked kept called answers draws) is moved = absurd (let never : ⊥ = cc in never)
     stop_spent _ _ _ (DealsStop replay marked kept called) is (IsNothing same) = let zero = nothing (same_its session walk later same) in omega (arith, zero)

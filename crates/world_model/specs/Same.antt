@@ -38,12 +38,14 @@ pub record ServedCall : Type 0 where
   pub mark : Bool
   pub piece : Piece
 
--- what a connection's session did: the calls of its open transaction, in order, and the transactions that committed before, each with its calls
+-- What a connection's session did: its settings, and what they were at the start of its open transaction; the calls of this one, in order; and
+-- the transactions that committed before, each with its calls, and with the settings at its start.
 pub record Ran : Type 0 where
   pub settings : List (List ℕ × Value)
   pub at_start : List (List ℕ × Value)
   pub pieces : List ServedCall
   pub over : List (List ServedCall)
+  pub starts : List (List (List ℕ × Value))
 
 abbrev pub is_no_commit : Answer → Bool
 is_no_commit answer.CommitInReplay = true
@@ -58,7 +60,7 @@ abbrev pub begins : Ran → Ran
 begins ran = record ran { at_start = ran.settings; pieces = [] }
 
 abbrev pub did_all : Ran → Bool → Bool → List ServedCall → Ran
-did_all ran true ends dids = record (begins ran) { over = ran.over ++ dids ∷ [] }
+did_all ran true ends dids = record (begins ran) { over = ran.over ++ dids ∷ []; starts = ran.starts ++ ran.at_start ∷ [] }
 did_all ran false true dids = begins ran
 did_all ran false false dids = record ran { pieces = dids }
 
@@ -72,11 +74,14 @@ ran_item ran sent item.End = begins (record ran { settings = [] })
 ran_item ran sent (item.Call mark call answers draws) =
     did_all (with_call ran call) (ends_committed answers) (ends_on_server answers) (ran.pieces ++ record { sent = sent; mark = mark; piece = record { call = call; answers = answers; draws = draws } } ∷ [])
 ran_item ran sent (item.CrashedCall mark call) =
-    record ran { over = ran.over ++ (ran.pieces ++ record { sent = sent; mark = mark; piece = record { call = call; answers = []; draws = [] } } ∷ []) ∷ [] }
+    record ran {
+      over = ran.over ++ (ran.pieces ++ record { sent = sent; mark = mark; piece = record { call = call; answers = []; draws = [] } } ∷ []) ∷ [];
+      starts = ran.starts ++ ran.at_start ∷ [];
+    }
 ran_item ran sent _ = ran
 
 abbrev pub ran_by : Link → Ran
-ran_by link = fold (λ ran one. ran_item ran one.sent one.served.item) (record { settings = []; at_start = []; pieces = []; over = [] }) link.served
+ran_by link = fold (λ ran one. ran_item ran one.sent one.served.item) (record { settings = []; at_start = []; pieces = []; over = []; starts = [] }) link.served
 
 -- The entry of this number of the session has the pieces of the transaction of this number. (Of a stopped call only the call is known; that
 -- transaction is the last one, and may have no entry.)
@@ -105,6 +110,16 @@ is_ran t entry = implies (is_some (link_of t entry)) (option_map_or (λ dids. ar
 
 abbrev pub entries_ran : Traced → Bool
 entries_ran t = list_all (is_ran t) t.entries
+
+-- and the settings of this session at the start of this transaction
+abbrev pub start_of : Traced → Entry → Option (List (List ℕ × Value))
+start_of t entry = option_and_then (λ link. slice_get (ran_by link).starts entry.ltxid.number) (link_of t entry)
+
+abbrev pub is_started : Traced → Entry → Bool
+is_started t entry = implies (is_some (link_of t entry)) (option_map_or (same_settings entry.settings) (start_of t entry) false)
+
+abbrev pub entries_started : Traced → Bool
+entries_started t = list_all (is_started t) t.entries
 
 -- E4: WHAT THE CLIENT KNOWS OF A TRANSACTION ------------------------------------------------------
 

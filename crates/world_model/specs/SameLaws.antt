@@ -10,7 +10,7 @@ use Rattle.world_model.specs.Invariant.{Invariant}
 use Rattle.world_model.specs.Links.{Link, link_at}
 use Rattle.world_model.specs.Reached.{IsRun, Reached}
 use Rattle.world_model.specs.Ready.{all_requests_right}
-use Rattle.world_model.specs.Same.{committed_entries_known, entries_follow_scripts, entries_ran}
+use Rattle.world_model.specs.Same.{committed_entries_known, entries_follow_scripts, entries_ran, entries_started}
 use Rattle.world_model.specs.SessionHistory.{served_in, served_on}
 use Rattle.world_model.specs.Traced.{Traced}
 
@@ -37,6 +37,12 @@ HoldsInRuns test =
 abbrev pub HoldsAtEnds : (Traced → Bool) → Type 0
 HoldsAtEnds test =
     (document : Document) (notes : List Note) (items : List Served) (seen : Seen) (t : Traced) → IsTrue (all_requests_right document) → IsRun document notes items seen t → IsTrue (test t)
+
+-- and the settings of the session at the start of this transaction.
+abbrev pub RunsStarted : Type 0
+RunsStarted =
+    (document : Document) (events : List Event) (notes : List Note) (items : List Served) (seen : Seen) (t : Traced)
+    → IsTrue (all_requests_right document) → Reached document events notes items seen t → IsTrue (entries_started t)
 
 -- a test of each state that is as the invariant says
 abbrev pub FollowsInvariant : (Traced → Bool) → Type 0

@@ -2,7 +2,7 @@
 //! how the answers to calls end, and that replies were shown. Each law is the clause of a function with nothing to run.
 ghost use Rattle.world_model.specs.CallEndings.{end_fittingly};
 ghost use Rattle.world_model.specs.Same.{open_entries_known, run_script_calls};
-ghost use Rattle.world_model.specs.SameLaws.{FollowsInvariant, HoldsAtEnds, HoldsInRuns, RunsFollowScripts, RunsRan, RunsServe, RunsStoreScripts, WholeRunsFollowScripts, WholeRunsStoreScripts};
+ghost use Rattle.world_model.specs.SameLaws.{FollowsInvariant, HoldsAtEnds, HoldsInRuns, RunsFollowScripts, RunsRan, RunsServe, RunsStoreScripts, WholeRunsFollowScripts, WholeRunsStoreScripts, RunsStarted};
 ghost use Rattle.world_model.specs.Showing.{show_replies};
 
 /// Wherever a run of a document whose requests are right has come to, what the service's history has of a connection's session is
@@ -40,6 +40,15 @@ pub fn replies_are_shown()
     ensures run { HoldsAtEnds show_replies }
 {
     crate::kept_laws::runs_keep_invariant();
+}
+
+/// Such an entry has the settings of the session at the start of this transaction.
+pub fn runs_started()
+    ensures { RunsStarted }
+{
+    runs_serve();
+    crate::laws::runs_are_orderly();
+    server_model::laws::runs_legal();
 }
 
 /// In each state that is as the invariant says: a transaction that was run on a connection that a request held, and that has a call of this
