@@ -21,11 +21,12 @@ use Rattle.server_model.specs.Runs.{Happened, Served, Asked}
 use Rattle.server_model.specs.Walk.{Transaction, begun, Walk, transaction_in, Performed, deed, deed_of, ends, entered, after}
 use Rattle.world_model.specs.SessionHistory.{served_in}
 use Rattle.world_model.proofs.DrawnOnce.{times, times_both, all_new}
+use Rattle.world_model.proofs.RanLists.{is_its}
 use Rattle.world_model.proofs.SessionEntries.{its, open_in, same_its, same_open, other_its, other_open, Spent, Commits, Ends, Stays, call_spent}
 use Rattle.world_model.proofs.DrawnFor.{is_by, new_by, drawn_for, is_session}
 use Rattle.world_model.proofs.FrameDraws.{performed_drew}
 use Rattle.world_model.proofs.RanHistory.{asked_same, both_hold, none_left}
-use Rattle.world_model.proofs.RanSessions.{is_its, transaction_own}
+use Rattle.world_model.proofs.RanSessions.{transaction_own}
 use Rattle.world_model.proofs.RanWalks.{IsSameWalk, Moved, enters, thing_moved}
 use Rattle.world_model.proofs.Tests.{same_session_is, session_self}
 

@@ -43,7 +43,7 @@ use Rattle.world_model.proofs.OutsideGiven.{outside_told, answers_drawn}
 use Rattle.world_model.proofs.OutsidePlain.{reached_plain}
 use Rattle.world_model.proofs.OwnedLists.{Stands, Here, Later, From, from_one, some_first}
 use Rattle.world_model.proofs.OwnedValues.{inv, gained, entries, held, gained_is, once, all_firsts}
-use Rattle.world_model.proofs.RanSessions.{is_its}
+use Rattle.world_model.proofs.RanLists.{is_its}
 use Rattle.world_model.proofs.Tests.{same_session_is, session_self}
 
 -- LISTS -------------------------------------------------------------------------------------------

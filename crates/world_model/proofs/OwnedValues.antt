@@ -53,7 +53,7 @@ use Rattle.world_model.proofs.LinkHandled.{commits_behind}
 use Rattle.world_model.proofs.OwnedLists.{firsts, firsts_both, each_owned}
 use Rattle.world_model.proofs.RanBefore.{counts_none, none_before}
 use Rattle.world_model.proofs.RanFrames.{link_rests}
-use Rattle.world_model.proofs.RanSessions.{is_its, has_ran, none_ran, other_ran}
+use Rattle.world_model.proofs.RanLists.{is_its, has_ran, none_ran, other_ran}
 use Rattle.world_model.proofs.RepeatedGiven.{repeats_given, are_repeated, repeated_now}
 use Rattle.world_model.proofs.RunStarts.{finishing_reached, reached_coupled}
 use Rattle.world_model.proofs.ShownGiven.{are_given, given_start, given_now}

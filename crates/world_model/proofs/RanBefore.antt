@@ -30,7 +30,7 @@ use Rattle.world_model.proofs.LinkNamed.{other_session}
 use Rattle.world_model.proofs.NamesKept.{serving}
 use Rattle.world_model.proofs.NumbersItems.{same_some}
 use Rattle.world_model.proofs.NumbersTurn.{known_before}
-use Rattle.world_model.proofs.RanSessions.{is_its}
+use Rattle.world_model.proofs.RanLists.{is_its}
 use Rattle.world_model.proofs.SessionLists.{apart_sessions}
 use Rattle.world_model.proofs.SessionRuns.{none_at}
 use Rattle.world_model.proofs.SessionTurns.{IsAlike, ComesOf, AtFront, Elsewhere, Alone, Unnamed, Alike, Adds, AddsFrame, AddsNone, event_adds}

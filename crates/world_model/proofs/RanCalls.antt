@@ -78,7 +78,7 @@ module _ (course : Course) where
   abbrev pub follows : Sent → Bool
   follows sent = implies (is_mine sent) (is_scripts course sent sent.frame)
 
-  call_alike : (a b : Up) → same_up a b ≡ true → is_call a ≡ is_call b
+  pub call_alike : (a b : Up) → same_up a b ≡ true → is_call a ≡ is_call b
   call_alike up.Connect up.Connect same = refl
   call_alike (up.Begin x) (up.Begin y) same = refl
   call_alike (up.Call r k c) (up.Call s l d) same = refl
@@ -92,7 +92,7 @@ module _ (course : Course) where
       ap (λ (owner : Option Owner). is_of course.owner owner && is_call a.frame) (owners_are a.owner b.owner (and_parts (same_owners a.owner b.owner) ((a.call == b.call) && same_up a.frame b.frame) same).0)
       ∙ ap (λ (test : Bool). owned_by course.owner b && test) (call_alike a.frame b.frame (same_frames a b same))
 
-  call_same : (a b : Sent) → same_sent a b ≡ true → a.call ≡ b.call
+  pub call_same : (a b : Sent) → same_sent a b ≡ true → a.call ≡ b.call
   call_same a b same =
       eq_from a.call b.call (and_parts (a.call == b.call) (same_up a.frame b.frame) (and_parts (same_owners a.owner b.owner) ((a.call == b.call) && same_up a.frame b.frame) same).1).0
 

@@ -34,7 +34,7 @@ use Rattle.world_model.proofs.NumbersTurn.{by_index, by_number}
 use Rattle.world_model.proofs.RanBefore.{counts_none, none_before}
 use Rattle.world_model.proofs.RanFrames.{link_rests}
 use Rattle.world_model.proofs.RanHistory.{history_ran}
-use Rattle.world_model.proofs.RanSessions.{is_its, has_pieces_of, has_ran, has_start_of, none_ran, other_ran, ran_pieces, ran_start}
+use Rattle.world_model.proofs.RanLists.{is_its, has_pieces_of, has_ran, has_start_of, none_ran, other_ran, ran_pieces, ran_start}
 use Rattle.world_model.proofs.RunStarts.{reached_coupled}
 use Rattle.world_model.proofs.Stages.{last_all}
 use Rattle.world_model.proofs.Tests.{eq_from, eq_to}

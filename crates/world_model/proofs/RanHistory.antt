@@ -23,7 +23,8 @@ use Rattle.world_model.specs.Same.{Ran, ran_item}
 use Rattle.world_model.specs.SessionHistory.{served_in, told_with, told_of}
 use Rattle.world_model.specs.Wire.{is_handled, counted_with, handled_from}
 use Rattle.world_model.proofs.RanFrames.{handled_deals, rests_behind, is_call, rests_rightly}
-use Rattle.world_model.proofs.RanSessions.{has_ran, StoredRight, Stands, GoesTo, GoesOn, IsDone, same_stands, same_stored, others_stored, others_stand, own_stands}
+use Rattle.world_model.proofs.RanLists.{has_ran}
+use Rattle.world_model.proofs.RanSessions.{StoredRight, Stands, GoesTo, GoesOn, IsDone, same_stands, same_stored, others_stored, others_stand, own_stands}
 use Rattle.world_model.proofs.RanWalks.{IsSameWalk, Stores, Takes, Keeps, IsStored, IsNothing, Moved, enters, tells_same, thing_moved}
 use Rattle.world_model.proofs.Tests.{same_session_is}
 

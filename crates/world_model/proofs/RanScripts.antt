@@ -41,15 +41,16 @@ use Rattle.world_model.proofs.Fronts.{moved}
 use Rattle.world_model.proofs.LinkNumbers.{Was, Ordinary, Halted, was_so}
 use Rattle.world_model.proofs.RanCalls.{follows, follows_alike, front_right, front_row, is_mine, was_right}
 use Rattle.world_model.proofs.RanSessions.{over_same}
+use Rattle.world_model.proofs.RanSettings.{settings_decide}
 use Rattle.world_model.proofs.Tests.{eq_from}
 
 -- WHAT WAS DONE WITH A FRAME ----------------------------------------------------------------------
 
 -- A session served the frame with this item: behind the others that are told here it serves none.
-data Deal : Up → Item → Type 0 where
+pub data Deal : Up → Item → Type 0 where
   Greets : Deal up.Connect item.Connect
   Asks : (x asked : Ltxid) (result : AskResult) → Deal (up.Outcome x) (item.Outcome asked result)
-  Begins : (settings begun : List (List ℕ × Value)) → Deal (up.Begin settings) (item.Begin begun)
+  Begins : (settings : List (List ℕ × Value)) → Deal (up.Begin settings) (item.Begin settings)
   Ends : Deal up.End item.End
   Calls : (replay marked : Bool) (kept : List Draw) (call : Call) (answers : List Answer) (draws : List Draw) → Deal (up.Call replay kept call) (item.Call marked call answers draws)
   Stops : (replay marked : Bool) (kept : List Draw) (call : Call) → Deal (up.Call replay kept call) (item.CrashedCall marked call)
@@ -57,7 +58,7 @@ data Deal : Up → Item → Type 0 where
 
 item_deal : (frame : Up) (one : Item) → is_item_of frame one ≡ true → Deal frame one
 item_deal up.Connect item.Connect is = Greets
-item_deal (up.Begin settings) (item.Begin begun) is = Begins settings begun
+item_deal (up.Begin settings) (item.Begin begun) is = subst (λ (one : List (List ℕ × Value)). Deal (up.Begin settings) (item.Begin one)) (sym ((settings_decide begun settings).0 is)) (Begins settings)
 item_deal (up.Call replay kept call) (item.Call marked served answers draws) is =
     subst (λ (c : Call). Deal (up.Call replay kept call) (item.Call marked c answers draws)) (sym ((same_call_decides served call).0 (and_parts (same_bool marked replay) (same_call served call) is).1))
     (Calls replay marked kept call answers draws)
@@ -73,7 +74,7 @@ crashed_deal (up.Call replay kept call) (item.CrashedCall marked served) is =
 crashed_deal (up.Outcome x) (item.CrashedOutcome asked) is = IsLast (up.Outcome x) (item.CrashedOutcome asked) refl (λ ran sent. refl)
 crashed_deal frame one is = absurd (let never : ⊥ = cc in never)
 
-handled_deal : (commits : ℕ) (one : Handled) → is_handled commits one ≡ true → Deal one.sent.frame one.served.item
+pub handled_deal : (commits : ℕ) (one : Handled) → is_handled commits one ≡ true → Deal one.sent.frame one.served.item
 handled_deal commits one is = by (was_so commits one is)
   where
     by : Was commits one → Deal one.sent.frame one.served.item
@@ -82,7 +83,7 @@ handled_deal commits one is = by (was_so commits one is)
 
 -- LISTS OF CALLS ----------------------------------------------------------------------------------
 
-plain_left : {A : Type 0} (test : List A → Bool) (own : Bool) (xs ys : List A) → test (if own && false then xs else ys) ≡ true → test ys ≡ true
+pub plain_left : {A : Type 0} (test : List A → Bool) (own : Bool) (xs ys : List A) → test (if own && false then xs else ys) ≡ true → test ys ≡ true
 plain_left test true xs ys is = is
 plain_left test false xs ys is = is
 
@@ -90,7 +91,7 @@ module _ (course : Course) where
   abbrev pub owns : ServedCall → Bool
   owns did = owned_by course.owner did.sent
 
-  first_more : (dids : List ServedCall) (did : ServedCall) (n m : ℕ) → did.sent.call ≡ n → first_call (dids ++ did ∷ []) m ≡ first_call dids n
+  pub first_more : (dids : List ServedCall) (did : ServedCall) (n m : ℕ) → did.sent.call ≡ n → first_call (dids ++ did ∷ []) m ≡ first_call dids n
   first_more [] did n m at = at
   first_more (first ∷ dids) did n m at = refl
 
@@ -143,14 +144,14 @@ module _ (course : Course) where
   asked_stands stage owner x n dids right stands = absurd (let none : ⊥ = cc in none)
 
   -- a call is of the owner whose transaction is open
-  if_same : (one owner : Option Owner) (also : Bool) (stage : Stage) → is_right (stage_if (same_owners one owner && also) stage) ≡ true → one ≡ owner
+  pub if_same : (one owner : Option Owner) (also : Bool) (stage : Stage) → is_right (stage_if (same_owners one owner && also) stage) ≡ true → one ≡ owner
   if_same one owner also stage right = by (same_owners one owner) refl right
     where
       by : (test : Bool) → same_owners one owner ≡ test → is_right (stage_if (test && also) stage) ≡ true → one ≡ owner
       by true is right = owners_are one owner is
       by false is right = absurd (let none : ⊥ = cc in none)
 
-  if_same_plain : (one owner : Option Owner) (stage : Stage) → is_right (stage_if (same_owners one owner) stage) ≡ true → one ≡ owner
+  pub if_same_plain : (one owner : Option Owner) (stage : Stage) → is_right (stage_if (same_owners one owner) stage) ≡ true → one ≡ owner
   if_same_plain one owner stage right = by (same_owners one owner) refl right
     where
       by : (test : Bool) → same_owners one owner ≡ test → is_right (stage_if test stage) ≡ true → one ≡ owner
@@ -250,7 +251,7 @@ module _ (course : Course) where
       GoesOn n (greeted_stands stage sent.owner n ran.pieces right stands) (plain_left (in_row n) (owned_by course.owner sent) (sent ∷ filter (is_mine course) rests) (filter (is_mine course) rests) row) known
   one_next rests stage n ran sent _ _ (Asks x asked result) right row script stands known =
       GoesOn n (asked_stands stage sent.owner x n ran.pieces right stands) (plain_left (in_row n) (owned_by course.owner sent) (sent ∷ filter (is_mine course) rests) (filter (is_mine course) rests) row) known
-  one_next rests stage n ran sent _ _ (Begins settings begun) right row script stands known =
+  one_next rests stage n ran sent _ _ (Begins settings) right row script stands known =
       GoesOn n (none_stands (next_stage stage sent.owner (up.Begin settings)) n) (plain_left (in_row n) (owned_by course.owner sent) (sent ∷ filter (is_mine course) rests) (filter (is_mine course) rests) row)
       (and_from (list_all (has_script_calls course) ran.over) true (and_parts (list_all (has_script_calls course) ran.over) (has_script_calls course ran.pieces) known).0 refl)
   one_next rests stage n ran sent _ _ Ends right row script stands known =
@@ -279,12 +280,12 @@ module _ (course : Course) where
   abbrev sents_of : List Handled → List Sent
   sents_of served = map (λ one. one.sent) served
 
-  none_later : (one : Handled) (others : List Handled) → none_behind (one ∷ others) ≡ true → ends_life one ≡ true → others ≡ []
+  pub none_later : (one : Handled) (others : List Handled) → none_behind (one ∷ others) ≡ true → ends_life one ≡ true → others ≡ []
   none_later one [] lone ends = refl
   none_later one (next ∷ others) lone ends =
       absurd (let never : not (ends_life one) ≡ true = (and_parts (not (ends_life one)) (none_behind (next ∷ others)) lone).0 in let none : ⊥ = cc in none)
 
-  lone_later : (one : Handled) (others : List Handled) → none_behind (one ∷ others) ≡ true → none_behind others ≡ true
+  pub lone_later : (one : Handled) (others : List Handled) → none_behind (one ∷ others) ≡ true → none_behind others ≡ true
   lone_later one [] lone = refl
   lone_later one (next ∷ others) lone = (and_parts (not (ends_life one)) (none_behind (next ∷ others)) lone).1
 

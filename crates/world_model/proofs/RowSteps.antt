@@ -51,7 +51,7 @@ use Rattle.world_model.proofs.TalkRows.{Rowed, AsFirst, AsNext, AsCompleted, AsL
 
 -- THE LAST STEP -----------------------------------------------------------------------------------
 
-each_last : (P : Account → Done → Type 0) (terms : Terms) (calls : List Call) (a : Account) (dones : List Done) (done : Done) → EachStep P terms calls a (dones ++ done ∷ []) → P (before_sends terms calls (fold (after_step terms calls) a dones) done) done
+pub each_last : (P : Account → Done → Type 0) (terms : Terms) (calls : List Call) (a : Account) (dones : List Done) (done : Done) → EachStep P terms calls a (dones ++ done ∷ []) → P (before_sends terms calls (fold (after_step terms calls) a dones) done) done
 each_last P terms calls a [] done each = each.0
 each_last P terms calls a (first ∷ dones) done each = each_last P terms calls (after_step terms calls a first) dones done each.1
 

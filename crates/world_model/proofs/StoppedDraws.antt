@@ -20,7 +20,7 @@ use Rattle.world_model.specs.Parts.{implies}
 use Rattle.world_model.specs.Same.{Ran, ServedCall, are_pieces}
 use Rattle.world_model.proofs.FrontLists.{last_pushed}
 use Rattle.world_model.proofs.Numbered.{entries_cons, numbered_parts}
-use Rattle.world_model.proofs.RanSessions.{is_its, has_ran, ran_pieces}
+use Rattle.world_model.proofs.RanLists.{is_its, has_ran, ran_pieces}
 use Rattle.world_model.proofs.Tests.{session_self}
 
 -- the draws of the last piece of the entry of this identifier, if there is one

@@ -28,8 +28,9 @@ use Rattle.world_model.proofs.DrawnOnce.{times, times_both}
 use Rattle.world_model.proofs.FrontLists.{last_pushed}
 use Rattle.world_model.proofs.RanFrames.{Deals, DealsBegin, DealsEnd, DealsCall, DealsStop, DealsQuietly, is_quiet_item}
 use Rattle.world_model.proofs.RanHistory.{whole_of}
+use Rattle.world_model.proofs.RanLists.{is_its}
 use Rattle.world_model.proofs.RanWalks.{IsSameWalk, Stores, Takes, Keeps, Calls, IsStored, IsNothing, Moved}
-use Rattle.world_model.proofs.RanSessions.{is_its, quiet_same, transaction_own}
+use Rattle.world_model.proofs.RanSessions.{quiet_same, transaction_own}
 use Rattle.world_model.proofs.SessionEntries.{its, open_in, same_its, same_open, Spent, Commits, Ends, Stays, call_spent}
 use Rattle.world_model.proofs.StoppedDraws.{stopped_in, last_drawn, found_in}
 

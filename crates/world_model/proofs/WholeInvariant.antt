@@ -15,7 +15,7 @@ use Rattle.world_model.specs.Once.{Once}
 use Rattle.world_model.specs.OneEvent.{OneEvent}
 use Rattle.world_model.specs.Reached.{traced_start, Reached, Begins, GoesOn, IsFinishing, Scheduled, Finishes}
 use Rattle.world_model.specs.RunLaws.{RunsAreOrderly}
-use Rattle.world_model.specs.SameLaws.{RunsRan}
+use Rattle.world_model.specs.SameLaws.{RunsRan, RunsStarted}
 use Rattle.world_model.specs.Shown.{Shown}
 use Rattle.world_model.specs.Traced.{Traced}
 use Rattle.world_model.proofs.EntriesFew.{one_law}
@@ -23,10 +23,12 @@ use Rattle.world_model.proofs.KeptCopies.{copies_law}
 use Rattle.world_model.proofs.KeptAnswers.{answers_law}
 use Rattle.world_model.proofs.KeptApart.{apart_law}
 use Rattle.world_model.proofs.KeptAsks.{asks_law}
+use Rattle.world_model.proofs.KeptBegins.{settings_law}
 use Rattle.world_model.proofs.KeptCompleted.{completed_law}
 use Rattle.world_model.proofs.KeptEnded.{ended_law}
 use Rattle.world_model.proofs.KeptEvents.{events_law}
 use Rattle.world_model.proofs.KeptFates.{fates_law}
+use Rattle.world_model.proofs.KeptFollowed.{followed_law}
 use Rattle.world_model.proofs.KeptGone.{gone_law}
 use Rattle.world_model.proofs.KeptKnown.{known_law}
 use Rattle.world_model.proofs.KeptLeft.{left_law}
@@ -154,7 +156,7 @@ finishing_reached document _ _ _ _ _ (Scheduled notes items seen t reached) = (d
 finishing_reached document _ _ _ _ _ (Finishes place later notes items more before after old new event note finishing next one forgets) =
     let so = finishing_reached document place notes items before old finishing in (so.0 ++ event ∷ [], GoesOn so.0 notes items more before after old new event note so.1 one forgets)
 
-module _ (keeps : EachKeeps) (numbers : EntryNumbers) (orderly : RunsAreOrderly) (ran : RunsRan) where
+module _ (keeps : EachKeeps) (numbers : EntryNumbers) (orderly : RunsAreOrderly) (ran : RunsRan) (started : RunsStarted) where
   pub reached_invariant : RunsKeepInvariant
   reached_invariant document _ _ _ _ _ calls (Begins seen start history horizon coupled) =
       let reached = Begins seen start history horizon coupled in
@@ -164,6 +166,9 @@ module _ (keeps : EachKeeps) (numbers : EntryNumbers) (orderly : RunsAreOrderly)
         lost = lost_begins keeps numbers document;
         once = once_begins keeps numbers document;
         ran = ran document _ _ _ seen (traced_start document) calls reached;
+        started = started document _ _ _ seen (traced_start document) calls reached;
+        settings = settings_law.at_start document;
+        followed = followed_law.at_start document;
       }
   reached_invariant document _ _ _ _ _ calls (GoesOn events notes items more before after old new event note reached one forgets) =
       let inv = reached_invariant document events notes items before old calls reached in
@@ -174,6 +179,9 @@ module _ (keeps : EachKeeps) (numbers : EntryNumbers) (orderly : RunsAreOrderly)
         lost = lost_kept before after old new event note more [] one inv keeps numbers;
         once = once_kept before after old new event note more [] one inv keeps numbers;
         ran = ran document _ _ _ after new calls now;
+        started = started document _ _ _ after new calls now;
+        settings = settings_law.at_event before after old new event note more [] one inv.orderly inv.settings;
+        followed = followed_law.at_event before after old new event note more [] one inv.orderly inv.followed;
       }
 
   pub finishing_invariant : FinishesKeepInvariant

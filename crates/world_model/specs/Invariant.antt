@@ -10,7 +10,8 @@ use Rattle.world_model.specs.Number.{Number}
 use Rattle.world_model.specs.Shown.{Shown}
 use Rattle.world_model.specs.Lost.{Lost}
 use Rattle.world_model.specs.Once.{Once}
-use Rattle.world_model.specs.Same.{entries_ran}
+use Rattle.world_model.specs.Begins.{are_followed, carry_settings}
+use Rattle.world_model.specs.Same.{entries_ran, entries_started}
 
 -- What stands on itself: it is kept with nothing of the rest, and is all that serving and sending need.
 pub record Orderly (t : Traced) : Type 0 where
@@ -27,5 +28,9 @@ pub record Invariant (t : Traced) : Type 0 where
   pub shown : Shown t
   pub lost : Lost t
   pub once : Once t
-  -- each entry has the pieces of what its session ran
+  -- each entry has the pieces of what its session ran, and the settings at the start of that
   pub ran : IsTrue (entries_ran t)
+  pub started : IsTrue (entries_started t)
+  -- each Begin carries its request's settings, changed by each `set` before the call that follows it at once
+  pub settings : IsTrue (carry_settings t)
+  pub followed : IsTrue (are_followed t)

@@ -1,5 +1,6 @@
 pub mod Acting
 pub mod Basic
+pub mod Begins
 pub mod Clients
 pub mod Conversing
 pub mod Coupled

@@ -12,4 +12,5 @@ pub fn runs_keep_invariant()
     server_model::laws::runs_number();
     crate::laws::runs_are_orderly();
     crate::same_laws::runs_ran();
+    crate::same_laws::runs_started();
 }

@@ -1,6 +1,11 @@
 //! How the frames that connections served, and the entries of their sessions, are those of the service, and their calls those of scripts;
 //! how the answers to calls end, and that replies were shown. Each law is the clause of a function with nothing to run.
 ghost use Rattle.world_model.specs.CallEndings.{end_fittingly};
+
+//! How the frames that connections served, and the entries of their sessions, are those of the service, their calls those of scripts, and their
+//! settings those of requests.
+//! Each law is the clause of a function with nothing to run.
+ghost use Rattle.world_model.specs.Begins.{carry_settings, transactions_start};
 ghost use Rattle.world_model.specs.Same.{open_entries_known, run_script_calls};
 ghost use Rattle.world_model.specs.SameLaws.{FollowsInvariant, HoldsAtEnds, HoldsInRuns, RunsFollowScripts, RunsRan, RunsServe, RunsStoreScripts, WholeRunsFollowScripts, WholeRunsStoreScripts, RunsStarted};
 ghost use Rattle.world_model.specs.Showing.{show_replies};
@@ -55,6 +60,18 @@ pub fn runs_started()
 /// request, has all its calls from the request's script, in a row from the first one.
 pub fn transactions_run_scripts()
     ensures { FollowsInvariant run_script_calls }
+{}
+
+/// In each such state: each Begin of a request, on whichever connection, carries the settings of the request, changed in order by each `set`
+/// before the call that was sent behind it.
+pub fn begins_carry_settings()
+    ensures { FollowsInvariant carry_settings }
+{}
+
+/// In each such state: a transaction that was run on a connection that a request held, and that has a call of this request, started with the
+/// settings of the request, changed in order by each `set` before its first call.
+pub fn transactions_start_rightly()
+    ensures { FollowsInvariant transactions_start }
 {}
 
 /// In each such state: an entry under the identifier of a sending with a commit to which no reply was taken has the calls of the request's

@@ -1,0 +1,150 @@
+-- What holds of the Begins that were sent on a connection holds of those that it served, so its transactions start with the settings of their request.
+use Rattle.std.proofs.Common.{◌≡◌, refl, ap, ◌∙◌, Bool, true, false, ℕ, ◌&&◌, ◌||◌, List, [], ◌∷◌, map, Option, Some, None, if◌then◌else◌}
+use Rattle.std.specs.Prelude.{◌==◌}
+use Rattle.std.specs.List.{list_all}
+use Rattle.std.specs.Option.{option_map_or}
+use Rattle.std.proofs.lemmas.Bool.{and_parts, and_from}
+use Rattle.svc_values.specs.declared.frame.Up.{Up}
+use Rattle.svc_values.specs.declared.frame.Up.TheVariants as up
+use Rattle.svc_values.specs.SettingsList.{NamedValues, same_settings}
+use Rattle.outage_schedule.specs.declared.document.Request.{Request}
+use Rattle.world_model.specs.Basic.{lives_rightly, none_behind}
+use Rattle.world_model.specs.Begins.{are_followed, begin_in, begins_followed, carries_on, carries_settings, carry_settings, followed_at_once, follows_begin, is_begin_frame, settings_before, starts_rightly, transactions_start}
+use Rattle.world_model.specs.Frames.{Owner, Sent}
+use Rattle.world_model.specs.Invariant.{Orderly}
+use Rattle.world_model.specs.Links.{Link, link_at}
+use Rattle.world_model.specs.Parts.{implies}
+use Rattle.world_model.specs.Same.{test_at}
+use Rattle.world_model.specs.Sames.{is_front, is_of, owned_by, same_owners, same_sent, same_up}
+use Rattle.world_model.specs.Shown.{calls_on, first_of, first_unmarked, has_unmarked, in_row, in_rows, is_call, is_current, is_row, is_scripts as is_script_frame, marked_from, rows_on, unmarked_first}
+use Rattle.world_model.specs.Traced.{Traced, Course, courses_of}
+use Rattle.world_model.specs.Wire.{New, handled_from, is_right, is_sent_front, stage_of, up_of}
+use Rattle.world_model.specs.Words.{held_in}
+use Rattle.world_model.proofs.AllLinks.{at_link}
+use Rattle.world_model.proofs.AllLists.{weaker_all}
+use Rattle.world_model.proofs.AskedNear.{front_all, owners_are}
+use Rattle.world_model.proofs.AskedSendings.{unfiltered}
+use Rattle.world_model.proofs.FrontLists.{front_begun}
+use Rattle.world_model.proofs.Fronts.{same_frames}
+use Rattle.world_model.proofs.KeptBegins.{carries}
+use Rattle.world_model.proofs.LostKept.{both_all}
+use Rattle.world_model.proofs.RanCalls.{call_alike, call_same, follows, follows_alike, front_right, front_row, is_mine}
+use Rattle.world_model.proofs.RanLists.{none_ran}
+use Rattle.world_model.proofs.RanSettings.{settings_decide}
+use Rattle.world_model.proofs.RanStarts.{all_known, follows_so}
+
+-- FRAMES THAT ARE THE SAME ------------------------------------------------------------------------
+
+owner_same : (a b : Sent) → same_sent a b ≡ true → a.owner ≡ b.owner
+owner_same a b same = owners_are a.owner b.owner (and_parts (same_owners a.owner b.owner) ((a.call == b.call) && same_up a.frame b.frame) same).0
+
+settings_alike : (request : Request) (index : ℕ) (a b : Up) → same_up a b ≡ true → carries_settings request index b ≡ true → carries_settings request index a ≡ true
+settings_alike request index (up.Begin x) (up.Begin y) same carry = ap (λ (settings : NamedValues). same_settings settings (settings_before request index)) ((settings_decide x y).0 same) ∙ carry
+settings_alike request index up.Connect up.Connect same carry = refl
+settings_alike request index (up.Call r k c) (up.Call s l d) same carry = refl
+settings_alike request index (up.Outcome x) (up.Outcome y) same carry = refl
+settings_alike request index up.End up.End same carry = refl
+settings_alike request index up.Close up.Close same carry = refl
+settings_alike request index a b same carry = absurd (let none : ⊥ = cc in none)
+
+begin_alike : (a b : Up) → same_up a b ≡ true → is_begin_frame a ≡ is_begin_frame b
+begin_alike (up.Begin x) (up.Begin y) same = refl
+begin_alike up.Connect up.Connect same = refl
+begin_alike (up.Call r k c) (up.Call s l d) same = refl
+begin_alike (up.Outcome x) (up.Outcome y) same = refl
+begin_alike up.End up.End same = refl
+begin_alike up.Close up.Close same = refl
+begin_alike a b same = absurd (let none : ⊥ = cc in none)
+
+module _ (course : Course) where
+  carries_alike : (a b : Sent) → same_sent a b ≡ true → carries course b ≡ true → carries course a ≡ true
+  carries_alike a b same carry =
+      ap (λ (owner : Option Owner). implies (is_of course.owner owner) (carries_settings course.request a.call a.frame)) (owner_same a b same)
+      ∙ (ap (λ (call : ℕ). implies (owned_by course.owner b) (carries_settings course.request call a.frame)) (call_same course a b same) ∙ by (owned_by course.owner b) carry)
+    where
+      by : (own : Bool) → implies own (carries_settings course.request b.call b.frame) ≡ true → implies own (carries_settings course.request b.call a.frame) ≡ true
+      by false carry = refl
+      by true carry = settings_alike course.request b.call a.frame b.frame (same_frames a b same) carry
+
+  -- the Begin before it, in each of two rows that are the same
+  data IsAlike : Option Sent → Option Sent → Type 0 where
+    Neither : IsAlike None None
+    Both : (a b : Sent) → same_sent a b ≡ true → IsAlike (Some a) (Some b)
+
+  begins_alike : (a b : Sent) → same_sent a b ≡ true → IsAlike (begin_in a) (begin_in b)
+  begins_alike a b same = by (is_begin_frame a.frame) (is_begin_frame b.frame) (begin_alike a.frame b.frame (same_frames a b same)) refl refl
+    where
+      by : (one other : Bool) → one ≡ other → is_begin_frame a.frame ≡ one → is_begin_frame b.frame ≡ other → IsAlike (if one then Some a else None) (if other then Some b else None)
+      by true true equal is also = Both a b same
+      by false false equal is also = Neither
+      by true false equal is also = absurd (let none : ⊥ = cc in none)
+      by false true equal is also = absurd (let none : ⊥ = cc in none)
+
+  follower_alike : (a b x z : Sent) → same_sent a b ≡ true → same_sent x z ≡ true → follows_begin b z ≡ true → follows_begin a x ≡ true
+  follower_alike a b x z begin same follow =
+      let one = and_parts (is_call z.frame) ((z.call == b.call) && same_owners b.owner z.owner) follow in
+      let two = and_parts (z.call == b.call) (same_owners b.owner z.owner) one.1 in
+      and_from (is_call x.frame) ((x.call == a.call) && same_owners a.owner x.owner) (call_alike course x.frame z.frame (same_frames x z same) ∙ one.0)
+      (and_from (x.call == a.call) (same_owners a.owner x.owner) (ap (λ (n : ℕ). n == a.call) (call_same course x z same) ∙ (ap (λ (n : ℕ). z.call == n) (call_same course a b begin) ∙ two.0))
+      (ap (λ (owner : Option Owner). same_owners owner x.owner) (owner_same a b begin) ∙ (ap (same_owners b.owner) (owner_same x z same) ∙ two.1)))
+
+  front_follows : (begin other : Option Sent) (xs zs : List Sent) → IsAlike begin other → is_front same_sent xs zs ≡ true → followed_at_once other zs ≡ true → follows_so begin xs ≡ true
+  front_follows begin other [] zs alike front follow = refl
+  front_follows begin other (x ∷ xs) [] alike front follow = absurd (let none : ⊥ = cc in none)
+  front_follows begin other (x ∷ xs) (z ∷ zs) alike front follow =
+      let parts = and_parts (same_sent x z) (is_front same_sent xs zs) front in
+      let two = and_parts (option_map_or (λ one. follows_begin one z) other true) (followed_at_once (begin_in z) zs) follow in
+      and_from (option_map_or (λ one. follows_begin one x) begin true) (follows_so (begin_in x) xs) (by alike two.0 parts.0)
+      (front_follows (begin_in x) (begin_in z) xs zs (begins_alike x z parts.0) parts.1 two.1)
+    where
+      by : {one two : Option Sent} → IsAlike one two → option_map_or (λ b. follows_begin b z) two true ≡ true → same_sent x z ≡ true → option_map_or (λ b. follows_begin b x) one true ≡ true
+      by Neither here same = refl
+      by (Both a b begin) here same = follower_alike a b x z begin same here
+
+  -- A CONNECTION ----------------------------------------------------------------------------------
+
+  link_starts : (current : Bool) (link : Link) → is_sent_front link ≡ true → is_right (stage_of link) ≡ true → handled_from 0 link.served ≡ true → none_behind link.served ≡ true → is_row course current (calls_on course link) ≡ true
+      → carries_on course link ≡ true → begins_followed link ≡ true → starts_rightly course link ≡ true
+  link_starts current link sent right handled lone row carry follow =
+      all_known course link.served New start none_ran 0 None handled lone (front_right New served link.sent front right) (front_row course start served link.sent front parts.0)
+      (front_all (follows course) (follows_alike course) served link.sent front (unfiltered (λ (s : Sent). is_script_frame course s s.frame) (is_mine course) link.sent (and_parts (list_all (λ (s : Sent). is_script_frame course s s.frame) (calls_on course link)) _ parts.1).0))
+      (front_all (carries course) carries_alike served link.sent front carry) (front_follows None None served link.sent Neither front follow) refl refl
+    where
+      start : ℕ
+      start = option_map_or (λ s. s.call) (first_of (calls_on course link)) 0
+
+      served : List Sent
+      served = map (λ one. one.sent) link.served
+
+      front : is_front same_sent served link.sent ≡ true
+      front = front_begun same_sent served (up_of link) link.sent (record { rest = link.up; whole = refl }) (and_parts (is_front same_sent (up_of link) link.sent) _ sent).0
+
+      rest : Bool
+      rest =
+          list_all (λ (s : Sent). is_script_frame course s s.frame) (calls_on course link)
+          && (implies (current || has_unmarked (calls_on course link)) (marked_from course (calls_on course link) (first_unmarked course (calls_on course link))) && unmarked_first course (calls_on course link))
+
+      parts : (in_row start (calls_on course link) ≡ true) × (rest ≡ true)
+      parts = and_parts (in_row start (calls_on course link)) rest row
+
+-- A RUN -------------------------------------------------------------------------------------------
+
+pub starts_known : (t : Traced) → Orderly t → in_rows t ≡ true → carry_settings t ≡ true → are_followed t ≡ true → transactions_start t ≡ true
+starts_known t inv rows carry follow =
+    weaker_all (λ course. rows_on t course && list_all (carries_on course) t.machine.links) (λ course. list_all (test_at t (starts_rightly course)) (held_in course.steps)) (courses_of t)
+    (λ course both. let parts = and_parts (rows_on t course) (list_all (carries_on course) t.machine.links) both in of_course course parts.0 parts.1)
+    (both_all (rows_on t) (λ course. list_all (carries_on course) t.machine.links) (courses_of t) rows carry)
+  where
+    of_course : (course : Course) → rows_on t course ≡ true → list_all (carries_on course) t.machine.links ≡ true → list_all (test_at t (starts_rightly course)) (held_in course.steps) ≡ true
+    of_course course on carry =
+        weaker_all (λ number. option_map_or (λ link. is_row course (is_current course number) (calls_on course link)) (link_at t.machine.links number) false) (test_at t (starts_rightly course)) (held_in course.steps)
+        (λ number is. at number (link_at t.machine.links number) refl is) on
+      where
+        at : (number : ℕ) (found : Option Link) → link_at t.machine.links number ≡ found → option_map_or (λ link. is_row course (is_current course number) (calls_on course link)) found false ≡ true
+            → option_map_or (starts_rightly course) found false ≡ true
+        at number None there is = absurd (let none : ⊥ = cc in none)
+        at number (Some link) there is =
+            link_starts course (is_current course number) link (at_link is_sent_front t.machine.links number link inv.wire.sent there) (at_link (λ l. is_right (stage_of l)) t.machine.links number link inv.wire.grammar there)
+            (at_link (λ l. handled_from 0 l.served) t.machine.links number link inv.wire.handled there)
+            (and_parts (none_behind link.served) _ (at_link lives_rightly t.machine.links number link inv.basic.life there)).0 is
+            (at_link (carries_on course) t.machine.links number link carry there) (at_link begins_followed t.machine.links number link follow there)

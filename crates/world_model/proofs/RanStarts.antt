@@ -1,0 +1,319 @@
+-- A transaction that a connection ran and that has a call of a request starts with the request's settings, changed by each `set` before its first call.
+use Rattle.std.proofs.Common.{◌≡◌, refl, sym, ap, subst, ◌∙◌, Bool, true, false, ℕ, zero, suc, ◌+◌, ◌&&◌, ◌||◌, List, [], ◌∷◌, ◌++◌, map, filter, fold, take, Option, Some, None, if◌then◌else◌, arith}
+use Rattle.std.specs.Prelude.{◌==◌, not, slice_get}
+use Rattle.std.specs.List.{list_all, list_any}
+use Rattle.std.specs.Option.{option_map_or}
+use Rattle.std.proofs.lemmas.Bool.{and_parts, and_from, or_from, or_right}
+use Rattle.std.proofs.lemmas.List.Folds.{list_any-append}
+use Rattle.std.proofs.lemmas.List.Sums.{fold-append}
+use Rattle.svc_values.specs.declared.call.Call.{Call}
+use Rattle.svc_values.specs.declared.draw.Draw.{Draw}
+use Rattle.svc_values.specs.declared.entry.Ltxid.{Ltxid}
+use Rattle.svc_values.specs.declared.frame.Up.{Up}
+use Rattle.svc_values.specs.declared.frame.Up.TheVariants as up
+use Rattle.svc_values.specs.declared.value.Value.{Value}
+use Rattle.svc_values.specs.Endings.{ends_committed}
+use Rattle.svc_values.specs.Same.{same_call}
+use Rattle.svc_values.specs.SameLaws.{same_call_decides}
+use Rattle.svc_values.specs.SettingsList.{NamedValues, same_settings, with_set, with_sets}
+use Rattle.outage_schedule.specs.declared.document.Request.{Request}
+use Rattle.outage_schedule.specs.declared.item.Item.{Item}
+use Rattle.outage_schedule.specs.declared.item.Item.TheVariants as item
+use Rattle.world_model.specs.Basic.{is_stopped, none_behind}
+use Rattle.world_model.specs.Begins.{begin_in, carries_settings, follows_begin, has_start, have_starts, is_begin_frame, settings_before}
+use Rattle.world_model.specs.Frames.{Owner, Sent, Handled}
+use Rattle.world_model.specs.Parts.{implies}
+use Rattle.world_model.specs.Same.{ServedCall, Ran, begins, did_all, ends_on_server, first_call, ran_item, with_call}
+use Rattle.world_model.specs.Sames.{is_of, owned_by, same_owners}
+use Rattle.world_model.specs.Serving.{is_last}
+use Rattle.world_model.specs.Shown.{in_row, is_call, is_scripts as is_script_frame}
+use Rattle.world_model.specs.Traced.{Course}
+use Rattle.world_model.specs.Wire.{Stage, New, Greeted, Told, Repeated, Begun, Rested, Shut, Wrong, counted_with, handled_from, is_handled, next_stage, stage_if, is_alter, is_right}
+use Rattle.world_model.proofs.AskedNear.{owners_are}
+use Rattle.world_model.proofs.Fronts.{moved}
+use Rattle.world_model.proofs.KeptBegins.{carries}
+use Rattle.world_model.proofs.RanCalls.{follows, is_mine, was_right}
+use Rattle.world_model.proofs.RanScripts.{Deal, Greets, Asks, Begins, Ends, Calls, Stops, IsLast, handled_deal, first_more, if_same, if_same_plain, lone_later, none_later, owns, plain_left}
+use Rattle.world_model.proofs.RanSettings.{IsBeside, set_beside, set_settings, settings_decide}
+use Rattle.world_model.proofs.Tests.{eq_from}
+
+-- SETTINGS ----------------------------------------------------------------------------------------
+
+take_next : (calls : List Call) (n : ℕ) (call : Call) → slice_get calls n ≡ Some call → take (n + 1) calls ≡ take n calls ++ call ∷ []
+take_next [] n call is = absurd (let none : ⊥ = cc in none)
+take_next (first ∷ calls) zero call is = let same : first ≡ call = cc in ap (λ (c : Call). c ∷ []) same
+take_next (first ∷ calls) (suc n) call is =
+    let next : suc n + 1 ≡ suc (n + 1) = omega arith in ap (λ (k : ℕ). take k (first ∷ calls)) next ∙ ap (λ (rest : List Call). first ∷ rest) (take_next calls n call is)
+
+next_settings : (request : Request) (n : ℕ) (call : Call) → slice_get request.calls n ≡ Some call → settings_before request (n + 1) ≡ with_set (settings_before request n) call
+next_settings request n call is = ap (with_sets request.settings) (take_next request.calls n call is) ∙ fold-append with_set request.settings (take n request.calls) (call ∷ [])
+
+-- FRAMES IN A ROW ---------------------------------------------------------------------------------
+
+-- of a front of what was sent
+abbrev pub follows_so : Option Sent → List Sent → Bool
+follows_so begin [] = true
+follows_so begin (sent ∷ sents) = option_map_or (λ one. follows_begin one sent) begin true && follows_so (begin_in sent) sents
+
+module _ (course : Course) where
+  abbrev pub since : ℕ → NamedValues
+  since n = settings_before course.request n
+
+  -- the call behind a Begin is of its index
+  row_from : (n : ℕ) (begin : Sent) (rests : List Sent) → owned_by course.owner begin ≡ true → follows_so (Some begin) rests ≡ true → in_row n (filter (is_mine course) rests) ≡ true → in_row begin.call (filter (is_mine course) rests) ≡ true
+  row_from n begin [] own follow row = refl
+  row_from n begin (next ∷ rests) own follow row = subst (λ (k : ℕ). in_row k (filter (is_mine course) (next ∷ rests)) ≡ true) at row
+    where
+      one : (is_call next.frame ≡ true) × (((next.call == begin.call) && same_owners begin.owner next.owner) ≡ true)
+      one = and_parts (is_call next.frame) ((next.call == begin.call) && same_owners begin.owner next.owner) (and_parts (follows_begin begin next) (follows_so (begin_in next) rests) follow).0
+
+      two : ((next.call == begin.call) ≡ true) × (same_owners begin.owner next.owner ≡ true)
+      two = and_parts (next.call == begin.call) (same_owners begin.owner next.owner) one.1
+
+      mine : is_mine course next ≡ true
+      mine = and_from (owned_by course.owner next) (is_call next.frame) (ap (is_of course.owner) (sym (owners_are begin.owner next.owner two.1)) ∙ own) one.0
+
+      first : in_row n (if is_mine course next then next ∷ filter (is_mine course) rests else filter (is_mine course) rests) ≡ true
+      first = row
+
+      here : (next.call == n) ≡ true
+      here = (and_parts (next.call == n) (in_row (n + 1) (filter (is_mine course) rests)) (sym (ap (λ (test : Bool). in_row n (if test then next ∷ filter (is_mine course) rests else filter (is_mine course) rests)) mine) ∙ first)).0
+
+      at : n ≡ begin.call
+      at = sym (eq_from next.call n here) ∙ eq_from next.call begin.call two.0
+
+  -- WHERE A SESSION STANDS ------------------------------------------------------------------------
+
+  -- where the request's next call is of this index
+  pub record IsSet (n : ℕ) (owner : Option Owner) (ran : Ran) : Type 0 where
+    pub mine : is_of course.owner owner ≡ true → (ran.settings ≡ since n) × (ran.at_start ≡ since (first_call ran.pieces n))
+    pub others : is_of course.owner owner ≡ false → list_any (owns course) ran.pieces ≡ false
+
+  abbrev pub StandsAt : Stage → ℕ → Ran → Type 0
+  StandsAt (Repeated owner) n ran = IsSet n owner ran
+  StandsAt (Begun owner) n ran = IsSet n owner ran
+  StandsAt New n ran = ran.pieces ≡ []
+  StandsAt (Greeted owner) n ran = ran.pieces ≡ []
+  StandsAt (Told owner) n ran = ran.pieces ≡ []
+  StandsAt (Rested owner) n ran = ran.pieces ≡ []
+  StandsAt Shut n ran = ran.pieces ≡ []
+  StandsAt Wrong n ran = ran.pieces ≡ []
+
+  if_stands : (test : Bool) (stage : Stage) (n : ℕ) (ran : Ran) → is_right (stage_if test stage) ≡ true → StandsAt stage n ran → StandsAt (stage_if test stage) n ran
+  if_stands true stage n ran right stands = stands
+  if_stands false stage n ran right stands = absurd (let none : ⊥ = cc in none)
+
+  greeted_stands : (stage : Stage) (owner : Option Owner) (n : ℕ) (ran : Ran) → is_right (next_stage stage owner up.Connect) ≡ true → StandsAt stage n ran → StandsAt (next_stage stage owner up.Connect) n ran
+  greeted_stands New owner n ran right stands = if_stands _ (Greeted owner) n ran right stands
+  greeted_stands stage owner n ran right stands = absurd (let none : ⊥ = cc in none)
+
+  asked_stands : (stage : Stage) (owner : Option Owner) (x : Ltxid) (n : ℕ) (ran : Ran) → is_right (next_stage stage owner (up.Outcome x)) ≡ true → StandsAt stage n ran → StandsAt (next_stage stage owner (up.Outcome x)) n ran
+  asked_stands (Greeted one) owner x n ran right stands = if_stands (same_owners one owner) (Told owner) n ran right stands
+  asked_stands stage owner x n ran right stands = absurd (let none : ⊥ = cc in none)
+
+  end_stands : (stage : Stage) (owner : Option Owner) (n : ℕ) (ran : Ran) → is_right (next_stage stage owner up.End) ≡ true → ran.pieces ≡ [] → StandsAt (next_stage stage owner up.End) n ran
+  end_stands (Begun one) owner n ran right none = if_stands (same_owners one owner) (Rested owner) n ran right none
+  end_stands (Told one) owner n ran right none = if_stands (same_owners one owner) (Rested owner) n ran right none
+  end_stands (Repeated one) owner n ran right none = if_stands (same_owners one owner) (Rested owner) n ran right none
+  end_stands stage owner n ran right none = absurd (let never : ⊥ = cc in never)
+
+  begin_stands : (stage : Stage) (owner : Option Owner) (settings : List (List ℕ × Value)) (n : ℕ) (ran : Ran) → is_right (next_stage stage owner (up.Begin settings)) ≡ true → IsSet n owner ran → StandsAt (next_stage stage owner (up.Begin settings)) n ran
+  begin_stands (Greeted one) owner settings n ran right set = if_stands (same_owners one owner) (Begun owner) n ran right set
+  begin_stands (Told one) owner settings n ran right set = if_stands (same_owners one owner) (Repeated owner) n ran right set
+  begin_stands (Rested one) owner settings n ran right set = if_stands _ (Begun owner) n ran right set
+  begin_stands stage owner settings n ran right set = absurd (let never : ⊥ = cc in never)
+
+  was_set : (stage : Stage) (owner : Option Owner) (replay : Bool) (kept : List Draw) (call : Call) (n : ℕ) (ran : Ran) → is_right (next_stage stage owner (up.Call replay kept call)) ≡ true → StandsAt stage n ran → IsSet n owner ran
+  was_set (Repeated one) owner true kept call n ran right stands = subst (λ (o : Option Owner). IsSet n o ran) (if_same course one owner (not (is_alter call)) (Repeated owner) right) stands
+  was_set (Repeated one) owner false kept call n ran right stands = subst (λ (o : Option Owner). IsSet n o ran) (if_same_plain course one owner (Begun owner) right) stands
+  was_set (Begun one) owner false kept call n ran right stands = subst (λ (o : Option Owner). IsSet n o ran) (if_same_plain course one owner (Begun owner) right) stands
+  was_set stage owner replay kept call n ran right stands = absurd (let none : ⊥ = cc in none)
+
+  now_set : (stage : Stage) (owner : Option Owner) (replay : Bool) (kept : List Draw) (call : Call) (n : ℕ) (ran : Ran) → is_right (next_stage stage owner (up.Call replay kept call)) ≡ true → IsSet n owner ran
+      → StandsAt (next_stage stage owner (up.Call replay kept call)) n ran
+  now_set (Repeated one) owner true kept call n ran right set = if_stands (same_owners one owner && not (is_alter call)) (Repeated owner) n ran right set
+  now_set (Repeated one) owner false kept call n ran right set = if_stands (same_owners one owner) (Begun owner) n ran right set
+  now_set (Begun one) owner false kept call n ran right set = if_stands (same_owners one owner) (Begun owner) n ran right set
+  now_set stage owner replay kept call n ran right set = absurd (let none : ⊥ = cc in none)
+
+  -- a transaction begins with the settings as they are
+  begun_set : (n : ℕ) (owner : Option Owner) (ran : Ran) → IsSet n owner ran → IsSet n owner (begins ran)
+  begun_set n owner ran set = record { mine = λ own. ((set.mine own).0, (set.mine own).0); others = λ differs. refl }
+
+  -- A CALL ----------------------------------------------------------------------------------------
+
+  record Opened (ran : Ran) (did : ServedCall) (rests : List Sent) : Type 0 where
+    next : ℕ
+    set : IsSet next did.sent.owner (record (with_call ran did.piece.call) { pieces = ran.pieces ++ did ∷ [] })
+    row : in_row next (filter (is_mine course) rests) ≡ true
+    starts : has_start course (ran.pieces ++ did ∷ []) ran.at_start ≡ true
+
+  call_opens : (n : ℕ) (ran : Ran) (did : ServedCall) (rests : List Sent) → IsSet n did.sent.owner ran
+      → in_row n (if owned_by course.owner did.sent && true then did.sent ∷ filter (is_mine course) rests else filter (is_mine course) rests) ≡ true
+      → implies (owned_by course.owner did.sent && true) (option_map_or (same_call did.piece.call) (slice_get course.request.calls did.sent.call) false) ≡ true → Opened ran did rests
+  call_opens n ran did rests set row script = by (owned_by course.owner did.sent) refl row script
+    where
+      dids : List ServedCall
+      dids = ran.pieces ++ did ∷ []
+
+      beside : IsBeside ran did.piece.call
+      beside = set_beside ran did.piece.call
+
+      script_at : Bool
+      script_at = option_map_or (same_call did.piece.call) (slice_get course.request.calls did.sent.call) false
+
+      found : (call : Option Call) → slice_get course.request.calls did.sent.call ≡ call → option_map_or (same_call did.piece.call) call false ≡ true → slice_get course.request.calls did.sent.call ≡ Some did.piece.call
+      found None is same = absurd (let none : ⊥ = cc in none)
+      found (Some call) is same = is ∙ ap Some (sym ((same_call_decides did.piece.call call).0 same))
+
+      other : {A : Type 0} → owned_by course.owner did.sent ≡ true → owned_by course.owner did.sent ≡ false → A
+      other own not_own = absurd (let same : true ≡ false = sym own ∙ not_own in let none : ⊥ = cc in none)
+
+      by : (own : Bool) → owned_by course.owner did.sent ≡ own → in_row n (if own && true then did.sent ∷ filter (is_mine course) rests else filter (is_mine course) rests) ≡ true → implies (own && true) script_at ≡ true → Opened ran did rests
+      by true own row script =
+          let parts = and_parts (did.sent.call == n) (in_row (n + 1) (filter (is_mine course) rests)) row in
+          let at : did.sent.call ≡ n = eq_from did.sent.call n parts.0 in
+          let here = set.mine own in
+          let call : slice_get course.request.calls n ≡ Some did.piece.call = subst (λ (k : ℕ). slice_get course.request.calls k ≡ Some did.piece.call) at (found (slice_get course.request.calls did.sent.call) refl script) in
+          let settings : (with_call ran did.piece.call).settings ≡ since (n + 1) =
+          set_settings ran did.piece.call ∙ (ap (λ (now : NamedValues). with_set now did.piece.call) here.0 ∙ sym (next_settings course.request n did.piece.call call)) in
+          record {
+            next = n + 1;
+            set = record {
+              mine = λ same. (settings, beside.at_start ∙ (here.1 ∙ ap since (sym (first_more course ran.pieces did n (n + 1) at))));
+              others = λ differs. other own differs;
+            };
+            row = parts.1;
+            starts = or_right (not (list_any (owns course) dids)) (same_settings ran.at_start (since (first_call dids 0)))
+                ((settings_decide ran.at_start (since (first_call dids 0))).1 (here.1 ∙ ap since (sym (first_more course ran.pieces did n 0 at))));
+          }
+      by false own row script =
+          let none : list_any (owns course) dids ≡ false =
+          list_any-append (owns course) ran.pieces (did ∷ []) ∙ or_from (list_any (owns course) ran.pieces) (list_any (owns course) (did ∷ [])) (set.others own) (or_from (owned_by course.owner did.sent) false own refl) in
+          record {
+            next = n;
+            set = record { mine = λ same. other same own; others = λ differs. none };
+            row = row;
+            starts = ap (λ (any : Bool). implies any (same_settings ran.at_start (since (first_call dids 0)))) none;
+          }
+
+  -- WHAT A SESSION DID ----------------------------------------------------------------------------
+
+  abbrev pub knows : Ran → Bool
+  knows ran = have_starts course ran.over ran.starts && has_start course ran.pieces ran.at_start
+
+  more_starts : (over : List (List ServedCall)) (starts : List NamedValues) (dids : List ServedCall) (start : NamedValues) → have_starts course over starts ≡ true → has_start course dids start ≡ true → have_starts course (over ++ dids ∷ []) (starts ++ start ∷ []) ≡ true
+  more_starts [] [] dids start have has = and_from (has_start course dids start) true has refl
+  more_starts [] (first ∷ starts) dids start have has = absurd (let none : ⊥ = cc in none)
+  more_starts (one ∷ over) [] dids start have has = absurd (let none : ⊥ = cc in none)
+  more_starts (one ∷ over) (first ∷ starts) dids start have has =
+      let parts = and_parts (has_start course one first) (have_starts course over starts) have in
+      and_from (has_start course one first) (have_starts course (over ++ dids ∷ []) (starts ++ start ∷ [])) parts.0 (more_starts over starts dids start parts.1 has)
+
+  -- Behind an item: where it stands, or that it is the last one.
+  data Next (rests : List Sent) (stage : Stage) (later : Ran) (one : Item) : Type 0 where
+    GoesOn : (n : ℕ) → StandsAt stage n later → in_row n (filter (is_mine course) rests) ≡ true → knows later ≡ true → Next rests stage later one
+    IsDone : (is_last one || is_stopped one) ≡ true → knows later ≡ true → Next rests stage later one
+
+  did_next : (rests : List Sent) (stage : Stage) (owner : Option Owner) (ran : Ran) (committed ended : Bool) (dids : List ServedCall) (one : Item) (n : ℕ) → have_starts course ran.over ran.starts ≡ true → has_start course dids ran.at_start ≡ true
+      → ((later : Ran) → IsSet n owner later → StandsAt stage n later) → IsSet n owner (record ran { pieces = dids }) → in_row n (filter (is_mine course) rests) ≡ true → Next rests stage (did_all ran committed ended dids) one
+  did_next rests stage owner ran true ended dids one n have has stands set row =
+      GoesOn n (stands (did_all ran true ended dids) (record { mine = λ own. ((set.mine own).0, (set.mine own).0); others = λ differs. refl })) row
+      (and_from (have_starts course (ran.over ++ dids ∷ []) (ran.starts ++ ran.at_start ∷ [])) true (more_starts ran.over ran.starts dids ran.at_start have has) refl)
+  did_next rests stage owner ran false true dids one n have has stands set row =
+      GoesOn n (stands (begins ran) (record { mine = λ own. ((set.mine own).0, (set.mine own).0); others = λ differs. refl })) row (and_from (have_starts course ran.over ran.starts) true have refl)
+  did_next rests stage owner ran false false dids one n have has stands set row =
+      GoesOn n (stands (record ran { pieces = dids }) set) row (and_from (have_starts course ran.over ran.starts) (has_start course dids ran.at_start) have has)
+
+  -- a Begin, of the request or of another one
+  begun_next : (rests : List Sent) (stage : Stage) (n : ℕ) (ran : Ran) (sent : Sent) (settings : List (List ℕ × Value)) → is_right (next_stage stage sent.owner (up.Begin settings)) ≡ true → in_row n (filter (is_mine course) rests) ≡ true
+      → implies (owned_by course.owner sent) (same_settings settings (since sent.call)) ≡ true → follows_so (Some sent) rests ≡ true → have_starts course ran.over ran.starts ≡ true
+      → Next rests (next_stage stage sent.owner (up.Begin settings)) (begins (record ran { settings = settings })) (item.Begin settings)
+  begun_next rests stage n ran sent settings right row carry follow have = by (owned_by course.owner sent) refl carry
+    where
+      later : Ran
+      later = begins (record ran { settings = settings })
+
+      known : knows later ≡ true
+      known = and_from (have_starts course ran.over ran.starts) true have refl
+
+      by : (own : Bool) → owned_by course.owner sent ≡ own → implies own (same_settings settings (since sent.call)) ≡ true → Next rests (next_stage stage sent.owner (up.Begin settings)) later (item.Begin settings)
+      by true own carry =
+          let same : settings ≡ since sent.call = (settings_decide settings (since sent.call)).0 carry in
+          GoesOn sent.call
+          (begin_stands stage sent.owner settings sent.call later right
+          (record { mine = λ is. (same, same); others = λ differs. refl }))
+          (row_from n sent rests own follow row) known
+      by false own carry =
+          GoesOn n
+          (begin_stands stage sent.owner settings n later right
+          (record { mine = λ is. absurd (let both : true ≡ false = sym is ∙ own in let none : ⊥ = cc in none); others = λ differs. refl })) row known
+
+  one_next : (rests : List Sent) (stage : Stage) (n : ℕ) (ran : Ran) (sent : Sent) (frame : Up) (one : Item) → Deal frame one → is_right (next_stage stage sent.owner frame) ≡ true
+      → in_row n (if owned_by course.owner sent && is_call frame then sent ∷ filter (is_mine course) rests else filter (is_mine course) rests) ≡ true
+      → implies (owned_by course.owner sent && is_call frame) (is_script_frame course sent frame) ≡ true → implies (owned_by course.owner sent) (carries_settings course.request sent.call frame) ≡ true
+      → follows_so (if is_begin_frame frame then Some sent else None) rests ≡ true → StandsAt stage n ran → knows ran ≡ true → Next rests (next_stage stage sent.owner frame) (ran_item ran sent one) one
+  one_next rests stage n ran sent _ _ Greets right row script carry follow stands known =
+      GoesOn n (greeted_stands stage sent.owner n ran right stands) (plain_left (in_row n) (owned_by course.owner sent) (sent ∷ filter (is_mine course) rests) (filter (is_mine course) rests) row) known
+  one_next rests stage n ran sent _ _ (Asks x asked result) right row script carry follow stands known =
+      GoesOn n (asked_stands stage sent.owner x n ran right stands) (plain_left (in_row n) (owned_by course.owner sent) (sent ∷ filter (is_mine course) rests) (filter (is_mine course) rests) row) known
+  one_next rests stage n ran sent _ _ (Begins settings) right row script carry follow stands known =
+      begun_next rests stage n ran sent settings right (plain_left (in_row n) (owned_by course.owner sent) (sent ∷ filter (is_mine course) rests) (filter (is_mine course) rests) row) carry follow
+      (and_parts (have_starts course ran.over ran.starts) (has_start course ran.pieces ran.at_start) known).0
+  one_next rests stage n ran sent _ _ Ends right row script carry follow stands known =
+      GoesOn n (end_stands stage sent.owner n (ran_item ran sent item.End) right refl) (plain_left (in_row n) (owned_by course.owner sent) (sent ∷ filter (is_mine course) rests) (filter (is_mine course) rests) row)
+      (and_from (have_starts course ran.over ran.starts) true (and_parts (have_starts course ran.over ran.starts) (has_start course ran.pieces ran.at_start) known).0 refl)
+  one_next rests stage n ran sent _ _ (Calls replay marked kept call answers draws) right row script carry follow stands known =
+      let did : ServedCall = record { sent = sent; mark = marked; piece = record { call = call; answers = answers; draws = draws } } in
+      let beside : IsBeside ran call = set_beside ran call in
+      let opened : Opened ran did rests = call_opens n ran did rests (was_set stage sent.owner replay kept call n ran right stands) row script in
+      did_next rests (next_stage stage sent.owner (up.Call replay kept call)) sent.owner (with_call ran call) (ends_committed answers) (ends_on_server answers) (ran.pieces ++ did ∷ []) (item.Call marked call answers draws) opened.next
+      (ap (λ (over : List (List ServedCall)). have_starts course over (with_call ran call).starts) beside.over
+      ∙ (ap (have_starts course ran.over) beside.starts ∙ (and_parts (have_starts course ran.over ran.starts) (has_start course ran.pieces ran.at_start) known).0))
+      (ap (has_start course (ran.pieces ++ did ∷ [])) beside.at_start ∙ opened.starts)
+      (λ later. now_set stage sent.owner replay kept call opened.next later right) opened.set opened.row
+  one_next rests stage n ran sent _ _ (Stops replay marked kept call) right row script carry follow stands known =
+      let did : ServedCall = record { sent = sent; mark = marked; piece = record { call = call; answers = []; draws = [] } } in
+      let parts = and_parts (have_starts course ran.over ran.starts) (has_start course ran.pieces ran.at_start) known in
+      let opened : Opened ran did rests = call_opens n ran did rests (was_set stage sent.owner replay kept call n ran right stands) row script in
+      IsDone refl
+      (and_from (have_starts course (ran.over ++ (ran.pieces ++ did ∷ []) ∷ []) (ran.starts ++ ran.at_start ∷ [])) (has_start course ran.pieces ran.at_start)
+      (more_starts ran.over ran.starts (ran.pieces ++ did ∷ []) ran.at_start parts.0 opened.starts) parts.1)
+  one_next rests stage n ran sent _ _ (IsLast frame one ends same) right row script carry follow stands known = IsDone ends (ap knows (same ran sent) ∙ known)
+
+  -- ALL THAT IT SERVED ----------------------------------------------------------------------------
+
+  abbrev pub step : Ran → Handled → Ran
+  step ran one = ran_item ran one.sent one.served.item
+
+  abbrev pub sents_of : List Handled → List Sent
+  sents_of served = map (λ one. one.sent) served
+
+  pub all_known : (served : List Handled) (stage : Stage) (n : ℕ) (ran : Ran) (commits : ℕ) (begin : Option Sent) → handled_from commits served ≡ true → none_behind served ≡ true → is_right (fold moved stage (sents_of served)) ≡ true
+      → in_row n (filter (is_mine course) (sents_of served)) ≡ true → list_all (follows course) (sents_of served) ≡ true → list_all (carries course) (sents_of served) ≡ true → follows_so begin (sents_of served) ≡ true
+      → StandsAt stage n ran → knows ran ≡ true → knows (fold step ran served) ≡ true
+  all_known [] stage n ran commits begin handled lone right row scripts carry follow stands known = known
+  all_known (one ∷ others) stage n ran commits begin handled lone right row scripts carry follow stands known =
+      by (one_next (sents_of others) stage n ran one.sent one.sent.frame one.served.item (handled_deal now one parts.0) (was_right (moved stage one.sent) (sents_of others) right) row script.0 carried.0 followed stands known)
+      (λ m stands_now row_now known_now. all_known others (moved stage one.sent) m (step ran one) now (begin_in one.sent) parts.1 (lone_later course one others lone) right row_now script.1 carried.1 followed stands_now known_now)
+    where
+      now : ℕ
+      now = counted_with commits one.served.item
+
+      parts : (is_handled now one ≡ true) × (handled_from now others ≡ true)
+      parts = and_parts (is_handled now one) (handled_from now others) handled
+
+      script : (follows course one.sent ≡ true) × (list_all (follows course) (sents_of others) ≡ true)
+      script = and_parts (follows course one.sent) (list_all (follows course) (sents_of others)) scripts
+
+      carried : (carries course one.sent ≡ true) × (list_all (carries course) (sents_of others) ≡ true)
+      carried = and_parts (carries course one.sent) (list_all (carries course) (sents_of others)) carry
+
+      followed : follows_so (begin_in one.sent) (sents_of others) ≡ true
+      followed = (and_parts (option_map_or (λ b. follows_begin b one.sent) begin true) (follows_so (begin_in one.sent) (sents_of others)) follow).1
+
+      by : Next (sents_of others) (moved stage one.sent) (step ran one) one.served.item
+          → ((m : ℕ) → StandsAt (moved stage one.sent) m (step ran one) → in_row m (filter (is_mine course) (sents_of others)) ≡ true → knows (step ran one) ≡ true → knows (fold step (step ran one) others) ≡ true)
+          → knows (fold step (step ran one) others) ≡ true
+      by (GoesOn m stands row known) again = again m stands row known
+      by (IsDone ends known) again = subst (λ (more : List Handled). knows (fold step (step ran one) more) ≡ true) (sym (none_later course one others lone ends)) known
