@@ -1,4 +1,4 @@
--- The connection of an entry's session is the only one with it, so the entry has the pieces of the transaction of its number there.
+-- The connection of an entry's session is the only one with it, so the entry has the pieces of the transaction of its number there, and its settings.
 use Rattle.std.proofs.Common.{◌≡◌, ◌≢◌, refl, sym, ap, ◌∙◌, Bool, true, false, ℕ, zero, suc, ◌&&◌, List, [], ◌∷◌, filter, cond, Option, Some, None, ◌⊎◌, inl, inr}
 use Rattle.std.specs.Prelude.{◌==◌, is_some, option_and_then, slice_get}
 use Rattle.std.specs.List.{last_or, list_all}
@@ -7,10 +7,11 @@ use Rattle.std.proofs.lemmas.Bool.{and_parts}
 use Rattle.svc_values.specs.declared.entry.Entry.{Entry}
 use Rattle.svc_values.specs.declared.entry.SessionId.{SessionId}
 use Rattle.svc_values.specs.Identifiers.{session_of}
+use Rattle.svc_values.specs.SettingsList.{same_settings}
 use Rattle.world_model.specs.Basic.{sessions_differ, sessions_of}
 use Rattle.world_model.specs.Links.{Link, link_at}
 use Rattle.world_model.specs.Parts.{implies}
-use Rattle.world_model.specs.Same.{are_pieces, is_ran, is_session_of, link_of, ran_by}
+use Rattle.world_model.specs.Same.{are_pieces, is_ran, is_session_of, is_started, link_of, ran_by}
 use Rattle.world_model.specs.Traced.{Traced}
 use Rattle.world_model.proofs.Gaining.{links_apart}
 use Rattle.world_model.proofs.Tests.{same_session_is, session_self}
@@ -87,3 +88,7 @@ module _ (t : Traced) (apart : sessions_differ t ≡ true) (entry : Entry) (numb
   pub link_ran : is_ran t entry ≡ true → option_map_or (λ dids. are_pieces dids entry.pieces) (slice_get (ran_by link).over entry.ltxid.number) false ≡ true
   link_ran is =
       sym (ap (λ (found : Option Link). implies (is_some found) (option_map_or (λ dids. are_pieces dids entry.pieces) (option_and_then (λ one. slice_get (ran_by one).over entry.ltxid.number) found) false)) link_is) ∙ is
+
+  pub link_started : is_started t entry ≡ true → option_map_or (same_settings entry.settings) (slice_get (ran_by link).starts entry.ltxid.number) false ≡ true
+  link_started is =
+      sym (ap (λ (found : Option Link). implies (is_some found) (option_map_or (same_settings entry.settings) (option_and_then (λ one. slice_get (ran_by one).starts entry.ltxid.number) found) false)) link_is) ∙ is

@@ -1,10 +1,10 @@
--- The entry of a sending to which no reply was taken has the calls of the script that end with the one that was sent: it is what its connection ran
--- last.
+-- The entry of a sending to which no reply was taken has the calls of the script that end with the one that was sent, and the settings before them: it
+-- is what its connection ran last.
 use Rattle.std.proofs.Common.{◌≡◌, refl, sym, ap, subst, ◌∙◌, Bool, true, false, ℕ, zero, suc, ◌+◌, ◌-◌, ◌<◌, ◌≤◌, ◌&&◌, ◌||◌, length, take, drop, List, [], ◌∷◌, ◌++◌, map, Option, Some, None, arith}
 use Rattle.std.specs.Prelude.{◌==◌, not, nat_le, nat_lt, is_some, slice_get}
 use Rattle.std.specs.List.{list_all, list_any}
 use Rattle.std.specs.Option.{option_map_or}
-use Rattle.std.proofs.lemmas.Bool.{and_parts, or_left, or_right}
+use Rattle.std.proofs.lemmas.Bool.{and_parts, and_from, or_left, or_right}
 use Rattle.std.proofs.lemmas.List.{drop-take, length_push}
 use Rattle.std.proofs.lemmas.List.Folds.{list_any-append}
 use Rattle.svc_values.specs.declared.answer.Answer.{Answer}
@@ -14,17 +14,19 @@ use Rattle.svc_values.specs.declared.entry.Ltxid.{Ltxid}
 use Rattle.svc_values.specs.declared.entry.Piece.{Piece}
 use Rattle.svc_values.specs.Calls.{has_commit}
 use Rattle.svc_values.specs.Identifiers.{same_ltxid, session_of}
-use Rattle.svc_values.specs.Same.{same_call}
+use Rattle.svc_values.specs.Same.{same_call, same_calls}
 use Rattle.svc_values.specs.SameLaws.{same_call_decides, same_calls_decide, same_ltxid_decides}
+use Rattle.svc_values.specs.SettingsList.{NamedValues, same_settings}
 use Rattle.run_clauses.specs.EntryEvents.{entries_of}
 use Rattle.world_model.specs.Basic.{lives_rightly, none_behind}
+use Rattle.world_model.specs.Begins.{has_start, have_starts, settings_before, starts_rightly}
 use Rattle.world_model.specs.Frames.{Owner, Sent}
 use Rattle.world_model.specs.Invariant.{Invariant}
 use Rattle.world_model.specs.Links.{Link, link_at}
 use Rattle.world_model.specs.Number.{ahead_rightly, cond_held, is_ahead, is_counted, is_near, last_served_made}
 use Rattle.world_model.specs.Once.{is_placed, are_placed}
 use Rattle.world_model.specs.Parts.{Sending, commit_sendings, held_number, is_commit_call, is_out, number_of, sendings_of}
-use Rattle.world_model.specs.Same.{ServedCall, are_pieces, calls_of, ends_with_sent, first_call, has_script_calls, is_open_stored, is_piece_of, is_ran, is_scripts, open_entries_known, ran_by, runs_script_calls, scripts_from, test_at}
+use Rattle.world_model.specs.Same.{ServedCall, are_pieces, calls_of, ends_with_sent, first_call, has_script_calls, is_open_stored, is_piece_of, is_ran, is_scripts, is_started, open_entries_known, ran_by, runs_script_calls, scripts_from, test_at}
 use Rattle.world_model.specs.Sames.{is_of, owned_by, same_owner, same_owners, same_sent, same_up}
 use Rattle.world_model.specs.Traced.{Traced, Course, courses_of}
 use Rattle.world_model.specs.Words.{held_in}
@@ -32,7 +34,7 @@ use Rattle.world_model.proofs.AllLinks.{at_link}
 use Rattle.world_model.proofs.AllLists.{at_all, filter_all, weaker_all}
 use Rattle.world_model.proofs.AskedNear.{any_all, owners_are}
 use Rattle.world_model.proofs.AskedSendings.{each_flat}
-use Rattle.world_model.proofs.EntryLinks.{link_ran}
+use Rattle.world_model.proofs.EntryLinks.{link_ran, link_started}
 use Rattle.world_model.proofs.FateSteps.{IsFated, fated, fated_from}
 use Rattle.world_model.proofs.Fates.{Waits}
 use Rattle.world_model.proofs.FateTaken.{scan_owned}
@@ -42,10 +44,12 @@ use Rattle.world_model.proofs.KnownLinks.{known_of}
 use Rattle.world_model.proofs.LastRan.{OutRan, out_ran}
 use Rattle.world_model.proofs.LinkCounts.{extra_few}
 use Rattle.world_model.proofs.LinkLives.{implied}
+use Rattle.world_model.proofs.LinkStarts.{starts_known}
 use Rattle.world_model.proofs.LoneCalls.{same_piece_call}
 use Rattle.world_model.proofs.LostKept.{both_all}
 use Rattle.world_model.proofs.Numbered.{all_below}
 use Rattle.world_model.proofs.RanScripts.{owns, scripts_ran}
+use Rattle.world_model.proofs.RanSettings.{settings_decide}
 use Rattle.world_model.proofs.SendingSteps.{scan_by}
 use Rattle.world_model.proofs.Strangers.{same_owner_is}
 use Rattle.world_model.proofs.Tests.{eq_from, eq_to, le_from, lt_from}
@@ -98,8 +102,12 @@ last_index course index (first ∷ before) did all =
 
 -- a transaction that ends with this call of the request
 pub script_entry : (course : Course) (sending : Sending) (entry : Entry) (before : List ServedCall) (did : ServedCall) → has_script_calls course (before ++ did ∷ []) ≡ true → are_pieces (before ++ did ∷ []) entry.pieces ≡ true
-    → owned_by course.owner did.sent ≡ true → did.sent.call ≡ sending.at → ends_with_sent course sending entry ≡ true
-script_entry course sending entry before did knows are own at = (same_calls_decide (calls_of entry) whole).1 (calls ∙ sym same)
+    → owned_by course.owner did.sent ≡ true → did.sent.call ≡ sending.at → (start : NamedValues) → has_start course (before ++ did ∷ []) start ≡ true → same_settings entry.settings start ≡ true → ends_with_sent course sending entry ≡ true
+script_entry course sending entry before did knows are own at start has starts =
+    and_from (same_calls (calls_of entry) whole) (same_settings entry.settings (settings_before course.request ((sending.at + 1) - length entry.pieces))) ((same_calls_decide (calls_of entry) whole).1 (calls ∙ sym same))
+    ((settings_decide entry.settings (settings_before course.request ((sending.at + 1) - length entry.pieces))).1
+    ((settings_decide entry.settings start).0 starts
+    ∙ ((settings_decide start (settings_before course.request first)).0 (implied (list_any (owns course) (before ++ did ∷ [])) (same_settings start (settings_before course.request first)) owned has) ∙ ap (settings_before course.request) (sym begin))))
   where
     first : ℕ
     first = first_call (before ++ did ∷ []) 0
@@ -107,10 +115,11 @@ script_entry course sending entry before did knows are own at = (same_calls_deci
     whole : List Call
     whole = drop ((sending.at + 1) - length entry.pieces) (take (sending.at + 1) course.request.calls)
 
+    owned : list_any (owns course) (before ++ did ∷ []) ≡ true
+    owned = list_any-append (owns course) before (did ∷ []) ∙ or_right (list_any (owns course) before) (list_any (owns course) (did ∷ [])) (or_left (owns course did) false own)
+
     all : scripts_from course first (before ++ did ∷ []) ≡ true
-    all =
-        implied (list_any (owns course) (before ++ did ∷ [])) (scripts_from course first (before ++ did ∷ []))
-        (list_any-append (owns course) before (did ∷ []) ∙ or_right (list_any (owns course) before) (list_any (owns course) (did ∷ [])) (or_left (owns course did) false own)) knows
+    all = implied (list_any (owns course) (before ++ did ∷ [])) (scripts_from course first (before ++ did ∷ [])) owned knows
 
     calls : calls_of entry ≡ take (length (before ++ did ∷ [])) (drop first course.request.calls)
     calls = piece_calls course first (before ++ did ∷ []) entry.pieces all are
@@ -134,6 +143,21 @@ script_entry course sending entry before did knows are own at = (same_calls_deci
     same =
         ap (λ (n : ℕ). drop n (take (sending.at + 1) course.request.calls)) begin ∙ (ap (λ (n : ℕ). drop first (take n course.request.calls)) end ∙ drop-take first (length (before ++ did ∷ [])) course.request.calls)
 
+-- the settings at the start of the transaction of a number
+record StartAt (course : Course) (starts : List NamedValues) (number : ℕ) (dids : List ServedCall) : Type 0 where
+  start : NamedValues
+  is : slice_get starts number ≡ Some start
+  has : has_start course dids start ≡ true
+
+start_at : (course : Course) (over : List (List ServedCall)) (starts : List NamedValues) (number : ℕ) (dids : List ServedCall) → have_starts course over starts ≡ true → slice_get over number ≡ Some dids → StartAt course starts number dids
+start_at course [] starts number dids have at = absurd (let none : ⊥ = cc in none)
+start_at course (one ∷ over) [] number dids have at = absurd (let none : ⊥ = cc in none)
+start_at course (one ∷ over) (start ∷ starts) zero dids have at =
+    let same : one ≡ dids = cc in
+    record { start = start; is = refl; has = subst (λ (d : List ServedCall). has_start course d start ≡ true) same (and_parts (has_start course one start) (have_starts course over starts) have).0 }
+start_at course (one ∷ over) (start ∷ starts) (suc number) dids have at =
+    let so = start_at course over starts number dids (and_parts (has_start course one start) (have_starts course over starts) have).1 at in record { start = so.start; is = so.is; has = so.has }
+
 -- A SENDING ---------------------------------------------------------------------------------------
 
 -- it is the request's, on a connection that it held, and what became of it is known
@@ -142,13 +166,18 @@ is_its t course sending = same_owner sending.owner course.owner && (fated t.mach
 
 module _ (t : Traced) (whole : Invariant t) where
   -- an entry that is there is below the count of its session, and was run
+  abbrev is_run : Entry → Bool
+  is_run entry = is_ran t entry && is_started t entry
+
   abbrev is_there : Entry → Bool
-  is_there entry = nat_lt entry.ltxid.number (entries_of t.entries (session_of entry.ltxid)) && is_ran t entry
+  is_there entry = nat_lt entry.ltxid.number (entries_of t.entries (session_of entry.ltxid)) && is_run entry
 
   all_there : list_all is_there t.entries ≡ true
-  all_there = both_all (λ entry. nat_lt entry.ltxid.number (entries_of t.entries (session_of entry.ltxid))) (is_ran t) t.entries (all_below t.entries whole.orderly.number.entries) whole.ran
+  all_there =
+      both_all (λ entry. nat_lt entry.ltxid.number (entries_of t.entries (session_of entry.ltxid))) is_run t.entries (all_below t.entries whole.orderly.number.entries)
+      (both_all (is_ran t) (is_started t) t.entries whole.ran whole.started)
 
-  module _ (course : Course) (runs : list_all (test_at t (runs_script_calls course)) (held_in course.steps) ≡ true) (sending : Sending) (its : is_its t course sending ≡ true) (untaken : sending.taken ≡ None) where
+  module _ (course : Course) (runs : list_all (test_at t (runs_script_calls course)) (held_in course.steps) ≡ true) (starts : list_all (test_at t (starts_rightly course)) (held_in course.steps) ≡ true) (sending : Sending) (its : is_its t course sending ≡ true) (untaken : sending.taken ≡ None) where
     abbrev x : Ltxid
     x = sending.ltxid
 
@@ -171,20 +200,29 @@ module _ (t : Traced) (whole : Invariant t) where
     held = ap (λ (found : Option Ltxid). option_map_or (λ (y : Ltxid). y.number) found 0) waits.held
 
     -- its connection's transactions are the script's
-    known : runs_script_calls course at.link ≡ true
-    known =
-        let found = any_all (λ number. number == sending.connection) (test_at t (runs_script_calls course)) (held_in course.steps) two.1 runs in
+    on_link : (test : Link → Bool) → list_all (test_at t test) (held_in course.steps) ≡ true → test at.link ≡ true
+    on_link test all =
+        let found = any_all (λ number. number == sending.connection) (test_at t test) (held_in course.steps) two.1 all in
         let same : found.0 ≡ sending.connection = eq_from found.0 sending.connection found.1.0 in
-        sym (ap (λ (one : Option Link). option_map_or (runs_script_calls course) one false) (ap (link_at t.machine.links) same ∙ at.there)) ∙ found.1.1
+        sym (ap (λ (one : Option Link). option_map_or test one false) (ap (link_at t.machine.links) same ∙ at.there)) ∙ found.1.1
+
+    known : runs_script_calls course at.link ≡ true
+    known = on_link (runs_script_calls course) runs
+
+    started : starts_rightly course at.link ≡ true
+    started = on_link (starts_rightly course) starts
 
     owner : sending.owner ≡ course.owner
     owner = same_owner_is sending.owner course.owner parts.0
 
     entry_known : (entry : Entry) → is_there entry ≡ true → same_ltxid entry.ltxid x ≡ true → ends_with_sent course sending entry ≡ true
-    entry_known entry there same = script_entry course sending entry ran.before ran.did script pieces own index
+    entry_known entry there same = script_entry course sending entry ran.before ran.did script pieces own index start.start start.has settings
       where
-        its_parts : (nat_lt entry.ltxid.number (entries_of t.entries (session_of entry.ltxid)) ≡ true) × (is_ran t entry ≡ true)
-        its_parts = and_parts (nat_lt entry.ltxid.number (entries_of t.entries (session_of entry.ltxid))) (is_ran t entry) there
+        its_parts : (nat_lt entry.ltxid.number (entries_of t.entries (session_of entry.ltxid)) ≡ true) × (is_run entry ≡ true)
+        its_parts = and_parts (nat_lt entry.ltxid.number (entries_of t.entries (session_of entry.ltxid))) (is_run entry) there
+
+        its_runs : (is_ran t entry ≡ true) × (is_started t entry ≡ true)
+        its_runs = and_parts (is_ran t entry) (is_started t entry) its_parts.1
 
         equal : entry.ltxid ≡ x
         equal = (same_ltxid_decides entry.ltxid x).0 same
@@ -217,10 +255,24 @@ module _ (t : Traced) (whole : Invariant t) where
         over : slice_get (ran_by at.link).over entry.ltxid.number ≡ Some (ran.before ++ ran.did ∷ [])
         over = ap (slice_get (ran_by at.link).over) (ap (λ (y : Ltxid). y.number) equal ∙ sym held) ∙ ran.over
 
+        named_so : at.link.session ≡ Some (session_of entry.ltxid)
+        named_so = named ∙ ap (λ (y : Ltxid). Some (session_of y)) (sym equal)
+
+        -- the settings at the start of it
+        start : StartAt course (ran_by at.link).starts entry.ltxid.number (ran.before ++ ran.did ∷ [])
+        start =
+            start_at course (ran_by at.link).over (ran_by at.link).starts entry.ltxid.number (ran.before ++ ran.did ∷ [])
+            (and_parts (have_starts course (ran_by at.link).over (ran_by at.link).starts) (has_start course (ran_by at.link).pieces (ran_by at.link).at_start) started).0 over
+
+        settings : same_settings entry.settings start.start ≡ true
+        settings =
+            sym (ap (λ (found : Option NamedValues). option_map_or (same_settings entry.settings) found false) start.is)
+            ∙ link_started t whole.orderly.basic.apart entry sending.connection at.link at.there named_so its_runs.1
+
         pieces : are_pieces (ran.before ++ ran.did ∷ []) entry.pieces ≡ true
         pieces =
             sym (ap (λ (some : Option (List ServedCall)). option_map_or (λ dids. are_pieces dids entry.pieces) some false) over)
-            ∙ link_ran t whole.orderly.basic.apart entry sending.connection at.link at.there (named ∙ ap (λ (y : Ltxid). Some (session_of y)) (sym equal)) its_parts.1
+            ∙ link_ran t whole.orderly.basic.apart entry sending.connection at.link at.there named_so its_runs.0
 
         script : has_script_calls course (ran.before ++ ran.did ∷ []) ≡ true
         script =
@@ -246,24 +298,24 @@ module _ (t : Traced) (whole : Invariant t) where
             eq_from ran.did.sent.call waits.frame.call (and_parts (ran.did.sent.call == waits.frame.call) (same_up ran.did.sent.frame waits.frame.frame) same_parts.1).0
             ∙ eq_from waits.frame.call sending.at (and_parts (owned_by sending.owner waits.frame) (waits.frame.call == sending.at) frame).1
 
-  sending_known : (course : Course) → list_all (test_at t (runs_script_calls course)) (held_in course.steps) ≡ true → (sending : Sending) → is_its t course sending ≡ true → is_open_stored t course sending ≡ true
-  sending_known course runs sending its = by sending.taken refl
+  sending_known : (course : Course) → list_all (test_at t (runs_script_calls course)) (held_in course.steps) ≡ true → list_all (test_at t (starts_rightly course)) (held_in course.steps) ≡ true → (sending : Sending) → is_its t course sending ≡ true → is_open_stored t course sending ≡ true
+  sending_known course runs starts sending its = by sending.taken refl
     where
       entry_so : sending.taken ≡ None → (entry : Entry) → is_there entry ≡ true → (not (same_ltxid entry.ltxid sending.ltxid) || ends_with_sent course sending entry) ≡ true
       entry_so none entry there = of (same_ltxid entry.ltxid sending.ltxid) refl
         where
           of : (test : Bool) → same_ltxid entry.ltxid sending.ltxid ≡ test → (not test || ends_with_sent course sending entry) ≡ true
           of false is = refl
-          of true is = entry_known course runs sending its none entry there is
+          of true is = entry_known course runs starts sending its none entry there is
 
       by : (taken : Option (List Answer)) → sending.taken ≡ taken → (is_some taken || list_all (λ entry. not (same_ltxid entry.ltxid sending.ltxid) || ends_with_sent course sending entry) t.entries) ≡ true
       by (Some answers) is = refl
       by None is = weaker_all is_there (λ entry. not (same_ltxid entry.ltxid sending.ltxid) || ends_with_sent course sending entry) t.entries (entry_so is) all_there
 
-  course_known : (course : Course) → (list_all (test_at t (runs_script_calls course)) (held_in course.steps) && (list_all (fated t.machine.links) (commit_sendings course) && are_placed course)) ≡ true
+  course_known : (course : Course) → list_all (test_at t (starts_rightly course)) (held_in course.steps) ≡ true → (list_all (test_at t (runs_script_calls course)) (held_in course.steps) && (list_all (fated t.machine.links) (commit_sendings course) && are_placed course)) ≡ true
       → list_all (is_open_stored t course) (commit_sendings course) ≡ true
-  course_known course so =
-      weaker_all (is_its t course) (is_open_stored t course) (commit_sendings course) (sending_known course one.0)
+  course_known course starts so =
+      weaker_all (is_its t course) (is_open_stored t course) (commit_sendings course) (sending_known course one.0 starts)
       (both_all (λ s. same_owner s.owner course.owner) (λ s. fated t.machine.links s && list_any (λ number. number == s.connection) (held_in course.steps)) (commit_sendings course)
       (filter_all (λ s. same_owner s.owner course.owner) commits (sendings_of course) (scan_owned course.owner (scan_by course.owner []) course.steps refl refl))
       (both_all (fated t.machine.links) (λ s. list_any (λ number. number == s.connection) (held_in course.steps)) (commit_sendings course) two.0
@@ -282,7 +334,11 @@ module _ (t : Traced) (whole : Invariant t) where
 
 pub open_known : (t : Traced) → Invariant t → open_entries_known t ≡ true
 open_known t whole =
-    weaker_all (λ course. list_all (test_at t (runs_script_calls course)) (held_in course.steps) && (list_all (fated t.machine.links) (commit_sendings course) && are_placed course)) (λ course. list_all (is_open_stored t course) (commit_sendings course)) (courses_of t)
-    (course_known t whole)
+    weaker_all (λ course. list_all (test_at t (starts_rightly course)) (held_in course.steps) && so course) (λ course. list_all (is_open_stored t course) (commit_sendings course)) (courses_of t)
+    (λ course both. let parts = and_parts (list_all (test_at t (starts_rightly course)) (held_in course.steps)) (so course) both in course_known t whole course parts.0 parts.1)
+    (both_all (λ course. list_all (test_at t (starts_rightly course)) (held_in course.steps)) so (courses_of t) (starts_known t whole.orderly whole.shown.rows whole.settings whole.followed)
     (both_all (λ course. list_all (test_at t (runs_script_calls course)) (held_in course.steps)) (λ course. list_all (fated t.machine.links) (commit_sendings course) && are_placed course) (courses_of t) (scripts_ran t whole)
-    (both_all (λ course. list_all (fated t.machine.links) (commit_sendings course)) are_placed (courses_of t) (each_flat (fated t.machine.links) commit_sendings (courses_of t) whole.once.fates) whole.once.placed))
+    (both_all (λ course. list_all (fated t.machine.links) (commit_sendings course)) are_placed (courses_of t) (each_flat (fated t.machine.links) commit_sendings (courses_of t) whole.once.fates) whole.once.placed)))
+  where
+    so : Course → Bool
+    so course = list_all (test_at t (runs_script_calls course)) (held_in course.steps) && (list_all (fated t.machine.links) (commit_sendings course) && are_placed course)

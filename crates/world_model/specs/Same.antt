@@ -236,9 +236,11 @@ run_script_calls t = list_all (λ course. list_all (test_at t (runs_script_calls
 abbrev pub calls_of : Entry → List Call
 calls_of entry = map (λ piece. piece.call) entry.pieces
 
--- the entry has the calls of the script that end with the one that was sent
+-- The entry has the calls of the script that end with the one that was sent, and the request's settings, changed by each `set` before the first of them.
 abbrev pub ends_with_sent : Course → Sending → Entry → Bool
-ends_with_sent course sending entry = same_calls (calls_of entry) (drop ((sending.at + 1) - length entry.pieces) (take (sending.at + 1) course.request.calls))
+ends_with_sent course sending entry =
+    same_calls (calls_of entry) (drop ((sending.at + 1) - length entry.pieces) (take (sending.at + 1) course.request.calls))
+    && same_settings entry.settings (with_sets course.request.settings (take ((sending.at + 1) - length entry.pieces) course.request.calls))
 
 -- so has each that has the identifier of a sending to which no reply was taken
 abbrev pub is_open_stored : Traced → Course → Sending → Bool

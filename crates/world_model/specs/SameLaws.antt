@@ -48,7 +48,8 @@ RunsStarted =
 abbrev pub FollowsInvariant : (Traced → Bool) → Type 0
 FollowsInvariant test = (t : Traced) → Invariant t → IsTrue (test t)
 
--- Wherever a run has come to, a sending that was answered Committed has an entry with the calls of its script that end with the one that was sent.
+-- Wherever a run has come to, a sending that was answered Committed has an entry with the calls of its script that end with the one that was sent, and
+-- the settings before the first of them.
 abbrev pub RunsStoreScripts : Type 0
 RunsStoreScripts =
     (document : Document) (events : List Event) (notes : List Note) (items : List Served) (seen : Seen) (t : Traced)
@@ -60,7 +61,8 @@ WholeRunsStoreScripts =
     (document : Document) (notes : List Note) (items : List Served) (seen : Seen) (t : Traced)
     → IsTrue (all_requests_right document) → IsRun document notes items seen t → IsTrue (committed_entries_known t)
 
--- Wherever a run has come to, each entry of a sending that is open or was answered Committed has the calls of the script that end with the one that was sent.
+-- Wherever a run has come to, each entry of a sending that is open or was answered Committed has the calls of the script that end with the one that was sent, and
+-- the settings before the first of them.
 abbrev pub RunsFollowScripts : Type 0
 RunsFollowScripts =
     (document : Document) (events : List Event) (notes : List Note) (items : List Served) (seen : Seen) (t : Traced)

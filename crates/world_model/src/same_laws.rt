@@ -75,13 +75,14 @@ pub fn transactions_start_rightly()
 {}
 
 /// In each such state: an entry under the identifier of a sending with a commit to which no reply was taken has the calls of the request's
-/// script that end with the one that was sent.
+/// script that end with the one that was sent, and the request's settings, changed in order by each `set` before the first of them.
 pub fn open_sendings_store_scripts()
     ensures { FollowsInvariant open_entries_known }
 {}
 
 /// Wherever a run of a document whose requests are right has come to, a sending with a commit that was answered Committed has an entry with
-/// the calls of its request's script that end with the one that was sent; and so it has at the end of the run.
+/// the calls of its request's script that end with the one that was sent, and the settings before the first of them; and so it has at the end
+/// of the run.
 pub fn committed_sendings_store_scripts()
     ensures reached { RunsStoreScripts }
     ensures run { WholeRunsStoreScripts }
@@ -90,7 +91,8 @@ pub fn committed_sendings_store_scripts()
 }
 
 /// Wherever such a run has come to, and at its end: each entry under the identifier of a sending with a commit that was answered Committed,
-/// or to which no reply was taken, has the calls of its request's script that end with the one that was sent.
+/// or to which no reply was taken, has the calls of its request's script that end with the one that was sent, and the request's settings,
+/// changed in order by each `set` before the first of them.
 pub fn entries_follow_scripts()
     ensures reached { RunsFollowScripts }
     ensures run { WholeRunsFollowScripts }
