@@ -9,12 +9,12 @@ use Rattle.svc_values.specs.declared.frame.Up.TheVariants as up
 use Rattle.svc_values.specs.SettingsList.{NamedValues, same_settings}
 use Rattle.outage_schedule.specs.declared.document.Request.{Request}
 use Rattle.world_model.specs.Basic.{lives_rightly, none_behind}
-use Rattle.world_model.specs.Begins.{are_followed, begin_in, begins_followed, carries_on, carries_settings, carry_settings, followed_at_once, follows_begin, is_begin_frame, settings_before, starts_rightly, transactions_start}
+use Rattle.world_model.specs.Begins.{are_followed, begin_in, begins_followed, carries_on, carries_settings, carry_settings, followed_at_once, follows_begin, is_begin_frame, next_on, session_stands, sessions_stand, settings_before, starts_rightly, transactions_start}
 use Rattle.world_model.specs.Frames.{Owner, Sent}
 use Rattle.world_model.specs.Invariant.{Orderly}
 use Rattle.world_model.specs.Links.{Link, link_at}
 use Rattle.world_model.specs.Parts.{implies}
-use Rattle.world_model.specs.Same.{test_at}
+use Rattle.world_model.specs.Same.{ran_by, test_at}
 use Rattle.world_model.specs.Sames.{is_front, is_of, owned_by, same_owners, same_sent, same_up}
 use Rattle.world_model.specs.Shown.{calls_on, first_of, first_unmarked, has_unmarked, in_row, in_rows, is_call, is_current, is_row, is_scripts as is_script_frame, marked_from, rows_on, unmarked_first}
 use Rattle.world_model.specs.Traced.{Traced, Course, courses_of}
@@ -31,7 +31,7 @@ use Rattle.world_model.proofs.LostKept.{both_all}
 use Rattle.world_model.proofs.RanCalls.{call_alike, call_same, follows, follows_alike, front_right, front_row, is_mine}
 use Rattle.world_model.proofs.RanLists.{none_ran}
 use Rattle.world_model.proofs.RanSettings.{settings_decide}
-use Rattle.world_model.proofs.RanStarts.{all_known, follows_so}
+use Rattle.world_model.proofs.RanStarts.{IsKnown, all_known, follows_so}
 
 -- FRAMES THAT ARE THE SAME ------------------------------------------------------------------------
 
@@ -104,11 +104,11 @@ module _ (course : Course) where
   -- A CONNECTION ----------------------------------------------------------------------------------
 
   link_starts : (current : Bool) (link : Link) → is_sent_front link ≡ true → is_right (stage_of link) ≡ true → handled_from 0 link.served ≡ true → none_behind link.served ≡ true → is_row course current (calls_on course link) ≡ true
-      → carries_on course link ≡ true → begins_followed link ≡ true → starts_rightly course link ≡ true
+      → carries_on course link ≡ true → begins_followed link ≡ true → IsKnown course (ran_by link) (next_on course link)
   link_starts current link sent right handled lone row carry follow =
-      all_known course link.served New start none_ran 0 None handled lone (front_right New served link.sent front right) (front_row course start served link.sent front parts.0)
+      all_known course link.served New start none_ran None 0 None handled lone (front_right New served link.sent front right) (front_row course start served link.sent front parts.0)
       (front_all (follows course) (follows_alike course) served link.sent front (unfiltered (λ (s : Sent). is_script_frame course s s.frame) (is_mine course) link.sent (and_parts (list_all (λ (s : Sent). is_script_frame course s s.frame) (calls_on course link)) _ parts.1).0))
-      (front_all (carries course) carries_alike served link.sent front carry) (front_follows None None served link.sent Neither front follow) refl refl
+      (front_all (carries course) carries_alike served link.sent front carry) (front_follows None None served link.sent Neither front follow) (record { pieces = refl; next_is = refl }) refl
     where
       start : ℕ
       start = option_map_or (λ s. s.call) (first_of (calls_on course link)) 0
@@ -129,22 +129,31 @@ module _ (course : Course) where
 
 -- A RUN -------------------------------------------------------------------------------------------
 
+-- a test of each connection that a request held, which holds of what is known
+module _ (t : Traced) (inv : Orderly t) (rows : in_rows t ≡ true) (carry : carry_settings t ≡ true) (follow : are_followed t ≡ true) (test : Course → Link → Bool)
+    (from : (course : Course) (link : Link) → IsKnown course (ran_by link) (next_on course link) → test course link ≡ true) where
+  of_course : (course : Course) → rows_on t course ≡ true → list_all (carries_on course) t.machine.links ≡ true → list_all (test_at t (test course)) (held_in course.steps) ≡ true
+  of_course course on carry_all =
+      weaker_all (λ number. option_map_or (λ link. is_row course (is_current course number) (calls_on course link)) (link_at t.machine.links number) false) (test_at t (test course)) (held_in course.steps)
+      (λ number is. at number (link_at t.machine.links number) refl is) on
+    where
+      at : (number : ℕ) (found : Option Link) → link_at t.machine.links number ≡ found → option_map_or (λ link. is_row course (is_current course number) (calls_on course link)) found false ≡ true → option_map_or (test course) found false ≡ true
+      at number None there is = absurd (let none : ⊥ = cc in none)
+      at number (Some link) there is =
+          from course link
+          (link_starts course (is_current course number) link (at_link is_sent_front t.machine.links number link inv.wire.sent there) (at_link (λ l. is_right (stage_of l)) t.machine.links number link inv.wire.grammar there)
+          (at_link (λ l. handled_from 0 l.served) t.machine.links number link inv.wire.handled there)
+          (and_parts (none_behind link.served) _ (at_link lives_rightly t.machine.links number link inv.basic.life there)).0 is
+          (at_link (carries_on course) t.machine.links number link carry_all there) (at_link begins_followed t.machine.links number link follow there))
+
+  on_held : list_all (λ course. list_all (test_at t (test course)) (held_in course.steps)) (courses_of t) ≡ true
+  on_held =
+      weaker_all (λ course. rows_on t course && list_all (carries_on course) t.machine.links) (λ course. list_all (test_at t (test course)) (held_in course.steps)) (courses_of t)
+      (λ course both. let parts = and_parts (rows_on t course) (list_all (carries_on course) t.machine.links) both in of_course course parts.0 parts.1)
+      (both_all (rows_on t) (λ course. list_all (carries_on course) t.machine.links) (courses_of t) rows carry)
+
 pub starts_known : (t : Traced) → Orderly t → in_rows t ≡ true → carry_settings t ≡ true → are_followed t ≡ true → transactions_start t ≡ true
-starts_known t inv rows carry follow =
-    weaker_all (λ course. rows_on t course && list_all (carries_on course) t.machine.links) (λ course. list_all (test_at t (starts_rightly course)) (held_in course.steps)) (courses_of t)
-    (λ course both. let parts = and_parts (rows_on t course) (list_all (carries_on course) t.machine.links) both in of_course course parts.0 parts.1)
-    (both_all (rows_on t) (λ course. list_all (carries_on course) t.machine.links) (courses_of t) rows carry)
-  where
-    of_course : (course : Course) → rows_on t course ≡ true → list_all (carries_on course) t.machine.links ≡ true → list_all (test_at t (starts_rightly course)) (held_in course.steps) ≡ true
-    of_course course on carry =
-        weaker_all (λ number. option_map_or (λ link. is_row course (is_current course number) (calls_on course link)) (link_at t.machine.links number) false) (test_at t (starts_rightly course)) (held_in course.steps)
-        (λ number is. at number (link_at t.machine.links number) refl is) on
-      where
-        at : (number : ℕ) (found : Option Link) → link_at t.machine.links number ≡ found → option_map_or (λ link. is_row course (is_current course number) (calls_on course link)) found false ≡ true
-            → option_map_or (starts_rightly course) found false ≡ true
-        at number None there is = absurd (let none : ⊥ = cc in none)
-        at number (Some link) there is =
-            link_starts course (is_current course number) link (at_link is_sent_front t.machine.links number link inv.wire.sent there) (at_link (λ l. is_right (stage_of l)) t.machine.links number link inv.wire.grammar there)
-            (at_link (λ l. handled_from 0 l.served) t.machine.links number link inv.wire.handled there)
-            (and_parts (none_behind link.served) _ (at_link lives_rightly t.machine.links number link inv.basic.life there)).0 is
-            (at_link (carries_on course) t.machine.links number link carry there) (at_link begins_followed t.machine.links number link follow there)
+starts_known t inv rows carry follow = on_held t inv rows carry follow starts_rightly (λ course link is. is.known)
+
+pub sessions_known : (t : Traced) → Orderly t → in_rows t ≡ true → carry_settings t ≡ true → are_followed t ≡ true → sessions_stand t ≡ true
+sessions_known t inv rows carry follow = on_held t inv rows carry follow session_stands (λ course link is. is.stands)

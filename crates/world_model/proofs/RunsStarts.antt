@@ -1,12 +1,15 @@
--- In a state that is as the invariant says, Begins carry the settings of their requests, and so transactions start with them.
+-- In a state that is as the invariant says, Begins carry the settings of their requests, and so sessions have them, and transactions start with them.
 use Rattle.std.proofs.Common.{◌≡◌, true}
-use Rattle.world_model.specs.Begins.{carry_settings, transactions_start}
+use Rattle.world_model.specs.Begins.{carry_settings, sessions_stand, transactions_start}
 use Rattle.world_model.specs.Invariant.{Invariant}
 use Rattle.world_model.specs.Traced.{Traced}
-use Rattle.world_model.proofs.LinkStarts.{starts_known}
+use Rattle.world_model.proofs.LinkStarts.{sessions_known, starts_known}
 
 pub settings_carried : (t : Traced) → Invariant t → carry_settings t ≡ true
 settings_carried t whole = whole.settings
 
 pub transactions_started : (t : Traced) → Invariant t → transactions_start t ≡ true
 transactions_started t whole = starts_known t whole.orderly whole.shown.rows whole.settings whole.followed
+
+pub sessions_set : (t : Traced) → Invariant t → sessions_stand t ≡ true
+sessions_set t whole = sessions_known t whole.orderly whole.shown.rows whole.settings whole.followed

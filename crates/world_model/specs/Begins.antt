@@ -1,15 +1,17 @@
 -- InvBegins: with what settings a request begins on each connection, and its transactions.
-use Rattle.std.specs.Prelude.{ℕ, ◌==◌, ◌&&◌, Bool, true, false, if◌then◌else◌, List, [], ◌∷◌, take, Option, Some, None, is_none}
+use Rattle.std.specs.Prelude.{ℕ, ◌+◌, ◌==◌, ◌&&◌, Bool, true, false, if◌then◌else◌, List, [], ◌∷◌, fold, take, Option, Some, None, is_none}
 use Rattle.std.specs.List.{list_all, list_any}
 use Rattle.std.specs.Option.{option_map_or}
 use Rattle.svc_values.specs.declared.frame.Up.{Up}
 use Rattle.svc_values.specs.declared.frame.Up.TheVariants as up
 use Rattle.svc_values.specs.SettingsList.{NamedValues, same_settings, with_sets}
 use Rattle.outage_schedule.specs.declared.document.Request.{Request}
+use Rattle.outage_schedule.specs.declared.item.Item.{Item}
+use Rattle.outage_schedule.specs.declared.item.Item.TheVariants as item
 use Rattle.world_model.specs.Frames.{Sent}
 use Rattle.world_model.specs.Links.{Link}
 use Rattle.world_model.specs.Parts.{implies}
-use Rattle.world_model.specs.Same.{ServedCall, first_call, ran_by, test_at}
+use Rattle.world_model.specs.Same.{ServedCall, Ran, first_call, ran_by, test_at}
 use Rattle.world_model.specs.Sames.{owned_by, same_owners}
 use Rattle.world_model.specs.Shown.{is_call}
 use Rattle.world_model.specs.Traced.{Traced, Course, courses_of}
@@ -70,3 +72,26 @@ starts_rightly course link = have_starts course (ran_by link).over (ran_by link)
 -- each transaction on a connection that the request held: those that are over, and the open one
 abbrev pub transactions_start : Traced → Bool
 transactions_start t = list_all (λ course. list_all (test_at t (starts_rightly course)) (held_in course.steps)) (courses_of t)
+
+-- SESSIONS ----------------------------------------------------------------------------------------
+
+-- the call of the request that its session serves next, from the request's Begin to its End
+abbrev pub next_behind : Course → Option ℕ → Sent → Item → Option ℕ
+next_behind course next sent (item.Begin settings) = if owned_by course.owner sent then Some sent.call else None
+next_behind course next sent item.End = None
+next_behind course next sent (item.Call marked call answers draws) = if owned_by course.owner sent then Some (sent.call + 1) else next
+next_behind course next sent _ = next
+
+abbrev pub next_on : Course → Link → Option ℕ
+next_on course link = fold (λ next one. next_behind course next one.sent one.served.item) None link.served
+
+-- it has the settings before that call, and its open transaction started with those before its first call, or before that one
+abbrev pub stands_before : Course → Ran → ℕ → Bool
+stands_before course ran next = same_settings ran.settings (settings_before course.request next) && same_settings ran.at_start (settings_before course.request (first_call ran.pieces next))
+
+abbrev pub session_stands : Course → Link → Bool
+session_stands course link = option_map_or (stands_before course (ran_by link)) (next_on course link) true
+
+-- each session that serves the request, on a connection that it held
+abbrev pub sessions_stand : Traced → Bool
+sessions_stand t = list_all (λ course. list_all (test_at t (session_stands course)) (held_in course.steps)) (courses_of t)

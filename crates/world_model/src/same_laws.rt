@@ -5,7 +5,7 @@ ghost use Rattle.world_model.specs.CallEndings.{end_fittingly};
 //! How the frames that connections served, and the entries of their sessions, are those of the service, their calls those of scripts, and their
 //! settings those of requests.
 //! Each law is the clause of a function with nothing to run.
-ghost use Rattle.world_model.specs.Begins.{carry_settings, transactions_start};
+ghost use Rattle.world_model.specs.Begins.{carry_settings, sessions_stand, transactions_start};
 ghost use Rattle.world_model.specs.Same.{open_entries_known, run_script_calls};
 ghost use Rattle.world_model.specs.SameLaws.{FollowsInvariant, HoldsAtEnds, HoldsInRuns, RunsFollowScripts, RunsRan, RunsServe, RunsStoreScripts, WholeRunsFollowScripts, WholeRunsStoreScripts, RunsStarted};
 ghost use Rattle.world_model.specs.Showing.{show_replies};
@@ -72,6 +72,13 @@ pub fn begins_carry_settings()
 /// settings of the request, changed in order by each `set` before its first call.
 pub fn transactions_start_rightly()
     ensures { FollowsInvariant transactions_start }
+{}
+
+/// In each such state: from the Begin of a request to its End, the session of a connection that the request held has the settings of the
+/// request, changed in order by each `set` before the call that it serves next; and its open transaction started with those before the first
+/// call of this, or before that one where it has none.
+pub fn sessions_have_settings()
+    ensures { FollowsInvariant sessions_stand }
 {}
 
 /// In each such state: an entry under the identifier of a sending with a commit to which no reply was taken has the calls of the request's
