@@ -26,7 +26,7 @@ use Rattle.world_model.proofs.AskedNear.{front_all, owners_are}
 use Rattle.world_model.proofs.AskedSendings.{unfiltered}
 use Rattle.world_model.proofs.FrontLists.{front_begun}
 use Rattle.world_model.proofs.Fronts.{same_frames}
-use Rattle.world_model.proofs.KeptBegins.{carries}
+use Rattle.world_model.proofs.KeptSettings.{carries}
 use Rattle.world_model.proofs.LostKept.{both_all}
 use Rattle.world_model.proofs.RanCalls.{call_alike, call_same, follows, follows_alike, front_right, front_row, is_mine}
 use Rattle.world_model.proofs.RanLists.{none_ran}

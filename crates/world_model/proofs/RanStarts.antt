@@ -32,7 +32,7 @@ use Rattle.world_model.specs.Traced.{Course}
 use Rattle.world_model.specs.Wire.{Stage, New, Greeted, Told, Repeated, Begun, Rested, Shut, Wrong, counted_with, handled_from, is_handled, next_stage, stage_if, is_alter, is_right}
 use Rattle.world_model.proofs.AskedNear.{owners_are}
 use Rattle.world_model.proofs.Fronts.{moved}
-use Rattle.world_model.proofs.KeptBegins.{carries}
+use Rattle.world_model.proofs.KeptSettings.{carries}
 use Rattle.world_model.proofs.RanCalls.{follows, is_mine, was_right}
 use Rattle.world_model.proofs.RanScripts.{Deal, Greets, Asks, Begins, Ends, Calls, Stops, IsLast, handled_deal, first_more, if_same, if_same_plain, lone_later, none_later, owns, plain_left}
 use Rattle.world_model.proofs.RanSettings.{IsBeside, set_beside, set_settings, settings_decide}

@@ -23,7 +23,6 @@ use Rattle.world_model.proofs.KeptCopies.{copies_law}
 use Rattle.world_model.proofs.KeptAnswers.{answers_law}
 use Rattle.world_model.proofs.KeptApart.{apart_law}
 use Rattle.world_model.proofs.KeptAsks.{asks_law}
-use Rattle.world_model.proofs.KeptBegins.{settings_law}
 use Rattle.world_model.proofs.KeptCompleted.{completed_law}
 use Rattle.world_model.proofs.KeptEnded.{ended_law}
 use Rattle.world_model.proofs.KeptEvents.{events_law}
@@ -43,6 +42,7 @@ use Rattle.world_model.proofs.KeptPending.{pending_law}
 use Rattle.world_model.proofs.KeptPlaced.{placed_law}
 use Rattle.world_model.proofs.KeptRows.{rows_law}
 use Rattle.world_model.proofs.KeptSent.{sent_law}
+use Rattle.world_model.proofs.KeptSettings.{settings_law}
 use Rattle.world_model.proofs.KeptSettled.{settled_law}
 use Rattle.world_model.proofs.KeptShown.{from_law}
 use Rattle.world_model.proofs.KeptShownStored.{shown_stored_law}
