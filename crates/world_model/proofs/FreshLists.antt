@@ -28,9 +28,7 @@ use Rattle.world_model.proofs.DrawnOnce.{times, times_both, all_new}
 use Rattle.world_model.proofs.FrameDraws.{kept_with, anew, is_kept_first, are_drawn}
 use Rattle.world_model.proofs.FreshStored.{total, drawn as stored_drawn}
 use Rattle.world_model.proofs.LinkNumbers.{Was, Ordinary, Halted, was_so}
-use Rattle.world_model.proofs.RanSessions.{is_its}
 use Rattle.world_model.proofs.RanLists.{is_its}
-use Rattle.world_model.proofs.StoredDraws.{all_new}
 use Rattle.world_model.proofs.Tests.{same_session_is}
 use Rattle.world_model.specs.StoredOnce.{given_to, StoredCall, stored_call}
 

@@ -33,7 +33,6 @@ use Rattle.world_model.proofs.RanWalks.{IsSameWalk, Stores, Takes, Keeps, Calls,
 use Rattle.world_model.proofs.RanSettings.{IsBeside, set_beside, set_settings}
 use Rattle.world_model.proofs.Recalling.{get_further, get_last}
 use Rattle.world_model.proofs.RanLists.{IsMore, has_ran, is_its, last_ran, more_ran, number_other, number_own, other_ran}
-use Rattle.world_model.proofs.StoredDraws.{committed_ends}
 use Rattle.world_model.proofs.Tests.{session_self, same_session_is}
 
 -- TRANSACTIONS OF SESSIONS ------------------------------------------------------------------------

@@ -12,7 +12,7 @@ use Rattle.world_model.specs.Finishing.{Place}
 use Rattle.world_model.specs.Reached.{Reached, Begins, GoesOn, IsFinishing, Scheduled, Finishes}
 use Rattle.world_model.specs.Traced.{Traced}
 
-reached_start : (document : Document) (events : List Event) (notes : List Note) (items : List Served) (seen : Seen) (t : Traced) → Reached document events notes items seen t → seen.start ≡ service_base document
+pub reached_start : (document : Document) (events : List Event) (notes : List Note) (items : List Served) (seen : Seen) (t : Traced) → Reached document events notes items seen t → seen.start ≡ service_base document
 reached_start document _ _ _ _ _ (Begins seen start history horizon coupled) = start
 reached_start document _ _ _ _ _ (GoesOn events notes items more before after old new event note reached one forgets) = one.start ∙ reached_start document events notes items before old reached
 

@@ -20,10 +20,9 @@ use Rattle.server_model.specs.Walk.{Transaction, Walk, transaction_in, deed_of, 
 use Rattle.world_model.specs.SessionHistory.{served_in}
 use Rattle.world_model.proofs.DrawnOnce.{times, times_both}
 use Rattle.world_model.proofs.RanHistory.{asked_same, both_hold, none_left}
-use Rattle.world_model.proofs.RanSessions.{is_its, moved_others, transaction_own}
+use Rattle.world_model.proofs.RanSessions.{moved_others, transaction_own}
 use Rattle.world_model.proofs.RanWalks.{IsSameWalk, Stores, Takes, Keeps, Calls, IsStored, IsNothing, Moved, enters, thing_moved, committed_ends}
 use Rattle.world_model.proofs.RanLists.{is_its}
-use Rattle.world_model.proofs.StoredDraws.{committed_ends}
 use Rattle.world_model.proofs.Tests.{session_self}
 
 module _ (session : SessionId) where

@@ -30,6 +30,7 @@ pub mod Parts
 pub mod Reached
 pub mod RunLaws
 pub mod Ready
+pub mod Redrawn
 pub mod Same
 pub mod SameLaws
 pub mod Sames

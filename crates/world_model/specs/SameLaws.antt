@@ -1,11 +1,14 @@
 -- What a run's connections served is what the service's history has of their sessions, and what they ran is what the entries have.
-use Rattle.std.specs.Prelude.{◌≡◌, ℕ, Bool, IsTrue, List, Some}
+use Rattle.std.specs.Prelude.{◌≡◌, ℕ, ◌+◌, Bool, IsTrue, List, take, drop, Some}
 use Rattle.svc_values.specs.declared.entry.SessionId.{SessionId}
+use Rattle.svc_values.specs.SettingsList.{with_sets}
 use Rattle.outage_schedule.specs.declared.document.Document.{Document}
+use Rattle.outage_schedule.specs.declared.document.Request.{Request}
 use Rattle.outage_schedule.specs.declared.event.Event.{Event}
 use Rattle.outage_schedule.specs.declared.item.Served.{Served}
 use Rattle.outage_schedule.specs.declared.note.Note.{Note}
 use Rattle.server_model.specs.Seen.{Seen}
+use Rattle.world_model.specs.Begins.{settings_before}
 use Rattle.world_model.specs.Invariant.{Invariant}
 use Rattle.world_model.specs.Links.{Link, link_at}
 use Rattle.world_model.specs.Reached.{IsRun, Reached}
@@ -43,6 +46,10 @@ abbrev pub RunsStarted : Type 0
 RunsStarted =
     (document : Document) (events : List Event) (notes : List Note) (items : List Served) (seen : Seen) (t : Traced)
     → IsTrue (all_requests_right document) → Reached document events notes items seen t → IsTrue (entries_started t)
+
+-- The settings before a transaction, changed by each `set` of so many calls from there on, are those behind these calls.
+abbrev pub SettingsGoOn : Type 0
+SettingsGoOn = (request : Request) (first more : ℕ) → with_sets (settings_before request first) (take more (drop first request.calls)) ≡ settings_before request (first + more)
 
 -- a test of each state that is as the invariant says
 abbrev pub FollowsInvariant : (Traced → Bool) → Type 0

@@ -1,13 +1,11 @@
-//! How the frames that connections served, and the entries of their sessions, are those of the service, and their calls those of scripts;
-//! how the answers to calls end, and that replies were shown. Each law is the clause of a function with nothing to run.
-ghost use Rattle.world_model.specs.CallEndings.{end_fittingly};
-
 //! How the frames that connections served, and the entries of their sessions, are those of the service, their calls those of scripts, and their
-//! settings those of requests.
-//! Each law is the clause of a function with nothing to run.
+//! settings those of requests; how the answers to calls end, that replies were shown, and what repeated calls draw. Each law is the clause
+//! of a function with nothing to run.
 ghost use Rattle.world_model.specs.Begins.{carry_settings, sessions_stand, transactions_start};
+ghost use Rattle.world_model.specs.CallEndings.{end_fittingly};
+ghost use Rattle.world_model.specs.Redrawn.{RepeatsRedraw, WholeRepeatsRedraw};
 ghost use Rattle.world_model.specs.Same.{open_entries_known, run_script_calls};
-ghost use Rattle.world_model.specs.SameLaws.{FollowsInvariant, HoldsAtEnds, HoldsInRuns, RunsFollowScripts, RunsRan, RunsServe, RunsStoreScripts, WholeRunsFollowScripts, WholeRunsStoreScripts, RunsStarted};
+ghost use Rattle.world_model.specs.SameLaws.{FollowsInvariant, HoldsAtEnds, HoldsInRuns, RunsFollowScripts, RunsRan, RunsServe, RunsStoreScripts, WholeRunsFollowScripts, WholeRunsStoreScripts, RunsStarted, SettingsGoOn};
 ghost use Rattle.world_model.specs.Showing.{show_replies};
 
 /// Wherever a run of a document whose requests are right has come to, what the service's history has of a connection's session is
@@ -22,6 +20,15 @@ pub fn runs_serve()
 /// the connection ran; of a call that was stopped the call alone is known.
 pub fn runs_ran()
     ensures { RunsRan }
+{
+    runs_serve();
+    crate::laws::runs_are_orderly();
+    server_model::laws::runs_legal();
+}
+
+/// Such an entry has the settings of the session at the start of this transaction.
+pub fn runs_started()
+    ensures { RunsStarted }
 {
     runs_serve();
     crate::laws::runs_are_orderly();
@@ -45,15 +52,6 @@ pub fn replies_are_shown()
     ensures run { HoldsAtEnds show_replies }
 {
     crate::kept_laws::runs_keep_invariant();
-}
-
-/// Such an entry has the settings of the session at the start of this transaction.
-pub fn runs_started()
-    ensures { RunsStarted }
-{
-    runs_serve();
-    crate::laws::runs_are_orderly();
-    server_model::laws::runs_legal();
 }
 
 /// In each state that is as the invariant says: a transaction that was run on a connection that a request held, and that has a call of this
@@ -81,6 +79,12 @@ pub fn sessions_have_settings()
     ensures { FollowsInvariant sessions_stand }
 {}
 
+/// So they go on from one transaction of a request to the next: the settings before a call, changed by each `set` of so many calls from there on,
+/// are the settings behind these.
+pub fn settings_go_on()
+    ensures { SettingsGoOn }
+{}
+
 /// In each such state: an entry under the identifier of a sending with a commit to which no reply was taken has the calls of the request's
 /// script that end with the one that was sent, and the request's settings, changed in order by each `set` before the first of them.
 pub fn open_sendings_store_scripts()
@@ -106,4 +110,15 @@ pub fn entries_follow_scripts()
 {
     crate::kept_laws::runs_keep_invariant();
     committed_sendings_store_scripts();
+}
+
+/// Wherever such a run has come to, and at its end: on each connection that a request held, a call with the mark that was answered as its
+/// first time was shown drew the granted values that were shown, in order, unless it was refused for want of a setting.
+pub fn repeated_calls_redraw()
+    ensures reached { RepeatsRedraw }
+    ensures run { WholeRepeatsRedraw }
+{
+    crate::kept_laws::runs_keep_invariant();
+    runs_serve();
+    server_model::laws::runs_legal();
 }
