@@ -1,6 +1,7 @@
 pub mod Acting
 pub mod Basic
 pub mod Begins
+pub mod BegunWith
 pub mod Clients
 pub mod Conversing
 pub mod Coupled

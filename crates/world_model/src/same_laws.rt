@@ -3,6 +3,10 @@
 //! of a function with nothing to run.
 ghost use Rattle.world_model.specs.Begins.{carry_settings, sessions_stand, transactions_start};
 ghost use Rattle.world_model.specs.CallEndings.{end_fittingly};
+
+//! How the frames that connections served, and the entries of their sessions, are those of the service, and their calls those of scripts.
+//! Each law is the clause of a function with nothing to run.
+ghost use Rattle.world_model.specs.BegunWith.{RunsBeginWith};
 ghost use Rattle.world_model.specs.Redrawn.{RepeatsRedraw, WholeRepeatsRedraw};
 ghost use Rattle.world_model.specs.Same.{open_entries_known, run_script_calls};
 ghost use Rattle.world_model.specs.SameLaws.{FollowsInvariant, HoldsAtEnds, HoldsInRuns, RunsFollowScripts, RunsRan, RunsServe, RunsStoreScripts, WholeRunsFollowScripts, WholeRunsStoreScripts, RunsStarted, SettingsGoOn};
@@ -110,6 +114,13 @@ pub fn entries_follow_scripts()
 {
     crate::kept_laws::runs_keep_invariant();
     committed_sendings_store_scripts();
+}
+
+/// Wherever such a run has come to: each Begin of a request of which no call sets a setting carries the settings of the request.
+pub fn requests_begin_with_settings()
+    ensures { RunsBeginWith }
+{
+    crate::laws::runs_are_orderly();
 }
 
 /// Wherever such a run has come to, and at its end: on each connection that a request held, a call with the mark that was answered as its
