@@ -64,6 +64,7 @@ use Rattle.world_model.proofs.NumbersTurn.{by_index}
 use Rattle.world_model.proofs.RanCalls.{follows, follows_alike, is_mine}
 use Rattle.world_model.proofs.RunStarts.{finishing_reached, reached_coupled, reached_start}
 use Rattle.world_model.proofs.ServedCalls.{Among, IsCall, all_split, any_split, call_is, handled_split, served_at}
+use Rattle.world_model.proofs.ToldSettings.{history_settings}
 use Rattle.world_model.proofs.ServedSent.{carries_alike, pass_split, sent_split}
 
 -- LISTS -------------------------------------------------------------------------------------------

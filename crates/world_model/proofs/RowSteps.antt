@@ -92,7 +92,7 @@ module _ (setting : Setting) (m : Machine) (talks : AllTalk setting.terms m.clie
   dones_first : dones_of first.steps ≡ dones_of step.before.steps ++ one.done ∷ []
   dones_first = map-append (λ (s : Step). s.done) step.before.steps (one ∷ [])
 
-  first_after : account_first ≡ after_step setting.terms calls_are account_before one.done
+  pub first_after : account_first ≡ after_step setting.terms calls_are account_before one.done
   first_after =
       ap (λ (d : List Done). account_of setting.terms calls_are d) dones_first ∙ fold-append (after_step setting.terms calls_are) unheard (dones_of step.before.steps) (one.done ∷ [])
 
@@ -138,17 +138,17 @@ module _ (setting : Setting) (m : Machine) (talks : AllTalk setting.terms m.clie
 
   -- COUNTS ----------------------------------------------------------------------------------------
 
-  fits_at : (p : Phase) → phase ≡ p → Fits setting.terms calls_are account_first (first_fits setting m talks number n step).gone p
+  pub fits_at : (p : Phase) → phase ≡ p → Fits setting.terms calls_are account_first (first_fits setting m talks number n step).gone p
   fits_at p is = subst (λ (q : Phase). Fits setting.terms calls_are account_first (first_fits setting m talks number n step).gone q) is (first_fits setting m talks number n step).fits
 
   pub before_fits : FitsNow setting.terms step.before
   before_fits = talks_fit setting.terms false step.before (before_talks setting m talks number n step)
 
-  fits_before : (p : Phase) → step.before.talk.phase ≡ p → Fits setting.terms calls_are account_before before_fits.gone p
+  pub fits_before : (p : Phase) → step.before.talk.phase ≡ p → Fits setting.terms calls_are account_before before_fits.gone p
   fits_before p is = subst (λ (q : Phase). Fits setting.terms calls_are account_before before_fits.gone q) is before_fits.fits
 
   -- the running call is the next one
-  runs_at : (state : Living) → phase ≡ Running state → state.track.call ≡ length account_first.shown
+  pub runs_at : (state : Living) → phase ≡ Running state → state.track.call ≡ length account_first.shown
   runs_at state is = (fits_at (Running state) is).0.tracked.call
 
   -- WHAT IS KNOWN OF THE ROW BEFORE ---------------------------------------------------------------

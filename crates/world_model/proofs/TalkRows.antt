@@ -55,7 +55,7 @@ pub data RowStep (before after : Phase) (shown : Option Shown) : List Up → Typ
 abbrev pub IsRow : Phase → Step → Type 0
 IsRow before step = RowStep before step.0.phase step.1.shown step.1.send
 
-none_behind : {A : Type 0} (xs : List A) (index : ℕ) → slice_get xs index ≡ None → length xs ≤ index
+pub none_behind : {A : Type 0} (xs : List A) (index : ℕ) → slice_get xs index ≡ None → length xs ≤ index
 none_behind [] index is = omega arith
 none_behind (x ∷ xs) zero is = absurd (let none : ⊥ = cc in none)
 none_behind (x ∷ xs) (suc index) is = let rest : length xs ≤ index = none_behind xs index is in omega arith

@@ -1,10 +1,9 @@
--- With which settings a request begins on a connection, where none of its calls sets one.
-use Rattle.std.specs.Prelude.{Bool, true, not, IsTrue, List}
-use Rattle.std.specs.List.{list_all, list_any}
+-- With which settings a request begins on a connection.
+use Rattle.std.specs.Prelude.{ℕ, Bool, true, IsTrue, List, take}
+use Rattle.std.specs.List.{list_all}
 use Rattle.svc_values.specs.declared.frame.Up.{Up}
 use Rattle.svc_values.specs.declared.frame.Up.TheVariants as up
-use Rattle.svc_values.specs.SettingsList.{same_settings}
-use Rattle.client_model.specs.Talk.{is_set}
+use Rattle.svc_values.specs.SettingsList.{NamedValues, same_settings, with_sets}
 use Rattle.outage_schedule.specs.declared.document.Document.{Document}
 use Rattle.outage_schedule.specs.declared.document.Request.{Request}
 use Rattle.outage_schedule.specs.declared.event.Event.{Event}
@@ -18,21 +17,21 @@ use Rattle.world_model.specs.Ready.{all_requests_right}
 use Rattle.world_model.specs.Sames.{owned_by}
 use Rattle.world_model.specs.Traced.{Traced, Course, courses_of}
 
--- none of its calls is a `set`
-abbrev pub sets_none : Request → Bool
-sets_none request = not (list_any is_set request.calls)
+-- the settings that the request's call of this index runs in: those of the request, changed by each `set` before it
+abbrev pub settings_at : Request → ℕ → NamedValues
+settings_at request index = with_sets request.settings (take index request.calls)
 
-abbrev pub begins_with : Request → Up → Bool
-begins_with request (up.Begin settings) = implies (sets_none request) (same_settings settings request.settings)
-begins_with request frame = true
+abbrev pub begins_with : Request → ℕ → Up → Bool
+begins_with request index (up.Begin settings) = same_settings settings (settings_at request index)
+begins_with request index frame = true
 
 abbrev pub begins_on : Course → Link → Bool
-begins_on course link = list_all (λ sent. implies (owned_by course.owner sent) (begins_with course.request sent.frame)) link.sent
+begins_on course link = list_all (λ sent. implies (owned_by course.owner sent) (begins_with course.request sent.call sent.frame)) link.sent
 
 abbrev pub all_begin_with : Traced → Bool
 all_begin_with t = list_all (λ course. list_all (begins_on course) t.machine.links) (courses_of t)
 
--- Wherever a run has come to, each Begin of such a request carries the settings of the request.
+-- Wherever a run has come to, each Begin carries the settings that the call behind it runs in.
 abbrev pub RunsBeginWith : Type 0
 RunsBeginWith =
     (document : Document) (events : List Event) (notes : List Note) (items : List Served) (seen : Seen) (t : Traced)

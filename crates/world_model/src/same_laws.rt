@@ -116,7 +116,8 @@ pub fn entries_follow_scripts()
     committed_sendings_store_scripts();
 }
 
-/// Wherever such a run has come to: each Begin of a request of which no call sets a setting carries the settings of the request.
+/// Wherever such a run has come to: each Begin carries the settings that the call behind it runs in, those of the request changed by each
+/// `set` before that call.
 pub fn requests_begin_with_settings()
     ensures { RunsBeginWith }
 {
