@@ -6,7 +6,7 @@ ghost use Rattle.world_model.specs.CallEndings.{end_fittingly};
 
 //! How the frames that connections served, and the entries of their sessions, are those of the service, and their calls those of scripts.
 //! Each law is the clause of a function with nothing to run.
-ghost use Rattle.world_model.specs.BegunWith.{RunsBeginWith};
+ghost use Rattle.world_model.specs.BegunWith.{RunsBeginWith, RunsLead};
 ghost use Rattle.world_model.specs.Redrawn.{RepeatsRedraw, WholeRepeatsRedraw};
 ghost use Rattle.world_model.specs.Same.{open_entries_known, run_script_calls};
 ghost use Rattle.world_model.specs.SameLaws.{FollowsInvariant, HoldsAtEnds, HoldsInRuns, RunsFollowScripts, RunsRan, RunsServe, RunsStoreScripts, WholeRunsFollowScripts, WholeRunsStoreScripts, RunsStarted, SettingsGoOn};
@@ -117,9 +117,10 @@ pub fn entries_follow_scripts()
 }
 
 /// Wherever such a run has come to: each Begin carries the settings that the call behind it runs in, those of the request changed by each
-/// `set` before that call.
+/// `set` before that call; and that call is sent right behind it.
 pub fn requests_begin_with_settings()
-    ensures { RunsBeginWith }
+    ensures settings { RunsBeginWith }
+    ensures leads { RunsLead }
 {
     crate::laws::runs_are_orderly();
 }
