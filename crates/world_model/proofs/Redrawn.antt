@@ -1,5 +1,5 @@
 -- Wherever a run has come to, a repeated call drew the granted values that were shown of it.
-use Rattle.std.proofs.Common.{◌≡◌, refl, sym, ap, subst, ◌∙◌, ℕ, suc, zero, ◌+◌, ◌&&◌, Bool, true, false, not, List, [], ◌∷◌, ◌++◌, map, filter, length, Option, Some, None, ◌⊎◌, inl, inr, arith}
+use Rattle.std.proofs.Common.{◌≡◌, refl, sym, ap, subst, ◌∙◌, ℕ, suc, zero, ◌+◌, ◌&&◌, Bool, true, false, not, List, [], ◌∷◌, ◌++◌, map, filter, length, Option, Some, None, ◌⊎◌, inl, inr, arith, fold}
 use Rattle.std.specs.Prelude.{◌==◌, Contains, is_none, is_some, slice_get}
 use Rattle.std.specs.List.{list_all, list_any}
 use Rattle.std.specs.Option.{option_map_or}
@@ -17,8 +17,8 @@ use Rattle.svc_values.specs.Calls.{is_lone_commit}
 use Rattle.svc_values.specs.Endings.{ends_committed}
 use Rattle.svc_values.specs.Identifiers.{same_session}
 use Rattle.svc_values.specs.Same.{same_answers, same_bool, same_call, same_draws}
+use Rattle.svc_values.specs.SettingsList.{NamedValues}
 use Rattle.svc_values.specs.SameLaws.{same_answers_decide, same_call_decides, same_draws_decide}
-use Rattle.stmt_meaning.specs.AskedIn.{ends_unset}
 use Rattle.outage_schedule.specs.declared.document.Document.{Document}
 use Rattle.outage_schedule.specs.declared.event.Event.{Event}
 use Rattle.outage_schedule.specs.declared.item.Item.{Item}
@@ -33,11 +33,12 @@ use Rattle.server_model.specs.Laws.{RunsLegal}
 use Rattle.server_model.specs.Legal.{legal}
 use Rattle.server_model.specs.NewValues.{grants}
 use Rattle.server_model.specs.Outcomes.{Telling, Says}
-use Rattle.server_model.specs.Redraws.{HasServed}
+use Rattle.server_model.specs.Redraws.{HasServed, settings_behind}
 use Rattle.server_model.specs.Runs.{Happened, Server, Served as ServedFrame}
 use Rattle.server_model.specs.Seen.{Seen}
 use Rattle.server_model.proofs.Offered.{legal_redraws, marked_stores_none}
-use Rattle.world_model.specs.Basic.{first_is_connect, is_named}
+use Rattle.world_model.specs.Basic.{first_is_connect, is_named, lives_rightly, none_behind}
+use Rattle.world_model.specs.BegunWith.{begins_on, leads, settings_at, RunsBeginWith, RunsLead}
 use Rattle.world_model.specs.Coupled.{Coupled}
 use Rattle.world_model.specs.Frames.{Sent, Handled}
 use Rattle.world_model.specs.Invariant.{Invariant}
@@ -54,7 +55,7 @@ use Rattle.world_model.specs.Script.{carries_draws, has_shown_draws}
 use Rattle.world_model.specs.SessionHistory.{served_in, told_of}
 use Rattle.world_model.specs.Shown.{all_from, calls_on, has_completed, is_call, is_current, is_from, is_row, is_scripts, is_shown_item, item_shows, link_shows, rows_on}
 use Rattle.world_model.specs.Traced.{Traced, Course, courses_of}
-use Rattle.world_model.specs.Wire.{handled_from, is_sent_front}
+use Rattle.world_model.specs.Wire.{handled_from, is_right, is_sent_front, stage_of}
 use Rattle.world_model.specs.Words.{held_in}
 use Rattle.world_model.proofs.AllLinks.{at_link}
 use Rattle.world_model.proofs.AllLists.{at_all, weaker_all}
@@ -64,7 +65,9 @@ use Rattle.world_model.proofs.NumbersTurn.{by_index}
 use Rattle.world_model.proofs.RanCalls.{follows, follows_alike, is_mine}
 use Rattle.world_model.proofs.RunStarts.{finishing_reached, reached_coupled, reached_start}
 use Rattle.world_model.proofs.ServedCalls.{Among, IsCall, all_split, any_split, call_is, handled_split, served_at}
-use Rattle.world_model.proofs.ToldSettings.{history_settings}
+use Rattle.world_model.proofs.Tests.{eq_from}
+use Rattle.world_model.proofs.ToldSettings.{history_settings, set_told, told_mapped}
+use Rattle.world_model.proofs.ServedSettings.{call_settings}
 use Rattle.world_model.proofs.ServedSent.{carries_alike, pass_split, sent_split}
 
 -- LISTS -------------------------------------------------------------------------------------------
@@ -87,7 +90,7 @@ from_at completed t course start (first ∷ list) (suc index) place shown at all
 
 -- A RUN -------------------------------------------------------------------------------------------
 
-module _ (keeps : RunsKeepInvariant) (serve : RunsServe) (runs_legal : RunsLegal) (document : Document) (events : List Event) (notes : List Note) (items : List Served) (seen : Seen) (t : Traced) (calls : all_requests_right document ≡ true)
+module _ (keeps : RunsKeepInvariant) (serve : RunsServe) (runs_legal : RunsLegal) (begin : RunsBeginWith) (lead : RunsLead) (document : Document) (events : List Event) (notes : List Note) (items : List Served) (seen : Seen) (t : Traced) (calls : all_requests_right document ≡ true)
     (reached : Reached document events notes items seen t) where
   abbrev whole : Invariant t
   whole = keeps document events notes items seen t calls reached
@@ -116,16 +119,23 @@ module _ (keeps : RunsKeepInvariant) (serve : RunsServe) (runs_legal : RunsLegal
       by None there named = absurd (let none : ⊥ = cc in none)
       by (Some session) there named = (session, there)
 
-  -- a call that a connection served is in the history
-  record OfCall (one : Handled) (mark : Bool) (call : Call) (answers : List Answer) (draws : List Draw) : Type 0 where
-    kept : List Draw
+  -- a call of the history, which ran in these settings
+  record KnownCall (mark : Bool) (kept : List Draw) (call : Call) (answers : List Answer) (draws : List Draw) (known : NamedValues) : Type 0 where
     served : HasServed seen.history mark kept call answers draws
+    told : settings_behind (items_of served.before) served.session ≡ known
+
+  -- a call of the request that a connection served is in the history, and ran in the settings of its index
+  record OfCall (course : Course) (one : Handled) (mark : Bool) (call : Call) (answers : List Answer) (draws : List Draw) : Type 0 where
+    kept : List Draw
+    is_known : KnownCall mark kept call answers draws (settings_at course.request one.sent.call)
     frame : one.sent.frame ≡ up.Call mark kept call
 
-  served_call : (number : ℕ) (link : Link) → link_at t.machine.links number ≡ Some link → (front : List Handled) (one : Handled) (rest : List Handled) → link.served ≡ front ++ one ∷ rest
-      → (mark : Bool) (call : Call) (answers : List Answer) (draws : List Draw) → one.served.item ≡ item.Call mark call answers draws → OfCall one mark call answers draws
-  served_call number link there front one rest is mark call answers draws item_is =
-      let handled = handled_split 0 front one rest (subst (λ (all : List Handled). handled_from 0 all ≡ true) is (at_link (λ l. handled_from 0 l.served) t.machine.links number link whole.orderly.wire.handled there)) in
+  served_call : (course : Course) (current : Bool) (number : ℕ) (link : Link) → link_at t.machine.links number ≡ Some link → is_row course current (calls_on course link) ≡ true → begins_on course link ≡ true
+      → (front : List Handled) (one : Handled) (rest : List Handled) → link.served ≡ front ++ one ∷ rest → owned_by course.owner one.sent ≡ true
+      → (mark : Bool) (call : Call) (answers : List Answer) (draws : List Draw) → one.served.item ≡ item.Call mark call answers draws → OfCall course one mark call answers draws
+  served_call course current number link there row begun front one rest is own mark call answers draws item_is =
+      let all_handled = at_link (λ l. handled_from 0 l.served) t.machine.links number link whole.orderly.wire.handled there in
+      let handled = handled_split 0 front one rest (subst (λ (all : List Handled). handled_from 0 all ≡ true) is all_handled) in
       let told : IsCall one mark call answers draws = call_is handled.0 one mark call answers draws item_is handled.1 in
       let its = its_session link (at_link is_named t.machine.links number link whole.orderly.basic.named there) front one rest is in
       let frame : Up = up.Call mark told.kept call in
@@ -134,40 +144,62 @@ module _ (keeps : RunsKeepInvariant) (serve : RunsServe) (runs_legal : RunsLegal
       serve document events notes items seen t calls reached number link its.0 there its.1 ∙ ap (map told_of) is ∙ map-append told_of front (one ∷ rest)
       ∙ (λ i. map told_of front ++ (told.frame i, told.told i) ∷ map told_of rest) in
       let at = served_at seen.history its.0 (map told_of front) frame said (map told_of rest) has in
-      record { kept = told.kept; served = record { before = at.before; session = its.0; now = at.now; next = told.next; behind = at.behind; is = at.is }; frame = told.frame }
+      record {
+        kept = told.kept;
+        is_known = record {
+          served = record { before = at.before; session = its.0; now = at.now; next = told.next; behind = at.behind; is = at.is };
+          told =
+              history_settings its.0 at.before 0 [] ∙ ap (fold set_told []) at.served_before ∙ told_mapped front []
+              ∙ call_settings course current link (at_link is_sent_front t.machine.links number link whole.orderly.wire.sent there) (at_link (λ l. is_right (stage_of l)) t.machine.links number link whole.orderly.wire.grammar there) all_handled
+              (and_parts (none_behind link.served) _ (at_link lives_rightly t.machine.links number link whole.orderly.basic.life there)).0 row
+              (at_link (λ l. leads l.sent) t.machine.links number link (lead document events notes items seen t calls reached) there) begun front one rest is mark told.kept call told.frame own;
+        };
+        frame = told.frame;
+      }
 
   -- where a shown call was served first, unless a commit was told by its outcome alone
-  record FirstTime (call : Call) (shown : ShownCall) : Type 0 where
+  record FirstTime (course : Course) (index : ℕ) (call : Call) (shown : ShownCall) : Type 0 where
     kept : List Draw
-    served : HasServed seen.history false kept call shown.answers shown.draws
+    is_known : KnownCall false kept call shown.answers shown.draws (settings_at course.request index)
 
-  first_time : (course : Course) (index : ℕ) (call : Call) (shown : ShownCall) → is_from (has_completed course) t course index (Some call) shown ≡ true → ends_committed shown.answers ≡ false → FirstTime call shown
-  first_time course index call shown from other =
+  first_time : (course : Course) → list_all (λ number. option_map_or (λ link. is_row course (is_current course number) (calls_on course link)) (link_at t.machine.links number) false) (held_in course.steps) ≡ true → list_all (begins_on course) t.machine.links ≡ true
+      → (index : ℕ) (call : Call) (shown : ShownCall) → is_from (has_completed course) t course index (Some call) shown ≡ true → ends_committed shown.answers ≡ false → FirstTime course index call shown
+  first_time course rows begun index call shown from other =
       by (or_cases (list_any (link_shows t course index call shown) (held_in course.steps)) (is_lone_commit call && (ends_committed shown.answers && has_completed course)) from)
     where
-      at_item : (number : ℕ) (link : Link) → link_at t.machine.links number ≡ Some link → (among : Among (item_shows course index call shown) link.served) → (i : Item) → among.one.served.item ≡ i → is_shown_item call shown i ≡ true → FirstTime call shown
-      at_item number link there among (item.Call false served answers draws) item_is is =
-          let of = served_call number link there among.front among.one among.rest among.is false served answers draws item_is in
+      at_item : (number : ℕ) (link : Link) → link_at t.machine.links number ≡ Some link → is_row course (is_current course number) (calls_on course link) ≡ true → (among : Among (item_shows course index call shown) link.served)
+          → owned_by course.owner among.one.sent ≡ true → among.one.sent.call ≡ index → (i : Item) → among.one.served.item ≡ i → is_shown_item call shown i ≡ true → FirstTime course index call shown
+      at_item number link there row among own at (item.Call false served answers draws) item_is is =
+          let of =
+          served_call course (is_current course number) number link there row (at_link (begins_on course) t.machine.links number link begun there) among.front among.one among.rest among.is own false served answers draws item_is in
           let parts = and_parts (same_call served call) (same_answers answers shown.answers && same_draws draws shown.draws) is in
           let more = and_parts (same_answers answers shown.answers) (same_draws draws shown.draws) parts.1 in
           record {
             kept = of.kept;
-            served =
-                subst (λ (c : Call). HasServed seen.history false of.kept c shown.answers shown.draws) ((same_call_decides served call).0 parts.0)
-                (subst (λ (a : List Answer). HasServed seen.history false of.kept served a shown.draws) ((same_answers_decide answers shown.answers).0 more.0)
-                (subst (λ (d : List Draw). HasServed seen.history false of.kept served answers d) ((same_draws_decide draws shown.draws).0 more.1) of.served));
+            is_known =
+                subst (λ (k : ℕ). KnownCall false of.kept call shown.answers shown.draws (settings_at course.request k)) at
+                (subst (λ (c : Call). KnownCall false of.kept c shown.answers shown.draws (settings_at course.request among.one.sent.call)) ((same_call_decides served call).0 parts.0)
+                (subst (λ (a : List Answer). KnownCall false of.kept served a shown.draws (settings_at course.request among.one.sent.call)) ((same_answers_decide answers shown.answers).0 more.0)
+                (subst (λ (d : List Draw). KnownCall false of.kept served answers d (settings_at course.request among.one.sent.call)) ((same_draws_decide draws shown.draws).0 more.1) of.is_known)));
           }
-      at_item number link there among i item_is is = absurd (let none : ⊥ = cc in none)
+      at_item number link there row among own at i item_is is = absurd (let none : ⊥ = cc in none)
 
-      at_link_found : (number : ℕ) (found : Option Link) → link_at t.machine.links number ≡ found → option_map_or (λ link. list_any (item_shows course index call shown) link.served) found false ≡ true → FirstTime call shown
-      at_link_found number None there any = absurd (let none : ⊥ = cc in none)
-      at_link_found number (Some link) there any =
+      at_link_found : (number : ℕ) (found : Option Link) → link_at t.machine.links number ≡ found → option_map_or (λ link. is_row course (is_current course number) (calls_on course link)) found false ≡ true
+          → option_map_or (λ link. list_any (item_shows course index call shown) link.served) found false ≡ true → FirstTime course index call shown
+      at_link_found number None there row any = absurd (let none : ⊥ = cc in none)
+      at_link_found number (Some link) there row any =
           let among = any_split (item_shows course index call shown) link.served any in
           let parts = and_parts (owned_by course.owner among.one.sent) ((among.one.sent.call == index) && is_shown_item call shown among.one.served.item) among.passes in
-          at_item number link there among among.one.served.item refl (and_parts (among.one.sent.call == index) (is_shown_item call shown among.one.served.item) parts.1).1
+          let more = and_parts (among.one.sent.call == index) (is_shown_item call shown among.one.served.item) parts.1 in
+          at_item number link there row among parts.0 (eq_from among.one.sent.call index more.0) among.one.served.item refl more.1
 
-      by : (list_any (link_shows t course index call shown) (held_in course.steps) ≡ true) ⊎ ((is_lone_commit call && (ends_committed shown.answers && has_completed course)) ≡ true) → FirstTime call shown
-      by (inl any) = let found = any_split (link_shows t course index call shown) (held_in course.steps) any in at_link_found found.one (link_at t.machine.links found.one) refl found.passes
+      by : (list_any (link_shows t course index call shown) (held_in course.steps) ≡ true) ⊎ ((is_lone_commit call && (ends_committed shown.answers && has_completed course)) ≡ true) → FirstTime course index call shown
+      by (inl any) =
+          let found = any_split (link_shows t course index call shown) (held_in course.steps) any in
+          at_link_found found.one (link_at t.machine.links found.one) refl
+          (pass_split (λ number. option_map_or (λ link. is_row course (is_current course number) (calls_on course link)) (link_at t.machine.links number) false) found.front found.one found.rest
+          (subst (λ (all : List ℕ). list_all (λ number. option_map_or (λ link. is_row course (is_current course number) (calls_on course link)) (link_at t.machine.links number) false) all ≡ true) found.is rows))
+          found.passes
       by (inr lone) =
           let committed : ends_committed shown.answers ≡ true = (and_parts (ends_committed shown.answers) (has_completed course) (and_parts (is_lone_commit call) (ends_committed shown.answers && has_completed course) lone).1).0 in
           absurd (let clash : true ≡ false = sym committed ∙ other in let none : ⊥ = cc in none)
@@ -181,7 +213,8 @@ module _ (keeps : RunsKeepInvariant) (serve : RunsServe) (runs_legal : RunsLegal
 
   -- ONE CALL --------------------------------------------------------------------------------------
 
-  module _ (course : Course) (current : Bool) (number : ℕ) (link : Link) (there : link_at t.machine.links number ≡ Some link) (row : is_row course current (calls_on course link) ≡ true) (marks : carries_draws course link ≡ true)
+  module _ (course : Course) (rows : list_all (λ number. option_map_or (λ link. is_row course (is_current course number) (calls_on course link)) (link_at t.machine.links number) false) (held_in course.steps) ≡ true) (begun : list_all (begins_on course) t.machine.links ≡ true)
+      (current : Bool) (number : ℕ) (link : Link) (there : link_at t.machine.links number ≡ Some link) (row : is_row course current (calls_on course link) ≡ true) (marks : carries_draws course link ≡ true)
       (from : all_from (has_completed course) t course 0 course.report.calls ≡ true) where
     abbrev sent : is_sent_front link ≡ true
     sent = at_link is_sent_front t.machine.links number link whole.orderly.wire.sent there
@@ -212,22 +245,23 @@ module _ (keeps : RunsKeepInvariant) (serve : RunsServe) (runs_legal : RunsLegal
           ∙ subst (λ (f : Up). implies (owned_by course.owner one.sent) (has_shown_draws course one.sent.call f) ≡ true) frame (sent_split (carries course) (carries_alike course) link sent marks front one rest is)))
 
     again_right : (front : List Handled) (one : Handled) (rest : List Handled) → link.served ≡ front ++ one ∷ rest → owned_by course.owner one.sent ≡ true → (call : Call) (answers : List Answer) (draws : List Draw) → one.served.item ≡ item.Call true call answers draws
-        → (shown : ShownCall) → slice_get course.report.calls one.sent.call ≡ Some shown → same_answers answers shown.answers ≡ true → ends_unset answers ≡ false
+        → (shown : ShownCall) → slice_get course.report.calls one.sent.call ≡ Some shown → same_answers answers shown.answers ≡ true
         → same_draws (filter (granted_by document) draws) (filter (granted_by document) shown.draws) ≡ true
-    again_right front one rest is own call answers draws item_is shown at same set =
-        let of = served_call number link there front one rest is true call answers draws item_is in
+    again_right front one rest is own call answers draws item_is shown at same =
+        let of = served_call course current number link there row (at_link (begins_on course) t.machine.links number link begun there) front one rest is own true call answers draws item_is in
         let answers_are : answers ≡ shown.answers = (same_answers_decide answers shown.answers).0 same in
-        let second : HasServed seen.history true shown.draws call shown.answers draws =
-        subst (λ (a : List Answer). HasServed seen.history true shown.draws call a draws) answers_are
-        (subst (λ (k : List Draw). HasServed seen.history true k call answers draws) (kept_shown front one rest is own of.kept call of.frame shown at) of.served) in
+        let known : NamedValues = settings_at course.request one.sent.call in
+        let second : KnownCall true shown.draws call shown.answers draws known =
+        subst (λ (a : List Answer). KnownCall true shown.draws call a draws known) answers_are
+        (subst (λ (k : List Draw). KnownCall true k call answers draws known) (kept_shown front one rest is own of.kept call of.frame shown at) of.is_known) in
         let come : is_from (has_completed course) t course one.sent.call (Some call) shown ≡ true =
         subst (λ (found : Option Call). is_from (has_completed course) t course one.sent.call found shown ≡ true) (script_call front one rest is own of.kept call of.frame)
         (from_at (has_completed course) t course 0 course.report.calls one.sent.call one.sent.call shown (omega arith) from at) in
-        let first = first_time course one.sent.call call shown come (marked_open shown.draws call shown.answers draws second) in
+        let first = first_time course rows begun one.sent.call call shown come (marked_open shown.draws call shown.answers draws second.served) in
         let start : seen.start ≡ service_base document = reached_start document events notes items seen t reached in
         (same_draws_decide (filter (granted_by document) draws) (filter (granted_by document) shown.draws)).1
         (subst (λ (base : Base). filter (grants base) draws ≡ filter (grants base) shown.draws) start
-        (legal_redraws seen.start seen.history server.core.entries server.core.alerts legal_so_far false first.kept call shown.answers shown.draws draws first.served second (inr (sym (ap ends_unset answers_are) ∙ set))))
+        (legal_redraws seen.start seen.history server.core.entries server.core.alerts legal_so_far false first.kept call shown.answers shown.draws draws first.is_known.served second.served (inl (first.is_known.told ∙ sym second.told))))
 
     link_right : redraws_on (granted_by document) course link ≡ true
     link_right = all_split (one_redraws (granted_by document) course) link.served (λ front one rest is. right front one rest is)
@@ -236,15 +270,13 @@ module _ (keeps : RunsKeepInvariant) (serve : RunsServe) (runs_legal : RunsLegal
         right front one rest is = by (owned_by course.owner one.sent) refl one.served.item refl
           where
             by_shown : owned_by course.owner one.sent ≡ true → (call : Call) (answers : List Answer) (draws : List Draw) → one.served.item ≡ item.Call true call answers draws → (found : Option ShownCall) → slice_get course.report.calls one.sent.call ≡ found
-                → option_map_or (λ shown. implies (same_answers answers shown.answers && not (ends_unset answers)) (same_draws (filter (granted_by document) draws) (filter (granted_by document) shown.draws))) found true ≡ true
+                → option_map_or (λ shown. implies (same_answers answers shown.answers) (same_draws (filter (granted_by document) draws) (filter (granted_by document) shown.draws))) found true ≡ true
             by_shown own call answers draws item_is None at = refl
-            by_shown own call answers draws item_is (Some shown) at = by_test (same_answers answers shown.answers && not (ends_unset answers)) refl
+            by_shown own call answers draws item_is (Some shown) at = by_test (same_answers answers shown.answers) refl
               where
-                by_test : (test : Bool) → (same_answers answers shown.answers && not (ends_unset answers)) ≡ test → implies test (same_draws (filter (granted_by document) draws) (filter (granted_by document) shown.draws)) ≡ true
+                by_test : (test : Bool) → same_answers answers shown.answers ≡ test → implies test (same_draws (filter (granted_by document) draws) (filter (granted_by document) shown.draws)) ≡ true
                 by_test false test_is = refl
-                by_test true test_is =
-                    let parts = and_parts (same_answers answers shown.answers) (not (ends_unset answers)) test_is in
-                    again_right front one rest is own call answers draws item_is shown at parts.0 (not-true (ends_unset answers) parts.1)
+                by_test true test_is = again_right front one rest is own call answers draws item_is shown at test_is
 
             by : (mine : Bool) → owned_by course.owner one.sent ≡ mine → (i : Item) → one.served.item ≡ i → implies mine (redraws (granted_by document) course one.sent i) ≡ true
             by false own i item_is = refl
@@ -259,8 +291,14 @@ module _ (keeps : RunsKeepInvariant) (serve : RunsServe) (runs_legal : RunsLegal
       of_course : (index : ℕ) (course : Course) → slice_get (courses_of t) index ≡ Some course → list_all (test_at t (redraws_on (granted_by document) course)) (held_in course.steps) ≡ true
       of_course index course at =
           weaker_all (λ number. option_map_or (λ link. is_row course (is_current course number) (calls_on course link)) (link_at t.machine.links number) false) (test_at t (redraws_on (granted_by document) course)) (held_in course.steps)
-          (λ number is. on number (link_at t.machine.links number) refl is) (at_all (rows_on t) (courses_of t) index course whole.shown.rows at)
+          (λ number is. on number (link_at t.machine.links number) refl is) rows
         where
+          rows : list_all (λ number. option_map_or (λ link. is_row course (is_current course number) (calls_on course link)) (link_at t.machine.links number) false) (held_in course.steps) ≡ true
+          rows = at_all (rows_on t) (courses_of t) index course whole.shown.rows at
+
+          begun : list_all (begins_on course) t.machine.links ≡ true
+          begun = at_all (λ c. list_all (begins_on c) t.machine.links) (courses_of t) index course (begin document events notes items seen t calls reached) at
+
           marks : list_all (carries_draws course) t.machine.links ≡ true
           marks = at_all (λ c. list_all (carries_draws c) t.machine.links) (courses_of t) index course whole.orderly.script.marks at
 
@@ -270,10 +308,10 @@ module _ (keeps : RunsKeepInvariant) (serve : RunsServe) (runs_legal : RunsLegal
           on : (number : ℕ) (found : Option Link) → link_at t.machine.links number ≡ found → option_map_or (λ link. is_row course (is_current course number) (calls_on course link)) found false ≡ true
               → option_map_or (redraws_on (granted_by document) course) found false ≡ true
           on number None there row = absurd (let none : ⊥ = cc in none)
-          on number (Some link) there row = link_right course (is_current course number) number link there row (at_link (carries_draws course) t.machine.links number link marks there) from
+          on number (Some link) there row = link_right course rows begun (is_current course number) number link there row (at_link (carries_draws course) t.machine.links number link marks there) from
 
-pub runs_redraw : RunsKeepInvariant → RunsServe → RunsLegal → RepeatsRedraw
-runs_redraw keeps serve runs_legal document events notes items seen t calls reached = all_right keeps serve runs_legal document events notes items seen t calls reached
+pub runs_redraw : RunsKeepInvariant → RunsServe → RunsLegal → RunsBeginWith → RunsLead → RepeatsRedraw
+runs_redraw keeps serve runs_legal begin lead document events notes items seen t calls reached = all_right keeps serve runs_legal begin lead document events notes items seen t calls reached
 
 pub whole_runs_redraw : RepeatsRedraw → WholeRepeatsRedraw
 whole_runs_redraw redraw document notes items seen t calls run = let so = finishing_reached document run.place notes items seen t run.finishing in redraw document so.0 notes items seen t calls so.1

@@ -252,7 +252,7 @@ module _ (course : Course) (known : ℕ → NamedValues) (next_known : (n : ℕ)
   behind_lives one [] last rest lone = let parts = and_parts (not (ends_life one)) (none_behind (last ∷ rest)) lone in (not-true (ends_life one) parts.0, parts.1)
   behind_lives one (next ∷ front) last rest lone = let parts = and_parts (not (ends_life one)) (none_behind (next ∷ front ++ last ∷ rest)) lone in (not-true (ends_life one) parts.0, parts.1)
 
-  along : (front : List Handled) (last : Handled) (rest : List Handled) (stage : Stage) (n : ℕ) (settings : NamedValues) (commits : ℕ) (replay : Bool) (kept : List Draw) (call : Call) → last.sent.frame ≡ up.Call replay kept call → owned_by course.owner last.sent ≡ true
+  pub along : (front : List Handled) (last : Handled) (rest : List Handled) (stage : Stage) (n : ℕ) (settings : NamedValues) (commits : ℕ) (replay : Bool) (kept : List Draw) (call : Call) → last.sent.frame ≡ up.Call replay kept call → owned_by course.owner last.sent ≡ true
       → handled_from commits (front ++ last ∷ rest) ≡ true → none_behind (front ++ last ∷ rest) ≡ true → is_right (fold moved stage (sents_of (front ++ last ∷ rest))) ≡ true → in_row n (filter (is_mine course) (sents_of (front ++ last ∷ rest))) ≡ true
       → list_all (follows course) (sents_of (front ++ last ∷ rest)) ≡ true → Leads (sents_of (front ++ last ∷ rest)) → Stands stage n settings (sents_of (front ++ last ∷ rest)) → fold set_handled settings front ≡ known last.sent.call
   along [] last rest stage n settings commits replay kept call frame own handled lone right row scripts leads stands =

@@ -1,10 +1,9 @@
 -- What a repeated call drew of the values that are kept for it.
-use Rattle.std.specs.Prelude.{◌&&◌, Bool, true, not, IsTrue, List, filter, slice_get}
+use Rattle.std.specs.Prelude.{Bool, true, IsTrue, List, filter, slice_get}
 use Rattle.std.specs.List.{list_all}
 use Rattle.std.specs.Option.{option_map_or}
 use Rattle.svc_values.specs.declared.draw.Draw.{Draw}
 use Rattle.svc_values.specs.Same.{same_answers, same_draws}
-use Rattle.stmt_meaning.specs.AskedIn.{ends_unset}
 use Rattle.outage_schedule.specs.declared.document.Document.{Document}
 use Rattle.outage_schedule.specs.declared.event.Event.{Event}
 use Rattle.outage_schedule.specs.declared.item.Item.{Item}
@@ -22,11 +21,10 @@ use Rattle.world_model.specs.Sames.{owned_by}
 use Rattle.world_model.specs.Traced.{Traced, Course, courses_of}
 use Rattle.world_model.specs.Words.{held_in}
 
--- A call with the mark that was answered as its first time was shown drew the granted values that were shown, in order. (Nothing is said where
--- it was refused for want of a setting.)
+-- A call with the mark that was answered as its first time was shown drew the granted values that were shown, in order.
 abbrev pub redraws : (Draw → Bool) → Course → Sent → Item → Bool
 redraws granted course sent (item.Call true call answers draws) =
-    option_map_or (λ shown. implies (same_answers answers shown.answers && not (ends_unset answers)) (same_draws (filter granted draws) (filter granted shown.draws))) (slice_get course.report.calls sent.call) true
+    option_map_or (λ shown. implies (same_answers answers shown.answers) (same_draws (filter granted draws) (filter granted shown.draws))) (slice_get course.report.calls sent.call) true
 redraws granted course sent one = true
 
 -- of a request, on a connection

@@ -126,7 +126,7 @@ pub fn requests_begin_with_settings()
 }
 
 /// Wherever such a run has come to, and at its end: on each connection that a request held, a call with the mark that was answered as its
-/// first time was shown drew the granted values that were shown, in order, unless it was refused for want of a setting.
+/// first time was shown drew the granted values that were shown, in order.
 pub fn repeated_calls_redraw()
     ensures reached { RepeatsRedraw }
     ensures run { WholeRepeatsRedraw }
@@ -134,4 +134,5 @@ pub fn repeated_calls_redraw()
     crate::kept_laws::runs_keep_invariant();
     runs_serve();
     server_model::laws::runs_legal();
+    requests_begin_with_settings();
 }
