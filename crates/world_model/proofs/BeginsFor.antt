@@ -1,25 +1,18 @@
 -- A Begin carries the settings that the call behind it runs in: those of the request, changed by each `set` before it.
-use Rattle.std.proofs.Common.{◌≡◌, refl, sym, ap, subst, ◌∙◌, arith, Bool, true, false, ℕ, suc, zero, ◌+◌, ◌-◌, ◌≤◌, length, take, if◌then◌else◌, List, [], ◌∷◌, ◌++◌, Some, None}
+use Rattle.std.proofs.Common.{◌≡◌, refl, sym, ap, subst, ◌∙◌, arith, Bool, true, false, ℕ, ◌+◌, ◌-◌, ◌≤◌, length, take, if◌then◌else◌, List, [], ◌∷◌, ◌++◌, Some, None}
 use Rattle.std.specs.Prelude.{not, slice_get}
 use Rattle.std.specs.List.{list_all, list_any}
-use Rattle.std.proofs.lemmas.Bool.{and_from, or_from, or_parts}
+use Rattle.std.proofs.lemmas.Bool.{and_from}
 use Rattle.std.proofs.lemmas.List.{map-append}
 use Rattle.svc_values.specs.declared.answer.Answer.{Answer}
 use Rattle.svc_values.specs.declared.answer.Answer.TheVariants as answer
 use Rattle.svc_values.specs.declared.call.Call.{Call}
-use Rattle.svc_values.specs.declared.call.Call.TheVariants as call
 use Rattle.svc_values.specs.declared.frame.Up.{Up}
 use Rattle.svc_values.specs.declared.frame.Up.TheVariants as up
 use Rattle.svc_values.specs.SameLaws.{same_settings_equiv}
-use Rattle.svc_values.specs.SettingsList.{NamedValues, same_settings, with_set, with_sets}
+use Rattle.svc_values.specs.SettingsList.{NamedValues, same_settings, with_sets}
 use Rattle.request_bounds.specs.declared.rule.After.TheVariants as after
-use Rattle.request_bounds.specs.declared.rule.Why.TheVariants as why
-use Rattle.request_bounds.specs.Replies.{ends_decided}
 use Rattle.request_bounds.specs.Rules.{Rules}
-use Rattle.outage_schedule.specs.declared.document.Consistency.{Consistency}
-use Rattle.outage_schedule.specs.declared.document.Consistency.TheVariants as consistency
-use Rattle.outage_schedule.specs.declared.document.Failover.{Failover}
-use Rattle.outage_schedule.specs.declared.document.Failover.TheVariants as failover
 use Rattle.outage_schedule.specs.declared.document.Request.{Request}
 use Rattle.client_model.specs.Account.{Account, before_sends, unheard}
 use Rattle.client_model.specs.Conversation.{Done}
@@ -37,80 +30,17 @@ use Rattle.world_model.specs.Clients.{Step, Doing}
 use Rattle.world_model.specs.Conversing.{AllTalk, first_talk, gone_due, inputs_of}
 use Rattle.world_model.specs.Machines.{Machine}
 use Rattle.world_model.specs.Ready.{IsOfCalls}
-use Rattle.world_model.specs.Settings.{Setting, rules_of as rules_in}
+use Rattle.world_model.specs.Settings.{Setting}
 use Rattle.world_model.specs.Words.{dones_of}
 use Rattle.world_model.proofs.AllLists.{weaker_all}
 use Rattle.world_model.proofs.ClientSteps.{HasStepped}
 use Rattle.world_model.proofs.PurgeCounts.{Purges, account_purges, sent_purged, since_purged, since_still}
 use Rattle.world_model.proofs.RowSteps.{each_last, first_after, fits_at, fits_before, runs_at}
+use Rattle.world_model.proofs.RuleKinds.{fewer, never, never_purges, plain_sets, setting_rules, static_plain}
 use Rattle.world_model.proofs.Stages.{is_begin}
 use Rattle.world_model.proofs.StepFacts.{account_now, before_talks, first_step, first_doing, first_talks_on}
 use Rattle.world_model.proofs.TalkBegins.{Begun, AsFirst, AsCompleted, AsLost, AsRepeated, BeginStep, Plain, Begins, begin_step}
 use Rattle.world_model.proofs.TalkUnset.{UnsetIn, all_unset}
-
--- RULES -------------------------------------------------------------------------------------------
-
--- each document has one of the rules
-rules_are : (failing : Failover) (consistent : Consistency) → (kind : Kind) × (rules_in failing consistent ≡ rules_of kind)
-rules_are failover.Transaction consistency.Dynamic = (Dynamic, refl)
-rules_are failover.Transaction consistency.Static = (Static, refl)
-rules_are failover.Off consistent = (NoReplay, refl)
-rules_are failover.Auto consistent = (Auto, refl)
-
-setting_rules : (setting : Setting) → IsOfCalls setting → (kind : Kind) × (setting.terms.rules ≡ rules_of kind)
-setting_rules setting is =
-    let found = rules_are is.document.service.failover is.document.service.consistency in
-    (found.0, ap (λ (s : Setting). s.terms.rules) is.same ∙ found.1)
-
--- rules that never purge
-abbrev never : Kind → Bool
-never NoReplay = true
-never Dynamic = true
-never Static = false
-never Auto = false
-
-never_purges : (kind : Kind) → never kind ≡ true → (answers : List Answer) → (rules_of kind).reply answers ≡ after.Purge → ⊥
-never_purges NoReplay is answers purges = let none : ⊥ = cc in none
-never_purges Dynamic is answers purges = by (ends_decided answers) purges
-  where
-    by : (test : Bool) → (if test then after.Stop why.AfterCommit else after.Record) ≡ after.Purge → ⊥
-    by true purges = let none : ⊥ = cc in none
-    by false purges = let none : ⊥ = cc in none
-never_purges Static is answers purges = absurd (let none : ⊥ = cc in none)
-never_purges Auto is answers purges = absurd (let none : ⊥ = cc in none)
-
-static_plain : (one : Call) (index : ℕ) → (rules_of Static).submit one index ≡ None → is_set one ≡ false
-static_plain (call.Set name x) index none = absurd (let never : ⊥ = cc in never)
-static_plain (call.Work statements commit) index none = refl
-static_plain (call.Alter line) index none = refl
-static_plain call.Disable index none = refl
-static_plain call.Rollback index none = refl
-
--- CALLS -------------------------------------------------------------------------------------------
-
-plain_set : (settings : NamedValues) (one : Call) → is_set one ≡ false → with_set settings one ≡ settings
-plain_set settings (call.Set name x) is = absurd (let none : ⊥ = cc in none)
-plain_set settings (call.Work statements commit) is = refl
-plain_set settings (call.Alter line) is = refl
-plain_set settings call.Disable is = refl
-plain_set settings call.Rollback is = refl
-
--- calls of which none is a `set` leave the settings
-plain_sets : (calls : List Call) (settings : NamedValues) → list_any is_set calls ≡ false → with_sets settings calls ≡ settings
-plain_sets [] settings none = refl
-plain_sets (one ∷ calls) settings none =
-    let parts = or_parts (is_set one) (list_any is_set calls) none in
-    ap (λ (s : NamedValues). with_sets s calls) (plain_set settings one parts.0) ∙ plain_sets calls settings parts.1
-
--- none is among fewer of them
-fewer : (calls : List Call) (few many : ℕ) → few ≤ many → list_any is_set (take many calls) ≡ false → list_any is_set (take few calls) ≡ false
-fewer [] zero many within none = refl
-fewer [] (suc few) many within none = refl
-fewer (one ∷ calls) zero many within none = refl
-fewer (one ∷ calls) (suc few) zero within none = absurd (omega arith)
-fewer (one ∷ calls) (suc few) (suc many) within none =
-    let parts = or_parts (is_set one) (list_any is_set (take many calls)) none in
-    or_from (is_set one) (list_any is_set (take few calls)) parts.0 (fewer calls few many (omega arith) parts.1)
 
 -- A STEP ------------------------------------------------------------------------------------------
 

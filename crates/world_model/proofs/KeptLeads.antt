@@ -11,7 +11,6 @@ use Rattle.pool_core.specs.declared.answers.Back.TheVariants as back
 use Rattle.pool_core.specs.Slots.{give_back_answer}
 use Rattle.client_model.specs.declared.act.Hold.{Hold}
 use Rattle.client_model.specs.declared.act.Hold.TheVariants as hold
-use Rattle.client_model.specs.Terms.{Phase}
 use Rattle.outage_schedule.specs.declared.event.Event.{Event}
 use Rattle.outage_schedule.specs.declared.item.Served.{Served}
 use Rattle.outage_schedule.specs.declared.note.Note.{Note}
@@ -27,7 +26,7 @@ use Rattle.world_model.specs.Machines.{Machine}
 use Rattle.world_model.specs.OneEvent.{OneEvent}
 use Rattle.world_model.specs.Outside.{closed_by_drain}
 use Rattle.world_model.specs.Parts.{implies}
-use Rattle.world_model.specs.Reached.{Reached, Begins as BeginsRun, GoesOn}
+use Rattle.world_model.specs.Reached.{Begins as BeginsRun, GoesOn}
 use Rattle.world_model.specs.RunLaws.{RunsAreOrderly}
 use Rattle.world_model.specs.Settings.{Setting}
 use Rattle.world_model.specs.Traced.{Traced}

@@ -1,11 +1,10 @@
 -- Wherever a run has come to, a repeated call drew the granted values that were shown of it.
-use Rattle.std.proofs.Common.{◌≡◌, refl, sym, ap, subst, ◌∙◌, ℕ, suc, zero, ◌+◌, ◌&&◌, Bool, true, false, not, List, [], ◌∷◌, ◌++◌, map, filter, length, Option, Some, None, ◌⊎◌, inl, inr, arith, fold}
+use Rattle.std.proofs.Common.{◌≡◌, refl, sym, ap, subst, ◌∙◌, ℕ, ◌&&◌, Bool, true, false, List, [], ◌∷◌, ◌++◌, map, filter, length, Option, Some, None, ◌⊎◌, inl, inr, arith, fold}
 use Rattle.std.specs.Prelude.{◌==◌, Contains, is_none, is_some, slice_get}
 use Rattle.std.specs.List.{list_all, list_any}
 use Rattle.std.specs.Option.{option_map_or}
-use Rattle.std.proofs.lemmas.Bool.{and_parts, not-true, or_cases}
+use Rattle.std.proofs.lemmas.Bool.{and_parts, or_cases}
 use Rattle.std.proofs.lemmas.List.{map-append}
-use Rattle.std.proofs.lemmas.List.Elements.{Contains-append_left, Contains-append_right, Contains-push}
 use Rattle.svc_values.specs.declared.answer.Answer.{Answer}
 use Rattle.svc_values.specs.declared.call.Call.{Call}
 use Rattle.svc_values.specs.declared.draw.Draw.{Draw}
@@ -64,29 +63,12 @@ use Rattle.world_model.proofs.DrawsKept.{carries}
 use Rattle.world_model.proofs.NumbersTurn.{by_index}
 use Rattle.world_model.proofs.RanCalls.{follows, follows_alike, is_mine}
 use Rattle.world_model.proofs.RunStarts.{finishing_reached, reached_coupled, reached_start}
-use Rattle.world_model.proofs.ServedCalls.{Among, IsCall, all_split, any_split, call_is, handled_split, served_at}
+use Rattle.world_model.proofs.ServedCalls.{Among, IsCall, all_split, any_split, call_is, contains_split, handled_split, served_at}
+use Rattle.world_model.proofs.ShownFrom.{from_at}
 use Rattle.world_model.proofs.Tests.{eq_from}
 use Rattle.world_model.proofs.ToldSettings.{history_settings, set_told, told_mapped}
 use Rattle.world_model.proofs.ServedSettings.{call_settings}
 use Rattle.world_model.proofs.ServedSent.{carries_alike, pass_split, sent_split}
-
--- LISTS -------------------------------------------------------------------------------------------
-
-contains_split : {A : Type 0} (front : List A) (one : A) (rest : List A) → Contains (front ++ one ∷ rest) one
-contains_split front one rest = Contains-append_right front (one ∷ rest) one (Contains-append_left (one ∷ []) rest one (Contains-push [] one))
-
--- a shown call of a list whose calls are all from somewhere
-from_at : (completed : Bool) (t : Traced) (course : Course) (start : ℕ) (list : List ShownCall) (index place : ℕ) (shown : ShownCall) → place ≡ start + index → all_from completed t course start list ≡ true → slice_get list index ≡ Some shown
-    → is_from completed t course place (slice_get course.request.calls place) shown ≡ true
-from_at completed t course start [] index place shown at all there = absurd (let none : ⊥ = cc in none)
-from_at completed t course start (first ∷ list) zero place shown at all there =
-    let same : first ≡ shown = cc in
-    let here : place ≡ start = omega (arith, at) in
-    subst (λ (s : ShownCall). is_from completed t course place (slice_get course.request.calls place) s ≡ true) same
-    (subst (λ (k : ℕ). is_from completed t course k (slice_get course.request.calls k) first ≡ true) (sym here) (and_parts (is_from completed t course start (slice_get course.request.calls start) first) _ all).0)
-from_at completed t course start (first ∷ list) (suc index) place shown at all there =
-    let later : place ≡ (start + 1) + index = omega (arith, at) in
-    from_at completed t course (start + 1) list index place shown later (and_parts (is_from completed t course start (slice_get course.request.calls start) first) (all_from completed t course (start + 1) list) all).1 there
 
 -- A RUN -------------------------------------------------------------------------------------------
 

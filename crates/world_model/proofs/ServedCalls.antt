@@ -1,8 +1,9 @@
 -- A call that a connection served is in the service's history, behind what its session served before it.
 use Rattle.std.proofs.Common.{◌≡◌, refl, sym, ap, subst, ◌∙◌, ℕ, ◌&&◌, ◌||◌, Bool, true, false, List, [], ◌∷◌, ◌++◌, Option, Some, ◌⊎◌, inl, inr, if◌then◌else◌}
-use Rattle.std.specs.Prelude.{is_none}
+use Rattle.std.specs.Prelude.{Contains, is_none}
 use Rattle.std.specs.List.{list_all, list_any}
 use Rattle.std.proofs.lemmas.Bool.{and_parts, and_from, or_cases}
+use Rattle.std.proofs.lemmas.List.Elements.{Contains-append_left, Contains-append_right, Contains-push}
 use Rattle.svc_values.specs.declared.answer.Answer.{Answer}
 use Rattle.svc_values.specs.declared.call.Call.{Call}
 use Rattle.svc_values.specs.declared.draw.Draw.{Draw}
@@ -47,6 +48,9 @@ any_split {A} test (x ∷ xs) any = by (test x) refl any (λ later. any_split te
     by : (here : Bool) → test x ≡ here → (here || list_any test xs) ≡ true → (list_any test xs ≡ true → Among test xs) → Among test (x ∷ xs)
     by true is any later = record { front = []; one = x; rest = xs; is = refl; passes = is }
     by false is any later = let more = later any in record { front = x ∷ more.front; one = more.one; rest = more.rest; is = ap (λ others. x ∷ others) more.is; passes = more.passes }
+
+pub contains_split : {A : Type 0} (front : List A) (one : A) (rest : List A) → Contains (front ++ one ∷ rest) one
+contains_split front one rest = Contains-append_right front (one ∷ rest) one (Contains-append_left (one ∷ []) rest one (Contains-push [] one))
 
 -- A CALL ------------------------------------------------------------------------------------------
 

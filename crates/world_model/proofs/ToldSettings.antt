@@ -4,7 +4,6 @@ use Rattle.std.specs.Prelude.{◌==◌, is_none, is_some, slice_get}
 use Rattle.std.specs.List.{list_all}
 use Rattle.std.specs.Option.{option_map_or}
 use Rattle.std.proofs.lemmas.Bool.{and_parts, not-true}
-use Rattle.svc_values.specs.declared.answer.Answer.{Answer}
 use Rattle.svc_values.specs.declared.call.Call.{Call}
 use Rattle.svc_values.specs.declared.draw.Draw.{Draw}
 use Rattle.svc_values.specs.declared.entry.Ltxid.{Ltxid}
@@ -18,7 +17,7 @@ use Rattle.svc_values.specs.SameLaws.{same_call_decides}
 use Rattle.svc_values.specs.SettingsList.{NamedValues, with_set}
 use Rattle.outage_schedule.specs.declared.item.Item.{Item}
 use Rattle.outage_schedule.specs.declared.item.Item.TheVariants as item
-use Rattle.server_model.specs.Items.{Thing, Began, Called, CallStopped, asked_of, items_from, thing_of}
+use Rattle.server_model.specs.Items.{Thing, Began, Called, asked_of, items_from, thing_of}
 use Rattle.server_model.specs.Outcomes.{Telling, Silent, Says, Stopped}
 use Rattle.server_model.specs.Redraws.{set_by, set_in}
 use Rattle.server_model.specs.Runs.{Happened, Served, Asked}
@@ -27,11 +26,11 @@ use Rattle.world_model.specs.Crashing.{is_crashed_item}
 use Rattle.world_model.specs.Frames.{Owner, Sent, Handled}
 use Rattle.world_model.specs.Parts.{implies}
 use Rattle.world_model.specs.Sames.{is_of, owned_by, same_owners}
-use Rattle.world_model.specs.Serving.{is_item_of, is_last, reply_of}
+use Rattle.world_model.specs.Serving.{is_item_of, is_last}
 use Rattle.world_model.specs.SessionHistory.{served_in, told_of, told_with}
 use Rattle.world_model.specs.Shown.{in_row, is_call, is_scripts}
 use Rattle.world_model.specs.Traced.{Course}
-use Rattle.world_model.specs.Wire.{Stage, New, Greeted, Told, Repeated, Begun, Rested, Shut, Wrong, counted_with, handled_from, is_alter, is_handled, is_right, next_stage, same_replies, stage_if}
+use Rattle.world_model.specs.Wire.{Stage, New, Greeted, Told, Repeated, Begun, Rested, Shut, counted_with, handled_from, is_alter, is_handled, is_right, next_stage, stage_if}
 use Rattle.world_model.proofs.AskedNear.{owners_are}
 use Rattle.world_model.proofs.Fronts.{moved}
 use Rattle.world_model.proofs.LinkNumbers.{Was, Ordinary, Halted, was_so}
