@@ -189,7 +189,7 @@ module _ (document : Document) (ran : Ran Within) (before : Before) (report : Re
     serial = serial_of laws.serial;
     legal = laws.legal document report has.seen has.traced gained.server reported;
     fresh_new = laws.fresh_new document report has.seen has.traced gained.server reported;
-    fresh = laws.fresh document report has.seen has.traced gained.server reported;
+    fresh = laws.fresh document report has.seen has.traced gained.server calls reported;
     once_so = laws.once document report has.seen has.traced gained.server calls reported;
     stored_so = stored_so laws calls;
     journal = off.journal;

@@ -10,7 +10,7 @@ use Rattle.run_clauses.specs.Once.{once}
 use Rattle.run_clauses.specs.Serial.{IsSerial, printed_tables}
 use Rattle.run_clauses.specs.Stored.{stored}
 use Rattle.world_model.specs.Followed.{followed}
-use Rattle.world_model.specs.Judged.{is_legal, is_fresh_new, has_room_for, none_repeated}
+use Rattle.world_model.specs.Judged.{is_legal, is_fresh_new}
 
 -- The journal at the end has the base of the one before event 1, its tables with their rows and its sequences, and its entries, blocks and
 -- alert lines are those from before with those of the report behind them. The report's tables are those after the last entry. What the
@@ -36,10 +36,10 @@ pub record Headline (document : Document) (report : Report) : Type 0 where
   pub serial : IsSerial document report
   -- what was served is legal
   pub legal : IsTrue (is_legal document report)
-  -- and no value was drawn anew twice, as long as identifiers can be spelled
-  pub fresh_new : IsTrue (has_room_for document report) → IsTrue (is_fresh_new document report)
-  -- where no call was repeated, no value stands twice among what the entries drew
-  pub fresh : IsTrue (has_room_for document report) → IsTrue (none_repeated report) → IsTrue (fresh report)
+  -- and no value was drawn anew twice
+  pub fresh_new : IsTrue (is_fresh_new document report)
+  -- nor stands one twice among what the entries drew
+  pub fresh : IsTrue (fresh report)
   -- each transaction stands in the journal at most once: exactly once where it was shown as committed, and not at all where it was shown as
   -- dropped
   pub once_so : IsTrue (once document report)

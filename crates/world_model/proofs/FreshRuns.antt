@@ -18,7 +18,7 @@ use Rattle.outage_schedule.specs.declared.item.Item.{Item}
 use Rattle.outage_schedule.specs.declared.item.Item.TheVariants as item
 use Rattle.outage_schedule.specs.declared.item.Served.{Served}
 use Rattle.outage_schedule.specs.declared.note.Note.{Note}
-use Rattle.server_model.specs.Fresh.{is_single, draws_of, fresh, has_room}
+use Rattle.server_model.specs.Fresh.{is_single, draws_of, fresh}
 use Rattle.server_model.specs.Items.{items_of}
 use Rattle.server_model.specs.Laws.{RunsLegal, RunsFreshNew}
 use Rattle.server_model.specs.NewValues.{grants, kept_by, new_among}
@@ -62,9 +62,9 @@ use Rattle.world_model.proofs.FreshLists.{both_anew, covered, distinct, distinct
 -- A RUN -------------------------------------------------------------------------------------------
 
 module _ (orderly : RunsAreOrderly) (serve : RunsServe) (legal : RunsLegal) (fresh_new : RunsFreshNew) (document : Document) (events : List Event) (notes : List Note) (items : List Served) (seen : Seen) (t : Traced) (calls : all_requests_right document ≡ true)
-    (reached : Reached document events notes items seen t) (room : has_room seen.start (items_of seen.history) (drop t.image t.entries) ≡ true) (value : Draw) (single : is_single value ≡ true) where
+    (reached : Reached document events notes items seen t) (value : Draw) (single : is_single value ≡ true) where
   abbrev gained : List Entry
-  gained = new orderly serve legal fresh_new document events notes items seen t calls reached room
+  gained = new orderly serve legal fresh_new document events notes items seen t calls reached
 
   abbrev drew : (SessionId → Bool) → List Draw
   drew some = drawn_for some seen.start (walk_of seen.start gained) (items_of seen.history)
@@ -75,7 +75,7 @@ module _ (orderly : RunsAreOrderly) (serve : RunsServe) (legal : RunsLegal) (fre
   names_once : times value (drew (among (sessions_of t))) ≤ 1
   names_once =
       let within = drawn_within value (among (sessions_of t)) seen.start (walk_of seen.start gained) (items_of seen.history) in
-      let most = once orderly serve legal fresh_new document events notes items seen t calls reached room value single in
+      let most = once orderly serve legal fresh_new document events notes items seen t calls reached value single in
       omega (arith, within, most)
 
   few : firsts (given t) value (given t) ≤ 1
@@ -100,7 +100,7 @@ module _ (orderly : RunsAreOrderly) (serve : RunsServe) (legal : RunsLegal) (fre
 
   all_once : total all_weight links ≤ 1
   all_once =
-      let all = links_within t seen.start (walk_of seen.start gained) (items_of seen.history) value all_weight links (and_parts (each_pair (λ a b. not (same_session a b)) (sessions_of t)) _ (so_far orderly serve legal fresh_new document events notes items seen t calls reached room).basic.apart).0 (λ index link at. (
+      let all = links_within t seen.start (walk_of seen.start gained) (items_of seen.history) value all_weight links (and_parts (each_pair (λ a b. not (same_session a b)) (sessions_of t)) _ (so_far orderly serve legal fresh_new document events notes items seen t calls reached).basic.apart).0 (λ index link at. (
         (λ none. ap (λ (served : List Handled). total (λ one. times value (anew seen.start (stopped_draws t link.held) one.sent.frame one.served.item)) served) ((has_drawn orderly serve legal fresh_new document events notes items seen t calls reached value (suc index) link at).unnamed none)),
         λ session its.
             let told = link_drew orderly serve legal fresh_new document events notes items seen t calls reached (suc index) link session at its in
@@ -111,7 +111,7 @@ module _ (orderly : RunsAreOrderly) (serve : RunsServe) (legal : RunsLegal) (fre
       omega (arith, all, most)
 
   handled : (index : ℕ) (link : Link) → slice_get links index ≡ Some link → handled_from 0 link.served ≡ true
-  handled index link at = at_link (λ l. handled_from 0 l.served) links (suc index) link (so_far orderly serve legal fresh_new document events notes items seen t calls reached room).wire.handled at
+  handled index link at = at_link (λ l. handled_from 0 l.served) links (suc index) link (so_far orderly serve legal fresh_new document events notes items seen t calls reached).wire.handled at
 
   both_once : total marked_weight links + total plain_weight links ≤ 1
   both_once =
@@ -231,7 +231,7 @@ module _ (orderly : RunsAreOrderly) (serve : RunsServe) (legal : RunsLegal) (fre
   outside_few (session ∷ sessions) apart outside =
       let parts = and_parts (all_with (λ other. not (same_session session other)) sessions) (each_pair (λ a b. not (same_session a b)) sessions) apart in
       let rest = outside_few sessions parts.1 (λ other is. outside other (or_right (same_session other session) (among sessions other) is)) in
-      let own = history_counts seen.start session value seen.history (walk_of seen.start gained) 0 (legal_so_far orderly serve legal fresh_new document events notes items seen t calls reached room) (reached_plain orderly document events notes items seen t calls reached session (outside session (or_left (same_session session session) (among sessions session) (session_self session)))) in
+      let own = history_counts seen.start session value seen.history (walk_of seen.start gained) 0 (legal_so_far orderly serve legal fresh_new document events notes items seen t calls reached) (reached_plain orderly document events notes items seen t calls reached session (outside session (or_left (same_session session session) (among sessions session) (session_self session)))) in
       let both = drawn_apart value (is_session session) (among sessions) (among (session ∷ sessions)) (first_apart session sessions parts.0) seen.start (walk_of seen.start gained) (items_of seen.history) in
       omega (arith, rest, own, both)
 
@@ -241,7 +241,7 @@ module _ (orderly : RunsAreOrderly) (serve : RunsServe) (legal : RunsLegal) (fre
       (λ entry is. list_any-append (same_session (session_of entry.ltxid)) (sessions_of t) (distinct t.outside)
       ∙ ap (λ (test : Bool). among (sessions_of t) (session_of entry.ltxid) || test) (distinct_among t.outside (session_of entry.ltxid))
       ∙ (ap (λ (test : Bool). test || among t.outside (session_of entry.ltxid)) (sym (any_links (session_of entry.ltxid) links)) ∙ is))
-      (sym (ap (list_all (is_of_run t)) (gained_is orderly serve legal fresh_new document events notes items seen t calls reached room)) ∙ (and_parts (list_all (λ one. is_known t (session_of one.ltxid)) t.entries) (list_all (is_of_run t) (drop t.image t.entries)) (so_far orderly serve legal fresh_new document events notes items seen t calls reached room).number.known).1)
+      (sym (ap (list_all (is_of_run t)) (gained_is orderly serve legal fresh_new document events notes items seen t calls reached)) ∙ (and_parts (list_all (λ one. is_known t (session_of one.ltxid)) t.entries) (list_all (is_of_run t) (drop t.image t.entries)) (so_far orderly serve legal fresh_new document events notes items seen t calls reached).number.known).1)
 
   pub value_once : are_stored_once t ≡ true → times value (flat_map draws_of gained) ≤ 1
   value_once stored = by (times value (drew (among t.outside))) (times value (stored_drawn (stored_calls t))) refl refl
@@ -261,7 +261,7 @@ module _ (orderly : RunsAreOrderly) (serve : RunsServe) (legal : RunsLegal) (fre
       outside_once : times value (drew (among t.outside)) ≤ 1
       outside_once =
           let within = drawn_within value (among t.outside) seen.start (walk_of seen.start gained) (items_of seen.history) in
-          let limit = once orderly serve legal fresh_new document events notes items seen t calls reached room value single in
+          let limit = once orderly serve legal fresh_new document events notes items seen t calls reached value single in
           omega (arith, within, limit)
 
       by : (outside stored_so : ℕ) → times value (drew (among t.outside)) ≡ outside → times value (stored_drawn (stored_calls t)) ≡ stored_so → times value (flat_map draws_of gained) ≤ 1
@@ -270,19 +270,19 @@ module _ (orderly : RunsAreOrderly) (serve : RunsServe) (legal : RunsLegal) (fre
       by (suc outside) (suc stored_so) some more =
           let found = some_given t value few (stored_calls t) all_fit (omega (arith, more)) in
           let equal : value ≡ found.0.value = (same_draw_decides value found.0.value).0 found.1.1 in
-          let here : 1 ≤ times value (drew (among (sessions_of t))) = subst (λ (v : Draw). 1 ≤ times v (drew (among (sessions_of t)))) (sym equal) (given_drawn orderly serve legal fresh_new document events notes items seen t calls reached room found.0 found.1.0) in
-          absurd (never_both orderly serve legal fresh_new document events notes items seen t calls reached room value single here (omega (arith, some)))
+          let here : 1 ≤ times value (drew (among (sessions_of t))) = subst (λ (v : Draw). 1 ≤ times v (drew (among (sessions_of t)))) (sym equal) (given_drawn orderly serve legal fresh_new document events notes items seen t calls reached found.0 found.1.0) in
+          absurd (never_both orderly serve legal fresh_new document events notes items seen t calls reached value single here (omega (arith, some)))
 
 -- No value stands twice among what the entries drew that a run added.
 runs_fresh_by_calls : RunsAreOrderly → RunsServe → RunsLegal → RunsFreshNew → (document : Document) (events : List Event) (notes : List Note) (items : List Served) (seen : Seen) (t : Traced) → all_requests_right document ≡ true → Reached document events notes items seen t
-    → has_room seen.start (items_of seen.history) (drop t.image t.entries) ≡ true → are_stored_once t ≡ true → fresh (drop t.image t.entries) ≡ true
-runs_fresh_by_calls orderly serve legal fresh_new document events notes items seen t calls reached room stored =
-    ap fresh (gained_is orderly serve legal fresh_new document events notes items seen t calls reached room)
-    ∙ each_once (flat_map draws_of (new orderly serve legal fresh_new document events notes items seen t calls reached room)) (λ value single. value_once orderly serve legal fresh_new document events notes items seen t calls reached room value single stored)
+    → are_stored_once t ≡ true → fresh (drop t.image t.entries) ≡ true
+runs_fresh_by_calls orderly serve legal fresh_new document events notes items seen t calls reached stored =
+    ap fresh (gained_is orderly serve legal fresh_new document events notes items seen t calls reached)
+    ∙ each_once (flat_map draws_of (new orderly serve legal fresh_new document events notes items seen t calls reached)) (λ value single. value_once orderly serve legal fresh_new document events notes items seen t calls reached value single stored)
 
 pub stored_fresh : RunsAreOrderly → RunsServe → RunsLegal → RunsFreshNew → StoredValuesAreFresh
-stored_fresh orderly serve legal fresh_new document events notes items seen t calls reached room = by (are_stored_once t) refl
+stored_fresh orderly serve legal fresh_new document events notes items seen t calls reached = by (are_stored_once t) refl
   where
     by : (test : Bool) → are_stored_once t ≡ test → implies test (fresh (drop t.image t.entries)) ≡ true
-    by true stored = runs_fresh_by_calls orderly serve legal fresh_new document events notes items seen t calls reached room stored
+    by true stored = runs_fresh_by_calls orderly serve legal fresh_new document events notes items seen t calls reached stored
     by false stored = refl

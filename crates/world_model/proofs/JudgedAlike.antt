@@ -4,7 +4,7 @@ use Rattle.svc_values.specs.declared.entry.Entry.{Entry}
 use Rattle.svc_values.specs.declared.entry.Ltxid.{Ltxid}
 use Rattle.svc_values.specs.declared.frame.Down.TheVariants as down
 use Rattle.server_model.specs.Base.{Base}
-use Rattle.server_model.specs.Fresh.{is_spelled, new_in, drawn_anew, fresh_new, none_twice, have_room, has_room}
+use Rattle.server_model.specs.Fresh.{new_in, drawn_anew, fresh_new, none_twice}
 use Rattle.server_model.specs.Items.{Item, Did, AskTold, AskStopped, asked_of, item_of, items_from}
 use Rattle.server_model.specs.Legal.{item_holds, items_hold, Line, line_in, lines_of, lines_stand, legal}
 use Rattle.server_model.specs.Outcomes.{Telling, Silent, Says, Stopped}
@@ -75,17 +75,3 @@ drawn_plain base walk (AskStopped event x ∷ items) = drawn_plain base (after b
 
 pub fresh_plain : (base : Base) (items : List Item) (entries : List Entry) → fresh_new base (plain_items items) entries ≡ fresh_new base items entries
 fresh_plain base items entries = ap none_twice (drawn_plain base (walk_of base entries) items)
-
-room_plain : (base : Base) (walk : Walk) (items : List Item) → have_room base walk (plain_items items) ≡ have_room base walk items
-room_plain base walk [] = refl
-room_plain base walk (Did event now session thing ∷ items) =
-    let item : Item = Did event now session thing in
-    let here : Walk = entered walk item in
-    ap (λ (more : Bool). is_spelled walk.numbers && more) (room_plain base (after base here item (deed_of base here item)) items)
-room_plain base walk (AskTold event x outcome ∷ items) =
-    ap (λ (more : Bool). is_spelled walk.numbers && more) (room_plain base (after base walk (AskTold event x outcome) (deed_of base walk (AskTold event x outcome))) items)
-room_plain base walk (AskStopped event x ∷ items) =
-    ap (λ (more : Bool). is_spelled walk.numbers && more) (room_plain base (after base walk (AskStopped event x) (deed_of base walk (AskStopped event x))) items)
-
-pub room_is_plain : (base : Base) (items : List Item) (entries : List Entry) → has_room base (plain_items items) entries ≡ has_room base items entries
-room_is_plain base items entries = room_plain base (walk_of base entries) items

@@ -11,7 +11,7 @@ use Rattle.outage_schedule.specs.declared.note.Note.{Note}
 use Rattle.outage_schedule.specs.declared.report.Report.{Report}
 use Rattle.run_clauses.specs.ServiceBase.{service_base}
 use Rattle.server_model.specs.Base.{Base, IsSound}
-use Rattle.server_model.specs.Fresh.{fresh_new, has_room}
+use Rattle.server_model.specs.Fresh.{fresh_new}
 use Rattle.server_model.specs.Items.{Item, items_of}
 use Rattle.server_model.specs.Laws.{RunsLegal, RunsFreshNew}
 use Rattle.server_model.specs.Legal.{legal}
@@ -26,7 +26,7 @@ use Rattle.world_model.specs.Settings.{Setting, setting_of}
 use Rattle.world_model.specs.Traced.{Traced}
 use Rattle.world_model.specs.Walking.{After, Walked, follow, walk}
 use Rattle.world_model.proofs.Items.{follow_local, walk_more}
-use Rattle.world_model.proofs.JudgedAlike.{plain_items, plain_of, history_plain, legal_plain, fresh_plain, room_is_plain}
+use Rattle.world_model.proofs.JudgedAlike.{plain_items, plain_of, history_plain, legal_plain, fresh_plain}
 use Rattle.world_model.proofs.JudgedEvents.{event_takes, event_did}
 use Rattle.world_model.proofs.RunStarts.{finishing_start, finishing_coupled}
 use Rattle.world_model.proofs.RunsFollowed.{reached_setting, reached_walk, finishing_setting}
@@ -156,12 +156,6 @@ module _ (document : Document) (report : Report) (seen : Seen) (t : Traced) (ser
   sound : IsSound (service_base document)
   sound = subst IsSound (finishing_start document is.run.place report.notes report.served seen t is.run.finishing) (finishing_coupled document is.run.place report.notes report.served seen t is.run.finishing).sound
 
-  pub room_alike : has_room (service_base document) (items_of seen.history) report.entries ≡ has_room (service_base document) (judged_items document report) report.entries
-  room_alike =
-      sym (room_is_plain (service_base document) (items_of seen.history) report.entries)
-      ∙ ap (λ (items : List Item). has_room (service_base document) items report.entries) (sym judged_plain)
-      ∙ room_is_plain (service_base document) (judged_items document report) report.entries
-
 pub runs_legal : RunsLegal → RunsAreLegal
 runs_legal law document report seen t server is =
     let base : Base = service_base document in
@@ -174,7 +168,7 @@ runs_legal law document report seen t server is =
     ∙ law base seen.history server (sound document report seen t server is) is.runs coupled.stops
 
 pub runs_fresh_new : RunsFreshNew → RunsAreFreshNew
-runs_fresh_new law document report seen t server is room =
+runs_fresh_new law document report seen t server is =
     let base : Base = service_base document in
     let coupled = finishing_coupled document is.run.place report.notes report.served seen t is.run.finishing in
     sym (fresh_plain base (judged_items document report) report.entries)
@@ -182,4 +176,3 @@ runs_fresh_new law document report seen t server is room =
     ∙ fresh_plain base (items_of seen.history) report.entries
     ∙ ap (fresh_new base (items_of seen.history)) is.entries
     ∙ law base seen.history server (sound document report seen t server is) is.runs coupled.stops
-    (ap (has_room base (items_of seen.history)) (sym is.entries) ∙ room_alike document report seen t server is ∙ room)

@@ -1,4 +1,4 @@
--- Each Begin has the index of the frame that was sent right behind it, at the start and behind each event.
+-- Each Begin has a call right behind it that has its index, at the start and behind each event.
 use Rattle.std.proofs.Common.{◌≡◌, refl, sym, ap, subst, ◌∙◌, Bool, true, false, ℕ, suc, zero, ◌&&◌, fold, List, [], ◌∷◌, ◌++◌, map}
 use Rattle.std.specs.Prelude.{◌==◌, not, unwrap_or}
 use Rattle.std.specs.List.{list_all}
@@ -29,6 +29,7 @@ use Rattle.world_model.specs.Parts.{implies}
 use Rattle.world_model.specs.Reached.{Begins as BeginsRun, GoesOn}
 use Rattle.world_model.specs.RunLaws.{RunsAreOrderly}
 use Rattle.world_model.specs.Settings.{Setting}
+use Rattle.world_model.specs.Shown.{is_call}
 use Rattle.world_model.specs.Traced.{Traced}
 use Rattle.world_model.proofs.AllLists.{append_all}
 use Rattle.world_model.proofs.ClientSteps.{Grows, AsBefore, OneMore, HasStepped, MayStep, Still, Closed, Stepped, happens_step}
@@ -43,14 +44,14 @@ use Rattle.world_model.proofs.Tests.{eq_to}
 leads_on : (xs ys : List Sent) → leads xs ≡ true → leads ys ≡ true → leads (xs ++ ys) ≡ true
 leads_on [] ys one other = other
 leads_on (x ∷ []) [] one other = one
-leads_on (x ∷ []) (y ∷ ys) one other = and_from (implies _ (x.call == y.call)) (leads (y ∷ ys)) (by _ one) other
+leads_on (x ∷ []) (y ∷ ys) one other = and_from (implies _ (is_call y.frame && (x.call == y.call))) (leads (y ∷ ys)) (by _ one) other
   where
-    by : (begins : Bool) → not begins ≡ true → implies begins (x.call == y.call) ≡ true
+    by : (begins : Bool) → not begins ≡ true → implies begins (is_call y.frame && (x.call == y.call)) ≡ true
     by true is = absurd (let none : ⊥ = cc in none)
     by false is = refl
 leads_on (x ∷ next ∷ xs) ys one other =
-    let parts = and_parts (implies _ (x.call == next.call)) (leads (next ∷ xs)) one in
-    and_from (implies _ (x.call == next.call)) (leads (next ∷ xs ++ ys)) parts.0 (leads_on (next ∷ xs) ys parts.1 other)
+    let parts = and_parts (implies _ (is_call next.frame && (x.call == next.call))) (leads (next ∷ xs)) one in
+    and_from (implies _ (is_call next.frame && (x.call == next.call))) (leads (next ∷ xs ++ ys)) parts.0 (leads_on (next ∷ xs) ys parts.1 other)
 
 abbrev all_lead : List (List Sent) → Bool
 all_lead lists = list_all leads lists

@@ -15,7 +15,7 @@ use Rattle.outage_schedule.specs.declared.event.Event.{Event}
 use Rattle.outage_schedule.specs.declared.item.Served.{Served}
 use Rattle.outage_schedule.specs.declared.note.Note.{Note}
 use Rattle.run_clauses.specs.Fresh.{is_given_again}
-use Rattle.server_model.specs.Fresh.{is_single, draws_of, has_room}
+use Rattle.server_model.specs.Fresh.{is_single, draws_of}
 use Rattle.server_model.specs.Items.{items_of}
 use Rattle.server_model.specs.Laws.{RunsLegal, RunsFreshNew}
 use Rattle.server_model.specs.Legal.{items_hold}
@@ -114,7 +114,7 @@ entry_times session value (first ∷ entries) (suc index) entry at own = by (is_
 -- A RUN -------------------------------------------------------------------------------------------
 
 module _ (orderly : RunsAreOrderly) (serve : RunsServe) (legal : RunsLegal) (fresh : RunsFreshNew) (document : Document) (events : List Event) (notes : List Note) (items : List Served) (seen : Seen) (t : Traced) (calls : all_requests_right document ≡ true)
-    (reached : Reached document events notes items seen t) (room : has_room seen.start (items_of seen.history) (drop t.image t.entries) ≡ true) where
+    (reached : Reached document events notes items seen t) where
   abbrev pub new : List Entry
   new = gained orderly serve legal fresh document events notes items seen t calls reached
 
@@ -142,7 +142,7 @@ module _ (orderly : RunsAreOrderly) (serve : RunsServe) (legal : RunsLegal) (fre
   never_both value single here there =
       let all = drawn_apart value (among (sessions_of t)) (among t.outside) (λ session. true) kinds seen.start (walk_of seen.start new) (items_of seen.history) in
       let within = drawn_within value (λ session. true) seen.start (walk_of seen.start new) (items_of seen.history) in
-      let most = once orderly serve legal fresh document events notes items seen t calls reached room value single in
+      let most = once orderly serve legal fresh document events notes items seen t calls reached value single in
       let never : ⊥ = omega (arith, here, there, all, within, most) in
       never
 
@@ -175,7 +175,7 @@ module _ (orderly : RunsAreOrderly) (serve : RunsServe) (legal : RunsLegal) (fre
       of_run : is_of_run t entry ≡ true
       of_run =
           at_all (is_of_run t) new index entry
-          (sym (ap (list_all (is_of_run t)) (gained_is orderly serve legal fresh document events notes items seen t calls reached room))
+          (sym (ap (list_all (is_of_run t)) (gained_is orderly serve legal fresh document events notes items seen t calls reached))
           ∙ (and_parts (list_all (λ one. is_known t (session_of one.ltxid)) t.entries) (list_all (is_of_run t) (drop t.image t.entries)) so_far.number.known).1) at
 
       own : among t.outside (session_of entry.ltxid) ≡ true → list_all known (draws_of entry) ≡ true
@@ -195,7 +195,7 @@ module _ (orderly : RunsAreOrderly) (serve : RunsServe) (legal : RunsLegal) (fre
   entries_drawn value any =
       some_time value (drawn (among t.outside))
       (any_entries known (is_foreign t) value new (by_index (λ entry. implies (is_foreign t entry) (list_all known (draws_of entry))) new entry_drawn)
-      (sym (ap (λ (list : List Entry). list_any (same_draw value) (flat_map draws_of (filter (is_foreign t) list))) (gained_is orderly serve legal fresh document events notes items seen t calls reached room)) ∙ any))
+      (sym (ap (λ (list : List Entry). list_any (same_draw value) (flat_map draws_of (filter (is_foreign t) list))) (gained_is orderly serve legal fresh document events notes items seen t calls reached)) ∙ any))
 
   foreign_drawn : (value : Draw) → list_any (same_draw value) (foreign_draws t) ≡ true → 1 ≤ times value (drawn (among t.outside))
   foreign_drawn value any =
@@ -214,4 +214,4 @@ module _ (orderly : RunsAreOrderly) (serve : RunsServe) (legal : RunsLegal) (fre
       each one stands true is = let again = any_again one.value (foreign_draws t) is in absurd (never_both one.value again.0 (given_drawn one stands) (foreign_drawn one.value again.1))
 
 pub values_own : RunsAreOrderly → RunsServe → RunsLegal → RunsFreshNew → ValuesAreOwn
-values_own orderly serve legal fresh document events notes items seen t calls reached room = none_is_foreign orderly serve legal fresh document events notes items seen t calls reached room
+values_own orderly serve legal fresh document events notes items seen t calls reached = none_is_foreign orderly serve legal fresh document events notes items seen t calls reached

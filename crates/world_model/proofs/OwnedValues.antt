@@ -14,7 +14,7 @@ use Rattle.outage_schedule.specs.declared.event.Event.{Event}
 use Rattle.outage_schedule.specs.declared.item.Served.{Served}
 use Rattle.outage_schedule.specs.declared.note.Note.{Note}
 use Rattle.server_model.specs.Base.{Base}
-use Rattle.server_model.specs.Fresh.{has_room, drawn_anew}
+use Rattle.server_model.specs.Fresh.{drawn_anew}
 use Rattle.server_model.specs.Items.{Item as Plain, items_of}
 use Rattle.server_model.specs.Laws.{RunsLegal, RunsFreshNew}
 use Rattle.server_model.specs.Legal.{items_hold, lines_of, lines_stand}
@@ -35,7 +35,7 @@ use Rattle.world_model.specs.SameLaws.{RunsServe}
 use Rattle.world_model.specs.Sames.{all_with, each_pair}
 use Rattle.world_model.specs.Shown.{in_rows}
 use Rattle.world_model.specs.Traced.{Traced}
-use Rattle.world_model.specs.ValueLaws.{HoldsWithRoom, EndsWithRoom, ValuesHaveOneOwner}
+use Rattle.world_model.specs.ValueLaws.{HoldsAtTheEnd, HoldsOnTheWay, ValuesHaveOneOwner}
 use Rattle.world_model.specs.Wire.{is_fresh, is_sent_front, handled_from, stage_of, is_right}
 use Rattle.world_model.specs.StoredOnce.{stood_in}
 use Rattle.world_model.proofs.AllLinks.{at_link}
@@ -199,25 +199,24 @@ module _ (orderly : RunsAreOrderly) (serve : RunsServe) (legal : RunsLegal) (fre
   all_firsts value =
       links_firsts t seen.start walk plain value t.machine.links (and_parts (each_pair (λ a b. not (same_session a b)) (sessions_of t)) _ inv.basic.apart).0 (λ index link at. has_drawn value (suc index) link at)
 
-  module _ (room : has_room seen.start plain (drop t.image t.entries) ≡ true) where
-    pub gained_is : drop t.image t.entries ≡ gained
-    gained_is = ap (λ (list : List Entry). drop t.image list) entries ∙ (ap (λ (n : ℕ). drop n (seen.start.entries ++ gained)) coupled.image ∙ drop-append_seam seen.start.entries gained)
+  pub gained_is : drop t.image t.entries ≡ gained
+  gained_is = ap (λ (list : List Entry). drop t.image list) entries ∙ (ap (λ (n : ℕ). drop n (seen.start.entries ++ gained)) coupled.image ∙ drop-append_seam seen.start.entries gained)
 
-    pub once : AreOnce (drawn_anew seen.start walk plain)
-    once = once_each (drawn_anew seen.start walk plain) (fresh seen.start seen.history coupled.history.server coupled.sound coupled.history.runs coupled.stops (subst (λ (list : List Entry). has_room seen.start plain list ≡ true) gained_is room))
+  pub once : AreOnce (drawn_anew seen.start walk plain)
+  once = once_each (drawn_anew seen.start walk plain) (fresh seen.start seen.history coupled.history.server coupled.sound coupled.history.runs coupled.stops)
 
-    all_owned : owned t ≡ true
-    all_owned = each_owned (given t) (λ value single.
-        let first = all_firsts value in
-        let within = drawn_within value (among (sessions_of t)) seen.start walk plain in
-        let most = once value single in
-        omega (arith, first, within, most))
+  all_owned : owned t ≡ true
+  all_owned = each_owned (given t) (λ value single.
+      let first = all_firsts value in
+      let within = drawn_within value (among (sessions_of t)) seen.start walk plain in
+      let most = once value single in
+      omega (arith, first, within, most))
 
 pub values_owned : RunsAreOrderly → RunsServe → RunsLegal → RunsFreshNew → ValuesHaveOneOwner
-values_owned orderly serve legal fresh document events notes items seen t calls reached room = all_owned orderly serve legal fresh document events notes items seen t calls reached room
+values_owned orderly serve legal fresh document events notes items seen t calls reached = all_owned orderly serve legal fresh document events notes items seen t calls reached
 
 -- a whole run comes to its end so
-pub at_end : (test : Traced → Bool) → HoldsWithRoom test → EndsWithRoom test
-at_end test holds document notes items seen t calls run room =
+pub at_end : (test : Traced → Bool) → HoldsOnTheWay test → HoldsAtTheEnd test
+at_end test holds document notes items seen t calls run =
     let so = finishing_reached document run.place notes items seen t run.finishing in
-    holds document so.0 notes items seen t calls so.1 room
+    holds document so.0 notes items seen t calls so.1

@@ -20,7 +20,7 @@ use Rattle.world_model.specs.Frames.{Sent, Handled}
 use Rattle.world_model.specs.Links.{Link}
 use Rattle.world_model.specs.Parts.{implies}
 use Rattle.world_model.specs.Sames.{is_of, owned_by, same_owners, same_sent, same_up, is_front}
-use Rattle.world_model.specs.Shown.{calls_on, first_of, first_unmarked, has_unmarked, in_row, is_row, is_scripts, marked_from, unmarked_first}
+use Rattle.world_model.specs.Shown.{calls_on, first_of, first_unmarked, has_unmarked, in_row, is_call, is_row, is_scripts, marked_from, unmarked_first}
 use Rattle.world_model.specs.Traced.{Course}
 use Rattle.world_model.specs.Wire.{New, handled_from, is_right, is_sent_front, stage_of}
 use Rattle.world_model.proofs.AskedNear.{front_all, owners_are}
@@ -85,12 +85,13 @@ module _ (course : Course) where
   lead_on z [] next more front lead begins = absurd (let none : ⊥ = cc in none)
   lead_on z (other ∷ zs) next more front lead begins =
       let same = (and_parts (same_sent next other) (is_front same_sent more zs) front).0 in
-      let parts = and_parts (implies (is_begin z.frame) (z.call == other.call)) (leads (other ∷ zs)) lead in
-      eq_from z.call other.call (sym (ap (λ (test : Bool). implies test (z.call == other.call)) begins) ∙ parts.0) ∙ sym (call_same next other same)
+      let parts = and_parts (implies (is_begin z.frame) (is_call other.frame && (z.call == other.call))) (leads (other ∷ zs)) lead in
+      let both = and_parts (is_call other.frame) (z.call == other.call) (sym (ap (λ (test : Bool). implies test (is_call other.frame && (z.call == other.call))) begins) ∙ parts.0) in
+      eq_from z.call other.call both.1 ∙ sym (call_same next other same)
 
   lead_rest : (z : Sent) (zs : List Sent) → leads (z ∷ zs) ≡ true → leads zs ≡ true
   lead_rest z [] lead = refl
-  lead_rest z (other ∷ zs) lead = (and_parts (implies (is_begin z.frame) (z.call == other.call)) (leads (other ∷ zs)) lead).1
+  lead_rest z (other ∷ zs) lead = (and_parts (implies (is_begin z.frame) (is_call other.frame && (z.call == other.call))) (leads (other ∷ zs)) lead).1
 
   served_leads : (xs zs : List Sent) → is_front same_sent xs zs ≡ true → leads zs ≡ true → list_all begins zs ≡ true → Leads course known next_known xs
   served_leads [] zs front lead all = tt

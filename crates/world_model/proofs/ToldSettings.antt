@@ -231,7 +231,7 @@ module _ (course : Course) (known : ℕ → NamedValues) (next_known : (n : ℕ)
       → (is_call frame ≡ true → is_quiet_item one ≡ true → (is_last one || is_stopped one) ≡ true) → is_right (next_stage stage sent.owner frame) ≡ true
       → in_row n (if owned_by course.owner sent && is_call frame then sent ∷ filter (is_mine course) rests else filter (is_mine course) rests) ≡ true
       → implies (owned_by course.owner sent && is_call frame) (is_scripts course sent frame) ≡ true → LeadsTo sent rests → Stands stage n settings (sent ∷ rests) → Onward (next_stage stage sent.owner frame) (set_by settings thing) rests
-  one_on stage n settings sent rests _ _ _ (DealsBegin first begun) same lives called right row script leads stands =
+  one_on stage n settings sent rests _ _ _ (DealsBegin first) same lives called right row script leads stands =
       let rest_row : in_row n (filter (is_mine course) rests) ≡ true = plain_row n (owned_by course.owner sent) (sent ∷ filter (is_mine course) rests) (filter (is_mine course) rests) row in
       record { index = n; row = rest_row; stands = begins_in stage sent.owner first n first rests (λ own next more is mine. leads first next more same own is mine ∙ ap known (first_at n rests next more is mine rest_row)) }
   one_on stage n settings sent rests _ _ _ DealsEnd same lives called right row script leads stands =

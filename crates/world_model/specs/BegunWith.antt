@@ -16,6 +16,7 @@ use Rattle.world_model.specs.Parts.{implies}
 use Rattle.world_model.specs.Reached.{Reached}
 use Rattle.world_model.specs.Ready.{all_requests_right}
 use Rattle.world_model.specs.Sames.{owned_by}
+use Rattle.world_model.specs.Shown.{is_call}
 use Rattle.world_model.specs.Traced.{Traced, Course, courses_of}
 
 -- the settings that the request's call of this index runs in: those of the request, changed by each `set` before it
@@ -40,7 +41,7 @@ is_begin frame = false
 abbrev pub leads : List Sent → Bool
 leads [] = true
 leads (sent ∷ []) = not (is_begin sent.frame)
-leads (sent ∷ next ∷ others) = implies (is_begin sent.frame) (sent.call == next.call) && leads (next ∷ others)
+leads (sent ∷ next ∷ others) = implies (is_begin sent.frame) (is_call next.frame && (sent.call == next.call)) && leads (next ∷ others)
 
 abbrev pub begins_lead : Traced → Bool
 begins_lead t = list_all (λ link. leads link.sent) t.machine.links
@@ -51,7 +52,7 @@ RunsBeginWith =
     (document : Document) (events : List Event) (notes : List Note) (items : List Served) (seen : Seen) (t : Traced)
     → IsTrue (all_requests_right document) → Reached document events notes items seen t → IsTrue (all_begin_with t)
 
--- and has the index of the frame that was sent right behind it
+-- and that call was sent right behind it
 abbrev pub RunsLead : Type 0
 RunsLead =
     (document : Document) (events : List Event) (notes : List Note) (items : List Served) (seen : Seen) (t : Traced)

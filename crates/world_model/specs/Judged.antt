@@ -14,7 +14,7 @@ use Rattle.outage_schedule.specs.declared.note.NoteRun.{NoteRun}
 use Rattle.outage_schedule.specs.declared.note.OutsideNote.{OutsideNote}
 use Rattle.outage_schedule.specs.declared.report.Report.{Report}
 use Rattle.run_clauses.specs.ServiceBase.{service_base}
-use Rattle.server_model.specs.Fresh.{fresh_new, has_room}
+use Rattle.server_model.specs.Fresh.{fresh_new}
 use Rattle.server_model.specs.Items.{Thing, Connected, Began, Called, MetBlock, Item, Did, thing_of, asked_of}
 use Rattle.server_model.specs.Legal.{legal}
 use Rattle.server_model.specs.Outcomes.{Says}
@@ -89,7 +89,3 @@ is_legal document report = legal (service_base document) (judged_items document 
 -- no value was drawn anew twice
 abbrev pub is_fresh_new : Document → Report → Bool
 is_fresh_new document report = fresh_new (service_base document) (judged_items document report) report.entries
-
--- An opening counts identifiers, and no further than an identifier can spell.
-abbrev pub has_room_for : Document → Report → Bool
-has_room_for document report = has_room (service_base document) (judged_items document report) report.entries

@@ -8,7 +8,7 @@ use Rattle.run_clauses.specs.ServiceBase.{service_base}
 use Rattle.server_model.specs.Runs.{Server, Runs}
 use Rattle.server_model.specs.Seen.{Seen}
 use Rattle.world_model.specs.Followed.{transcripts_of}
-use Rattle.world_model.specs.Judged.{is_legal, is_fresh_new, has_room_for}
+use Rattle.world_model.specs.Judged.{is_legal, is_fresh_new}
 use Rattle.world_model.specs.Reached.{IsRun}
 use Rattle.world_model.specs.Ready.{all_requests_right}
 use Rattle.world_model.specs.Traced.{Traced}
@@ -30,13 +30,11 @@ pub record IsReported (document : Document) (report : Report) (seen : Seen) (t :
 abbrev pub RunsAreLegal : Type 0
 RunsAreLegal = (document : Document) (report : Report) (seen : Seen) (t : Traced) (server : Server) → IsReported document report seen t server → IsTrue (is_legal document report)
 
--- No value was drawn anew twice, as long as identifiers can be spelled.
+-- No value was drawn anew twice.
 abbrev pub RunsAreFreshNew : Type 0
-RunsAreFreshNew =
-    (document : Document) (report : Report) (seen : Seen) (t : Traced) (server : Server) → IsReported document report seen t server → IsTrue (has_room_for document report) → IsTrue (is_fresh_new document report)
+RunsAreFreshNew = (document : Document) (report : Report) (seen : Seen) (t : Traced) (server : Server) → IsReported document report seen t server → IsTrue (is_fresh_new document report)
 
--- No value stands twice among what the entries drew, as long as identifiers can be spelled, where the requests of the document are right.
+-- No value stands twice among what the entries drew, where the requests of the document are right.
 abbrev pub RunsAreFresh : Type 0
 RunsAreFresh =
-    (document : Document) (report : Report) (seen : Seen) (t : Traced) (server : Server)
-    → IsTrue (all_requests_right document) → IsReported document report seen t server → IsTrue (has_room_for document report) → IsTrue (fresh report)
+    (document : Document) (report : Report) (seen : Seen) (t : Traced) (server : Server) → IsTrue (all_requests_right document) → IsReported document report seen t server → IsTrue (fresh report)

@@ -8,15 +8,15 @@ pub fn runs_are_legal()
     server_model::laws::runs_legal();
 }
 
-/// What a run drew anew was drawn once, over all openings, as long as identifiers can be spelled.
+/// What a run drew anew was drawn once, over all openings.
 pub fn runs_are_fresh_new()
     ensures { RunsAreFreshNew }
 {
     server_model::laws::runs_fresh_new();
 }
 
-/// No value stands twice among what the entries of a run drew, in documents whose requests are right, as long as identifiers can be
-/// spelled. A tick of the clock may. A call that was repeated gives its values again, and no call is stored twice.
+/// No value stands twice among what the entries of a run drew, in documents whose requests are right. A tick of the clock may. A call that
+/// was repeated gives its values again, and no call is stored twice.
 pub fn runs_are_fresh()
     ensures { RunsAreFresh }
 {

@@ -3,9 +3,6 @@
 //! of a function with nothing to run.
 ghost use Rattle.world_model.specs.Begins.{carry_settings, sessions_stand, transactions_start};
 ghost use Rattle.world_model.specs.CallEndings.{end_fittingly};
-
-//! How the frames that connections served, and the entries of their sessions, are those of the service, and their calls those of scripts.
-//! Each law is the clause of a function with nothing to run.
 ghost use Rattle.world_model.specs.BegunWith.{RunsBeginWith, RunsLead};
 ghost use Rattle.world_model.specs.Redrawn.{RepeatsRedraw, WholeRepeatsRedraw};
 ghost use Rattle.world_model.specs.Same.{open_entries_known, run_script_calls};

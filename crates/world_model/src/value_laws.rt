@@ -4,7 +4,7 @@ ghost use Rattle.world_model.specs.StoredOnce.{are_stored_once};
 ghost use Rattle.world_model.specs.ValueLaws.{StoredValuesAreFresh, StoredValuesEndFresh, ValuesAreOwn, ValuesEndOwn, ValuesEndWithOneOwner, ValuesHaveOneOwner};
 
 /// Of two values that a run gave to calls and that are the same, the later one is given to a marked call, and both to one call of one
-/// request, as long as identifiers can be spelled. A tick of the clock may come again. It holds wherever a run has come to, and at its end.
+/// request. A tick of the clock may come again. It holds wherever a run has come to, and at its end.
 pub fn values_have_one_owner()
     ensures so_far { ValuesHaveOneOwner }
     ensures whole { ValuesEndWithOneOwner }
@@ -16,7 +16,7 @@ pub fn values_have_one_owner()
 }
 
 /// No value that a run gave to calls is one that a run from outside drew, or that an entry has which the run added and which is of no
-/// connection, as long as identifiers can be spelled. A tick of the clock may be. It holds wherever a run has come to, and at its end.
+/// connection. A tick of the clock may be. It holds wherever a run has come to, and at its end.
 pub fn values_are_own()
     ensures so_far { ValuesAreOwn }
     ensures whole { ValuesEndOwn }
@@ -27,8 +27,8 @@ pub fn values_are_own()
     crate::same_laws::runs_serve();
 }
 
-/// No value stands twice among what the entries drew that a run added, where no two calls that they are of are one call of one request,
-/// as long as identifiers can be spelled. A tick of the clock may. It holds wherever a run has come to, and at its end.
+/// No value stands twice among what the entries drew that a run added, where no two calls that they are of are one call of one request.
+/// A tick of the clock may. It holds wherever a run has come to, and at its end.
 pub fn stored_values_are_fresh()
     ensures so_far { StoredValuesAreFresh }
     ensures whole { StoredValuesEndFresh }
