@@ -1,0 +1,142 @@
+-- The steps of a client, request by request, where it makes one more.
+use Rattle.std.proofs.Common.{◌≡◌, ◌≢◌, refl, sym, ap, subst, ◌∙◌, append-nil, append_assoc, Bool, ℕ, ◌+◌, length, List, [], ◌∷◌, ◌++◌, cond, Option, Some, None, option_map, ◌⊎◌, inl, inr, arith}
+use Rattle.std.specs.Prelude.{◌==◌}
+use Rattle.std.specs.Option.{option_or}
+use Rattle.std.proofs.lemmas.List.{map-append}
+use Rattle.std.proofs.lemmas.List.Elements.{filter-append}
+use Rattle.outage_schedule.specs.declared.document.Request.{Request}
+use Rattle.outage_schedule.specs.declared.note.GoNote.{GoNote}
+use Rattle.shown_clauses.specs.Links.{Seen}
+use Rattle.shown_clauses.specs.Steps.{Step as StepTold, steps_of}
+use Rattle.world_model.specs.Clients.{Step, Doing, Past, Client, client_at, begun, past_of}
+use Rattle.world_model.specs.Invariant.{Invariant}
+use Rattle.world_model.specs.Machines.{Machine}
+use Rattle.world_model.specs.Traced.{Traced}
+use Rattle.shown_laws.specs.Tellings.{Telling, steps_in_tellings, Begins, WasThere, BeginsNow, TellsRequest, NoneYet, OneMore, TellsPast, NonePast, OnePast, TellsNow, NoneNow, OneNow, joined, TellsClient, TellsClients}
+use Rattle.shown_laws.proofs.ClientsMove.{Leads, GoesOn, IsOver, client_own, client_other}
+use Rattle.shown_laws.proofs.Lookups.{either, eq_to, ne_to}
+use Rattle.shown_laws.proofs.StepsTold.{told_step, Acts}
+
+-- REQUESTS ----------------------------------------------------------------------------------------
+
+-- a request more is over
+past_more : (client place : ℕ) (past : List Past) (told : List (List Telling)) (one : Past) (tellings : List Telling) → TellsPast client place past told → TellsRequest client (place + length past) one.request tellings one.steps
+    → TellsPast client place (past ++ one ∷ []) (told ++ tellings ∷ [])
+past_more client _ _ _ one tellings (NonePast place) is =
+    let same : place + 0 ≡ place = omega arith in
+    OnePast place one [] tellings [] (subst (λ (k : ℕ). TellsRequest client k one.request tellings one.steps) same is) (NonePast (place + 1))
+past_more client _ _ _ one tellings (OnePast place first others own more its rest) is =
+    let same : place + length (first ∷ others) ≡ (place + 1) + length others = omega arith in
+    OnePast place first (others ++ one ∷ []) own (more ++ tellings ∷ []) its (past_more client (place + 1) others more one tellings rest (subst (λ (k : ℕ). TellsRequest client k one.request tellings one.steps) same is))
+
+joined_more : (told : List (List Telling)) (tellings : List Telling) → joined (told ++ tellings ∷ []) ≡ joined told ++ tellings
+joined_more [] tellings = append-nil tellings
+joined_more (first ∷ told) tellings = ap (λ (rest : List Telling). first ++ rest) (joined_more told tellings) ∙ sym (append_assoc first (joined told) tellings)
+
+-- the request that is there, or begins now, and what was told of it so far
+pub record Current (t : Traced) (client : ℕ) (own : Client) (doing : Doing) (tellings : List Telling) : Type 0 where
+  pub steps : List Step
+  pub began : List Step
+  pub begins : Begins t own doing steps began
+  pub all : doing.steps ≡ steps ++ began
+  pub told : TellsRequest client (length own.past) doing.request tellings steps
+
+was_now : (t : Traced) (client : ℕ) (own : Client) (doing : Doing) (one : Doing) (tellings : List Telling) → own.now ≡ Some one → one ≡ doing → TellsRequest client (length own.past) one.request tellings one.steps → Current t client own doing tellings
+was_now t client own doing one tellings now same told =
+    let its : TellsRequest client (length own.past) doing.request tellings doing.steps = subst (λ (d : Doing). TellsRequest client (length own.past) d.request tellings d.steps) same told in
+    record { steps = doing.steps; began = []; begins = WasThere (now ∙ ap Some same); all = sym (append-nil doing.steps); told = its }
+
+current : (t : Traced) (client : ℕ) (own : Client) (doing : Doing) (now : Option Doing) (next : Option Request) (tellings : List Telling) → own.now ≡ now → own.next ≡ next
+    → option_or now (option_map (begun t.setting.terms (t.machine.event + 1) t.machine.tick) next) ≡ Some doing → TellsNow client (length own.past) now tellings → Current t client own doing tellings
+current t client own doing _ next _ is_now is_next does (OneNow one tellings told) = was_now t client own doing one tellings is_now (let same : one ≡ doing = cc in same) told
+current t client own doing _ None _ is_now is_next does NoneNow = absurd (let none : ⊥ = cc in none)
+current t client own doing _ (Some request) _ is_now is_next does NoneNow =
+    let same : begun t.setting.terms (t.machine.event + 1) t.machine.tick request ≡ doing = cc in
+    record { steps = []; began = _; begins = BeginsNow request is_now is_next (sym same); all = ap (λ (d : Doing). d.steps) (sym same); told = NoneYet }
+
+-- ONE STEP MORE -----------------------------------------------------------------------------------
+
+module _ (t : Traced) (inv : Invariant t) (seen : Seen) (client : ℕ) (did : GoNote) (n : Machine) (acts : Acts t seen client did n) where
+  telling : List Step → Telling
+  telling began = record { step = told_step t seen client did; acts = began ++ acts.acts }
+
+  request_more : (tellings : List Telling) → Current t client acts.own acts.doing tellings → (one : Telling) × TellsRequest client (length acts.own.past) acts.after.request (tellings ++ one ∷ []) acts.after.steps × (one.step ≡ told_step t seen client did)
+  request_more tellings is =
+      let one : Telling = record { step = told_step t seen client did; acts = is.began ++ acts.acts } in
+      let steps : acts.after.steps ≡ is.steps ++ (is.began ++ acts.acts) = acts.steps ∙ (ap (λ (s : List Step). s ++ acts.acts) is.all ∙ append_assoc is.steps is.began acts.acts) in (
+        record { step = told_step t seen client did; acts = is.began ++ acts.acts },
+        subst (λ (request : Request). TellsRequest client (length acts.own.past) request (tellings ++ record { step = told_step t seen client did; acts = is.began ++ acts.acts } ∷ []) acts.after.steps) (sym acts.request)
+            (subst (TellsRequest client (length acts.own.past) acts.doing.request (tellings ++ record { step = told_step t seen client did; acts = is.began ++ acts.acts } ∷ [])) (sym steps)
+            (OneMore tellings is.steps (record { step = told_step t seen client did; acts = is.began ++ acts.acts }) is.told
+            (record {
+              t = t;
+              inv = inv;
+              own = acts.own;
+              here = acts.here;
+              at = refl;
+              doing = acts.doing;
+              does = acts.does;
+              same = refl;
+              began = is.began;
+              begins = is.begins;
+              acts = acts.acts;
+              all = refl;
+              event = refl;
+              tick = refl;
+              whose = refl;
+              kind = acts.tells;
+            }))),
+        refl,
+      )
+
+  -- what is told of the client then
+  client_more : (told : List StepTold) (next : Client) → Leads t.setting client acts.own acts.after next → TellsClient client acts.own told → TellsClient client next (told ++ told_step t seen client did ∷ [])
+  client_more told next leads is = by next leads (request_more is.now (current t client acts.own acts.doing acts.own.now acts.own.next is.now refl refl acts.does is.tells_now))
+    where
+      longer : (one : Telling) → one.step ≡ told_step t seen client did → told ++ told_step t seen client did ∷ [] ≡ steps_in_tellings (joined is.past ++ (is.now ++ one ∷ []))
+      longer one same =
+          ap (λ (s : List StepTold). s ++ told_step t seen client did ∷ []) is.all
+          ∙ (ap (λ (s : StepTold). steps_in_tellings (joined is.past ++ is.now) ++ s ∷ []) (sym same)
+          ∙ (sym (map-append (λ (x : Telling). x.step) (joined is.past ++ is.now) (one ∷ [])) ∙ ap steps_in_tellings (append_assoc (joined is.past) is.now (one ∷ []))))
+
+      by : (next : Client) → Leads t.setting client acts.own acts.after next
+          → (one : Telling) × TellsRequest client (length acts.own.past) acts.after.request (is.now ++ one ∷ []) acts.after.steps × (one.step ≡ told_step t seen client did) → TellsClient client next (told ++ told_step t seen client did ∷ [])
+      by _ GoesOn more = record { past = is.past; now = is.now ++ more.0 ∷ []; tells_past = is.tells_past; tells_now = OneNow acts.after (is.now ++ more.0 ∷ []) more.1; all = longer more.0 more.2 }
+      by _ IsOver more = record {
+        past = is.past ++ (is.now ++ more.0 ∷ []) ∷ [];
+        now = [];
+        tells_past =
+            let none : 0 + length acts.own.past ≡ length acts.own.past = omega arith in
+            past_more client 0 acts.own.past is.past (past_of t.setting.terms acts.after) (is.now ++ more.0 ∷ []) is.tells_past
+            (subst (λ (k : ℕ). TellsRequest client k acts.after.request (is.now ++ more.0 ∷ []) acts.after.steps) (sym none) more.1);
+        tells_now = NoneNow;
+        all = longer more.0 more.2 ∙ ap steps_in_tellings (sym (append-nil (joined (is.past ++ (is.now ++ more.0 ∷ []) ∷ [])) ∙ joined_more is.past (is.now ++ more.0 ∷ [])));
+      }
+
+  -- the steps of one client, where this one makes a step more
+  own_steps : (told : List StepTold) → steps_of client (told ++ told_step t seen client did ∷ []) ≡ steps_of client told ++ told_step t seen client did ∷ []
+  own_steps told =
+      filter-append (λ (step : StepTold). step.client == client) told (told_step t seen client did ∷ [])
+      ∙ ap (λ (test : Bool). steps_of client told ++ cond test (told_step t seen client did ∷ []) []) (eq_to client client refl)
+
+  other_steps : (other : ℕ) → other ≢ client → (told : List StepTold) → steps_of other (told ++ told_step t seen client did ∷ []) ≡ steps_of other told
+  other_steps other differ told =
+      filter-append (λ (step : StepTold). step.client == other) told (told_step t seen client did ∷ [])
+      ∙ (ap (λ (test : Bool). steps_of other told ++ cond test (told_step t seen client did ∷ []) []) (ne_to client other (λ same. differ (sym same))) ∙ append-nil (steps_of other told))
+
+  -- All clients, where this one makes a step more.
+  pub clients_more : (told : List StepTold) → TellsClients t.machine.clients told → TellsClients n.clients (told ++ told_step t seen client did ∷ [])
+  clients_more told before other own here = by (either other client)
+    where
+      by : (other ≡ client) ⊎ (other ≢ client) → TellsClient other own (steps_of other (told ++ told_step t seen client did ∷ []))
+      by (inl same) =
+          let at : client_at n.clients client ≡ Some acts.moves.next = ap (λ (c : List Client). client_at c client) acts.moves.clients ∙ client_own t.machine.clients client acts.own acts.moves.next acts.here in
+          let both : Some acts.moves.next ≡ Some own = sym at ∙ (ap (client_at n.clients) (sym same) ∙ here) in
+          let is : acts.moves.next ≡ own = cc in
+          subst (λ (k : ℕ). TellsClient k own (steps_of k (told ++ told_step t seen client did ∷ []))) (sym same)
+          (subst (TellsClient client own) (sym (own_steps told))
+          (subst (λ (c : Client). TellsClient client c (steps_of client told ++ told_step t seen client did ∷ [])) is
+          (client_more (steps_of client told) acts.moves.next acts.moves.leads (before client acts.own acts.here))))
+      by (inr differ) =
+          subst (TellsClient other own) (sym (other_steps other differ told))
+          (before other own (sym (client_other t.machine.clients client other acts.moves.next differ) ∙ (ap (λ (c : List Client). client_at c other) (sym acts.moves.clients) ∙ here)))

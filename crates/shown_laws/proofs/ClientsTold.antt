@@ -1,0 +1,106 @@
+-- Wherever a run has come to, the steps that are told of each client are those of its requests.
+use Rattle.std.proofs.Common.{◌≡◌, refl, sym, subst, append-nil, ℕ, zero, suc, List, [], ◌∷◌, ◌++◌, map, Some, IsTrue}
+use Rattle.std.specs.Prelude.{slice_get}
+use Rattle.outage_schedule.specs.declared.document.Document.{Document}
+use Rattle.outage_schedule.specs.declared.document.Request.{Request}
+use Rattle.outage_schedule.specs.declared.event.Event.{Event}
+use Rattle.outage_schedule.specs.declared.item.Served.{Served}
+use Rattle.outage_schedule.specs.declared.note.GoNote.{GoNote}
+use Rattle.outage_schedule.specs.declared.note.Note.{Note}
+use Rattle.outage_schedule.specs.declared.note.Note.TheVariants as note
+use Rattle.server_model.specs.Seen.{Seen}
+use Rattle.shown_clauses.specs.Steps.{Step as StepTold}
+use Rattle.world_model.specs.Clients.{Client, resting}
+use Rattle.world_model.specs.Finishing.{Place}
+use Rattle.world_model.specs.Invariant.{Invariant}
+use Rattle.world_model.specs.KeptLaws.{RunsKeepInvariant, FinishesKeepInvariant}
+use Rattle.world_model.specs.Machines.{Machine, start_of}
+use Rattle.world_model.specs.OneEvent.{OneEvent}
+use Rattle.world_model.specs.Reached.{Reached, Begins, GoesOn, IsFinishing, Scheduled, Finishes}
+use Rattle.world_model.specs.Ready.{all_requests_right}
+use Rattle.world_model.specs.Traced.{Traced}
+use Rattle.shown_laws.specs.ConnectionLaws.{AreTold}
+use Rattle.shown_laws.specs.Growth.{next_told}
+use Rattle.shown_laws.specs.Telling.{seen_told, steps_told, steps_in}
+use Rattle.shown_laws.specs.Tellings.{NonePast, NoneNow, TellsClient, TellsClients, RunsTellSteps, FinishesTellSteps}
+use Rattle.shown_laws.proofs.ChainTold.{clients_more}
+use Rattle.shown_laws.proofs.Clock.{HasCome, grows_on, reached_come, finishing_come}
+use Rattle.shown_laws.proofs.Following.{at_event, Does, Goes, ServesNone, Serves, CutsNone, Cuts, ReapsNone, Reaps, IsDown, Crashes, CrashStops, CrashServes, Ticks, Drains, IsServers, follow_does}
+use Rattle.shown_laws.proofs.GoNotes.{follow_goes}
+use Rattle.shown_laws.proofs.LinksTold.{AllStand, runs_told, finishes_told}
+use Rattle.shown_laws.proofs.StepsTold.{told_steps, StepTells, TellsNone, TellsOne, step_tells}
+
+-- THE START ---------------------------------------------------------------------------------------
+
+fresh_at : {A : Type 0} (script : A → List Request) (all : List A) (index : ℕ) (client : ℕ) (own : Client) → slice_get (map (λ one. resting (script one) []) all) index ≡ Some own → TellsClient client own []
+fresh_at script [] index client own is = absurd (let none : ⊥ = cc in none)
+fresh_at script (one ∷ all) zero client own is =
+    let same : resting (script one) [] ≡ own = cc in
+    subst (λ (c : Client). TellsClient client c []) same (record { past = []; now = []; tells_past = NonePast 0; tells_now = NoneNow; all = refl })
+fresh_at script (one ∷ all) (suc index) client own is = fresh_at script all index client own is
+
+none_told : (document : Document) → TellsClients (start_of document).clients []
+none_told document zero own is = absurd (let none : ⊥ = cc in none)
+none_told document (suc index) own is = fresh_at (λ client. client.requests) document.clients index (suc index) own is
+
+-- EVENTS ------------------------------------------------------------------------------------------
+
+module _ (t : Traced) (inv : Invariant t) (notes : List Note) (items : List Served) (are : AreTold notes items t) (told : List StepTold) (before : TellsClients t.machine.clients told) where
+  -- no step is told
+  quiet : TellsClients t.machine.clients (told ++ [])
+  quiet = subst (TellsClients t.machine.clients) (sym (append-nil told)) before
+
+  goes_on : (client : ℕ) (did : GoNote) (n : Machine) → StepTells t (seen_told notes items) client did n → TellsClients n.clients (told ++ told_steps t (seen_told notes items) client did)
+  goes_on client did n (TellsNone none same) =
+      subst (λ (clients : List Client). TellsClients clients (told ++ told_steps t (seen_told notes items) client did)) (sym same)
+      (subst (λ (more : List StepTold). TellsClients t.machine.clients (told ++ more)) (sym none) quiet)
+  goes_on client did n (TellsOne acts) =
+      subst (λ (more : List StepTold). TellsClients n.clients (told ++ more)) (sym acts.told) (clients_more t inv (seen_told notes items) client did n acts told before)
+
+  event_on : (one : Note) (more : List Served) (n : Machine) → Does t.setting (at_event t.machine) one more n → TellsClients n.clients (told ++ steps_in (seen_told notes items) (next_told t.machine one more))
+  event_on _ _ _ (Goes client did n goes) =
+      goes_on client did n (step_tells t inv (seen_told notes items) are.links.at are.sessions client did n (follow_goes t.setting (at_event t.machine) client did n goes))
+  event_on _ _ _ (ServesNone connection) = quiet
+  event_on _ _ _ (Serves connection name front served at ordinary) = quiet
+  event_on _ _ _ (CutsNone connection) = quiet
+  event_on _ _ _ (Cuts connection up down reached link at) = quiet
+  event_on _ _ _ (ReapsNone connection) = quiet
+  event_on _ _ _ (Reaps connection) = quiet
+  event_on _ _ _ (IsDown connection) = quiet
+  event_on _ _ _ (Crashes connection failover) = quiet
+  event_on _ _ _ (CrashStops connection after failover front served at stopped) = quiet
+  event_on _ _ _ (CrashServes connection failover front served at ordinary) = quiet
+  event_on _ _ _ Ticks = quiet
+  event_on _ _ _ (Drains closed) = quiet
+  event_on _ _ _ (IsServers (note.Up incarnation) server is) = quiet
+  event_on _ _ _ (IsServers (note.UpCrash made) server is) = quiet
+  event_on _ _ _ (IsServers (note.Outside ran) server is) = quiet
+  event_on _ _ _ (IsServers (note.Ask x told) server is) = quiet
+  event_on _ _ _ (IsServers one server is) = absurd (let none : ⊥ = cc in none)
+
+module _ (before after : Seen) (old new : Traced) (event : Event) (note : Note) (notes : List Note) (items more : List Served) (one : OneEvent before old event note more [] after new) (come : HasCome notes items old.machine) (inv : Invariant old) (are : AreTold notes items old) where
+  clients_on : TellsClients old.machine.clients (steps_told notes items) → TellsClients new.machine.clients (steps_told (notes ++ note ∷ []) (items ++ more))
+  clients_on was =
+      subst (TellsClients new.machine.clients) (sym (grows_on before after old new event note notes items more one come).steps)
+      (event_on old inv notes items are (steps_told notes items) was note more new.machine (follow_does old.setting old.machine event note more new.machine one.follows))
+
+-- RUNS --------------------------------------------------------------------------------------------
+
+module _ (kept : RunsKeepInvariant) (stand : AllStand) (document : Document) (right : IsTrue (all_requests_right document)) where
+  reached_steps : (events : List Event) (notes : List Note) (items : List Served) (seen : Seen) (t : Traced) → Reached document events notes items seen t → TellsClients t.machine.clients (steps_told notes items)
+  reached_steps _ _ _ _ _ (Begins seen start history horizon coupled) = none_told document
+  reached_steps _ _ _ _ _ (GoesOn events notes items more before after old new event note reached one forgets) =
+      clients_on before after old new event note notes items more one (reached_come document events notes items before old reached) (kept document events notes items before old right reached)
+      (runs_told kept stand document events notes items before old right reached) (reached_steps events notes items before old reached)
+
+  finishing_steps : FinishesKeepInvariant → (place : Place) (notes : List Note) (items : List Served) (seen : Seen) (t : Traced) → IsFinishing document place notes items seen t → TellsClients t.machine.clients (steps_told notes items)
+  finishing_steps all _ _ _ _ _ (Scheduled notes items seen t reached) = reached_steps document.schedule notes items seen t reached
+  finishing_steps all _ _ _ _ _ (Finishes place later notes items more before after old new event note finishing next one forgets) =
+      clients_on before after old new event note notes items more one (finishing_come document place notes items before old finishing) (all document place notes items before old right finishing)
+      (finishes_told kept all stand document place notes items before old right finishing) (finishing_steps all place notes items before old finishing)
+
+pub runs_tell_steps : RunsKeepInvariant → AllStand → RunsTellSteps
+runs_tell_steps kept stand document events notes items seen t right reached = reached_steps kept stand document right events notes items seen t reached
+
+pub finishes_tell_steps : RunsKeepInvariant → FinishesKeepInvariant → AllStand → FinishesTellSteps
+finishes_tell_steps kept all stand document place notes items seen t right finishing = finishing_steps kept stand document right all place notes items seen t finishing

@@ -1,0 +1,6 @@
+pub mod ClientSteps
+pub mod ConnectionLaws
+pub mod Connections
+pub mod Growth
+pub mod Telling
+pub mod Tellings
