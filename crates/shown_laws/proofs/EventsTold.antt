@@ -18,6 +18,7 @@ use Rattle.world_model.specs.Noting.{only_if}
 use Rattle.world_model.specs.Outside.{closed_by_drain}
 use Rattle.world_model.specs.Serving.{Front, front_at, is_served_by, is_item_of, is_of_front, is_ordinary, reply_of, commits_after, after_front, handled}
 use Rattle.world_model.specs.Settings.{Setting}
+use Rattle.world_model.proofs.Offered.{AreOpenOnce}
 use Rattle.shown_laws.specs.Connections.{TellsAt, NoLink, Unnamed, Named}
 use Rattle.shown_laws.proofs.ConnectionsTold.{AllTold, one_turns, sends_told, cuts_told, falls_told}
 use Rattle.shown_laws.proofs.CrashesTold.{fallen_handled, crash_told}
@@ -28,11 +29,6 @@ use Rattle.shown_laws.proofs.GoNotes.{follow_goes}
 use Rattle.shown_laws.proofs.ItemsTold.{IsFront, front_is, NamesSession, names_session, item_connects, stopped_connects, AreApart, linked_told, ends_told, with_next}
 use Rattle.shown_laws.proofs.Lookups.{changed_own, changed_other, eq_to}
 use Rattle.shown_laws.proofs.TurnsTold.{in_turn_told}
-
--- each of these is open, and stands there once
-abbrev pub AreOpenOnce : List Link → List ℕ → Type 0
-AreOpenOnce links [] = Unit {0}
-AreOpenOnce links (number ∷ numbers) = ((link : Link) → link_at links number ≡ Some link → link.is_open ≡ true) × ((is_among number numbers ≡ false) × AreOpenOnce links numbers)
 
 -- what holds where an event begins
 pub record Stands (m : Machine) : Type 0 where
@@ -76,7 +72,7 @@ reaps_told number links told all =
 -- DRAINS ------------------------------------------------------------------------------------------
 
 -- one that does not stand there is another
-not_among : (number other : ℕ) (numbers : List ℕ) → is_among number (other ∷ numbers) ≡ false → (number ≢ other) × (is_among number numbers ≡ false)
+pub not_among : (number other : ℕ) (numbers : List ℕ) → is_among number (other ∷ numbers) ≡ false → (number ≢ other) × (is_among number numbers ≡ false)
 not_among number other numbers none =
     let parts = or_parts (other == number) (is_among number numbers) none in
     ((λ same. let yes : (other == number) ≡ true = eq_to other number (sym same) in let no : ⊥ = cc in no), parts.1)

@@ -21,6 +21,7 @@ pub mod ReplyTaken
 pub mod RunsGrow
 pub mod SeenLists
 pub mod SessionsApart
+pub mod Standing
 pub mod StepsTold
 pub mod ToldOnce
 pub mod TurnsTold

@@ -4,3 +4,4 @@
 //! It has definitions and their laws, and no code. A law is the contract of a function that does nothing.
 #![tactic(auto)]
 
+pub mod laws;

@@ -1,0 +1,32 @@
+//! What the notes and the served items of a run tell is what its machine did, wherever the run has come to. Each law is the clause of a function
+//! with nothing to run.
+ghost use Rattle.shown_laws.specs.ConnectionLaws.{RunsTellConnections, FinishesTellConnections};
+ghost use Rattle.shown_laws.specs.Growth.{RunsAreCounted, RunsGrow, FinishesAreCounted, FinishesGrow};
+ghost use Rattle.shown_laws.specs.Tellings.{RunsTellSteps, FinishesTellSteps};
+
+/// There are as many events as notes, and as many ticks as are among them. One event more is told behind all others, with its number, its tick,
+/// its note and its items, and what is told of connections and steps grows by it.
+pub fn events_are_told()
+    ensures counted { RunsAreCounted }
+    ensures grow { RunsGrow }
+    ensures finish_counted { FinishesAreCounted }
+    ensures finish_grows { FinishesGrow }
+{}
+
+/// Each connection whose session has its name is told once: with its session, the event that ended it, and the replies that were given and not
+/// taken yet, the ones that may still be taken in front. It is found by its number and by its session.
+pub fn connections_are_told()
+    ensures reached { RunsTellConnections }
+    ensures finishing { FinishesTellConnections }
+{
+    world_model::kept_laws::runs_keep_invariant();
+}
+
+/// The steps that are told of a client are those of its requests, in order, each with what the request did at it: the reply that it took is told by
+/// its item, the session that it acquired by its name, and the connection whose outcome it took by the session of the identifier.
+pub fn steps_are_told()
+    ensures reached { RunsTellSteps }
+    ensures finishing { FinishesTellSteps }
+{
+    world_model::kept_laws::runs_keep_invariant();
+}
