@@ -98,7 +98,7 @@ module _ (setting : Setting) (m : Machine) (number : ℕ) (client : Client) (her
 
   -- what comes of a reply that is taken: it may be over, go on, or lose its connection at once
   pub data TakenSo (a n : Machine) (first : Doing) (link : Link) (held : Hold) : Type 0 where
-    Alive : link.is_open ≡ true → Moves setting m n number client first → TakenSo a n first link held
+    Alive : link.is_open ≡ true → n.clients ≡ with_client m.clients number (after_hold setting number client first held) → Moves setting m n number client first → TakenSo a n first link held
     Ended : link.is_open ≡ false → (held ≡ hold.Keep → ⊥) → Moves setting m n number client first → TakenSo a n first link held
     Lost : link.is_open ≡ false → held ≡ hold.Keep → Moves setting m n number client (heard setting.terms a.event a.tick (record first { connection = None }) (Gone (unwrap_or link.ended 0))) → TakenSo a n first link held
 
@@ -110,7 +110,7 @@ module _ (setting : Setting) (m : Machine) (number : ℕ) (client : Client) (her
 
       by : (opens : Bool) → link.is_open ≡ opens → (held : Hold) → a.clients ≡ with_client m.clients number (after_hold setting number client first held)
           → TakenSo a (if opens then a else lost_at_once setting a number link.ended (doing_at a.clients number)) first link held
-      by true is held now = Alive is (record { next = after_hold setting number client first held; leads = held_leads setting number client first held; clients = now })
+      by true is held now = Alive is now (record { next = after_hold setting number client first held; leads = held_leads setting number client first held; clients = now })
       by false is hold.Keep now =
           Lost is refl
           (subst (λ (doing : Option Doing). Moves setting m (lost_at_once setting a number link.ended doing) number client (heard setting.terms a.event a.tick (record first { connection = None }) (Gone (unwrap_or link.ended 0))))

@@ -19,6 +19,7 @@ use Rattle.world_model.specs.OneEvent.{OneEvent}
 use Rattle.world_model.specs.Reached.{Reached, Begins, GoesOn, IsFinishing, Scheduled, Finishes}
 use Rattle.world_model.specs.Ready.{all_requests_right}
 use Rattle.world_model.specs.Traced.{Traced}
+use Rattle.shown_laws.specs.Closing.{AllUnclosed}
 use Rattle.shown_laws.specs.ConnectionLaws.{AreTold}
 use Rattle.shown_laws.specs.Growth.{next_told}
 use Rattle.shown_laws.specs.Telling.{seen_told, steps_told, steps_in}
@@ -28,6 +29,7 @@ use Rattle.shown_laws.proofs.Clock.{HasCome, grows_on, reached_come, finishing_c
 use Rattle.shown_laws.proofs.Following.{at_event, Does, Goes, ServesNone, Serves, CutsNone, Cuts, ReapsNone, Reaps, IsDown, Crashes, CrashStops, CrashServes, Ticks, Drains, IsServers, follow_does}
 use Rattle.shown_laws.proofs.GoNotes.{follow_goes}
 use Rattle.shown_laws.proofs.LinksTold.{AllStand, runs_told, finishes_told}
+use Rattle.shown_laws.proofs.UnclosedRuns.{reached_unclosed, finishing_unclosed}
 use Rattle.shown_laws.proofs.StepsTold.{told_steps, StepTells, TellsNone, TellsOne, step_tells}
 
 -- THE START ---------------------------------------------------------------------------------------
@@ -45,7 +47,7 @@ none_told document (suc index) own is = fresh_at (λ client. client.requests) do
 
 -- EVENTS ------------------------------------------------------------------------------------------
 
-module _ (t : Traced) (inv : Invariant t) (notes : List Note) (items : List Served) (are : AreTold notes items t) (told : List StepTold) (before : TellsClients t.machine.clients told) where
+module _ (t : Traced) (inv : Invariant t) (notes : List Note) (items : List Served) (are : AreTold notes items t) (unclosed : AllUnclosed t.machine) (told : List StepTold) (before : TellsClients t.machine.clients told) where
   -- no step is told
   quiet : TellsClients t.machine.clients (told ++ [])
   quiet = subst (TellsClients t.machine.clients) (sym (append-nil told)) before
@@ -59,7 +61,7 @@ module _ (t : Traced) (inv : Invariant t) (notes : List Note) (items : List Serv
 
   event_on : (one : Note) (more : List Served) (n : Machine) → Does t.setting (at_event t.machine) one more n → TellsClients n.clients (told ++ steps_in (seen_told notes items) (next_told t.machine one more))
   event_on _ _ _ (Goes client did n goes) =
-      goes_on client did n (step_tells t inv (seen_told notes items) are.links.at are.sessions client did n (follow_goes t.setting (at_event t.machine) client did n goes))
+      goes_on client did n (step_tells t inv (seen_told notes items) are.links.at are.sessions unclosed client did n (follow_goes t.setting (at_event t.machine) client did n goes))
   event_on _ _ _ (ServesNone connection) = quiet
   event_on _ _ _ (Serves connection name front served at ordinary) = quiet
   event_on _ _ _ (CutsNone connection) = quiet
@@ -78,11 +80,11 @@ module _ (t : Traced) (inv : Invariant t) (notes : List Note) (items : List Serv
   event_on _ _ _ (IsServers (note.Ask x told) server is) = quiet
   event_on _ _ _ (IsServers one server is) = absurd (let none : ⊥ = cc in none)
 
-module _ (before after : Seen) (old new : Traced) (event : Event) (note : Note) (notes : List Note) (items more : List Served) (one : OneEvent before old event note more [] after new) (come : HasCome notes items old.machine) (inv : Invariant old) (are : AreTold notes items old) where
+module _ (before after : Seen) (old new : Traced) (event : Event) (note : Note) (notes : List Note) (items more : List Served) (one : OneEvent before old event note more [] after new) (come : HasCome notes items old.machine) (inv : Invariant old) (are : AreTold notes items old) (unclosed : AllUnclosed old.machine) where
   clients_on : TellsClients old.machine.clients (steps_told notes items) → TellsClients new.machine.clients (steps_told (notes ++ note ∷ []) (items ++ more))
   clients_on was =
       subst (TellsClients new.machine.clients) (sym (grows_on before after old new event note notes items more one come).steps)
-      (event_on old inv notes items are (steps_told notes items) was note more new.machine (follow_does old.setting old.machine event note more new.machine one.follows))
+      (event_on old inv notes items are unclosed (steps_told notes items) was note more new.machine (follow_does old.setting old.machine event note more new.machine one.follows))
 
 -- RUNS --------------------------------------------------------------------------------------------
 
@@ -91,13 +93,13 @@ module _ (kept : RunsKeepInvariant) (stand : AllStand) (document : Document) (ri
   reached_steps _ _ _ _ _ (Begins seen start history horizon coupled) = none_told document
   reached_steps _ _ _ _ _ (GoesOn events notes items more before after old new event note reached one forgets) =
       clients_on before after old new event note notes items more one (reached_come document events notes items before old reached) (kept document events notes items before old right reached)
-      (runs_told kept stand document events notes items before old right reached) (reached_steps events notes items before old reached)
+      (runs_told kept stand document events notes items before old right reached) (reached_unclosed kept stand document right events notes items before old reached) (reached_steps events notes items before old reached)
 
   finishing_steps : FinishesKeepInvariant → (place : Place) (notes : List Note) (items : List Served) (seen : Seen) (t : Traced) → IsFinishing document place notes items seen t → TellsClients t.machine.clients (steps_told notes items)
   finishing_steps all _ _ _ _ _ (Scheduled notes items seen t reached) = reached_steps document.schedule notes items seen t reached
   finishing_steps all _ _ _ _ _ (Finishes place later notes items more before after old new event note finishing next one forgets) =
       clients_on before after old new event note notes items more one (finishing_come document place notes items before old finishing) (all document place notes items before old right finishing)
-      (finishes_told kept all stand document place notes items before old right finishing) (finishing_steps all place notes items before old finishing)
+      (finishes_told kept all stand document place notes items before old right finishing) (finishing_unclosed kept stand document right all place notes items before old finishing) (finishing_steps all place notes items before old finishing)
 
 pub runs_tell_steps : RunsKeepInvariant → AllStand → RunsTellSteps
 runs_tell_steps kept stand document events notes items seen t right reached = reached_steps kept stand document right events notes items seen t reached

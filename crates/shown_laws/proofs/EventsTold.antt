@@ -94,7 +94,7 @@ drains_told event (number ∷ numbers) links told idle all =
 
 -- CUTS --------------------------------------------------------------------------------------------
 
-open_is : (links : List Link) (number : ℕ) (link : Link) → open_at links number ≡ Some link → (link_at links number ≡ Some link) × (link.is_open ≡ true)
+pub open_is : (links : List Link) (number : ℕ) (link : Link) → open_at links number ≡ Some link → (link_at links number ≡ Some link) × (link.is_open ≡ true)
 open_is links number link is = by (link_at links number) refl is
   where
     by : (found : Option Link) → link_at links number ≡ found → option_and_then (λ (one : Link). only_if one.is_open one) found ≡ Some link → (link_at links number ≡ Some link) × (link.is_open ≡ true)

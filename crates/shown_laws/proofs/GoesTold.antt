@@ -27,7 +27,7 @@ use Rattle.shown_laws.proofs.Lookups.{with_own, new_own}
 
 -- SILENCE -----------------------------------------------------------------------------------------
 
-abbrev frames_by : Back → Act → List Up
+abbrev pub frames_by : Back → Act → List Up
 frames_by back act = act.send ++ closing act.hold back
 
 either_silent : (back : Back) (test : Bool) (one other : Step) → frames_by back one.1 ≡ [] → frames_by back other.1 ≡ [] → frames_by back (if test then one else other).1 ≡ []
@@ -35,12 +35,12 @@ either_silent back true one other first second = first
 either_silent back false one other first second = second
 
 -- a request that waits sends nothing, nor one whose try failed
-waiting_silent : (terms : Terms) (talk : Talk) (now : ℕ) (back : Back) → frames_by back (talk_step terms talk Waiting now).1 ≡ []
+pub waiting_silent : (terms : Terms) (talk : Talk) (now : ℕ) (back : Back) → frames_by back (talk_step terms talk Waiting now).1 ≡ []
 waiting_silent terms talk now back =
     let from : ℕ = waits_from talk.phase now in
     either_silent back (nat_le terms.limits.wait (now - from)) (fails talk false None (PoolWait from now)) (stands talk (Queued (Some from)), quiet) refl refl
 
-failed_silent : (terms : Terms) (talk : Talk) (now : ℕ) (back : Back) → frames_by back (talk_step terms talk TryFailed now).1 ≡ []
+pub failed_silent : (terms : Terms) (talk : Talk) (now : ℕ) (back : Back) → frames_by back (talk_step terms talk TryFailed now).1 ≡ []
 failed_silent terms talk now back =
     either_silent back (nat_le terms.limits.retries (talk.tries + 1)) (fails (with_tried talk now) false None (Retries (talk.tries + 1))) (stands (with_tried talk now) (Seeking (lost_of talk.phase)), quiet) refl refl
 

@@ -12,6 +12,7 @@ pub mod GoNotes
 pub mod GoesTold
 pub mod HappeningsGrow
 pub mod ItemsTold
+pub mod LinksStay
 pub mod LinksTold
 pub mod Lookups
 pub mod LostTold
@@ -21,7 +22,12 @@ pub mod ReplyTaken
 pub mod RunsGrow
 pub mod SeenLists
 pub mod SessionsApart
+pub mod Single
 pub mod Standing
 pub mod StepsTold
 pub mod ToldOnce
 pub mod TurnsTold
+pub mod Unclosed
+pub mod UnclosedGoes
+pub mod UnclosedRuns
+pub mod UnclosedTakes

@@ -20,19 +20,20 @@ use Rattle.outage_schedule.specs.declared.note.AskResult.{AskResult}
 use Rattle.shown_clauses.specs.Links.{Link as Seen, link_of, link_of_session}
 use Rattle.shown_clauses.specs.Steps.{asked_of}
 use Rattle.world_model.specs.Basic.{first_is_connect, is_named}
-use Rattle.world_model.specs.Frames.{Owner, Sent}
-use Rattle.world_model.specs.Hold.{is_awaited}
+use Rattle.world_model.specs.Frames.{Owner, Sent, Reply}
+use Rattle.world_model.specs.Hold.{is_awaited, same_held}
 use Rattle.world_model.specs.Links.{Link, link_at}
 use Rattle.world_model.specs.Lost.{same_event, is_wanted, lost_links, is_asked_for, wants_lost}
-use Rattle.world_model.specs.Parts.{implies}
+use Rattle.world_model.specs.Number.{last_told, is_told as is_heard}
+use Rattle.world_model.specs.Parts.{is_closed, implies}
 use Rattle.world_model.specs.Sames.{same_owners, same_up}
 use Rattle.world_model.specs.Serving.{is_item_of}
 use Rattle.world_model.specs.Traced.{Traced, Course}
 use Rattle.world_model.specs.Wanted.{Wanted, wanted_in}
 use Rattle.shown_laws.specs.ClientSteps.{TellsReply, TellsLost, LostTold, NoneAsked, WasAsked}
-use Rattle.shown_laws.specs.Connections.{FoundBySession}
+use Rattle.shown_laws.specs.Connections.{TellsEnd, IsOpen, HasEnded, WasClosed, NeverHeard, FoundBySession}
 use Rattle.shown_laws.proofs.ConnectionsTold.{AllTold, told_at}
-use Rattle.shown_laws.proofs.Lookups.{eq_to}
+use Rattle.shown_laws.proofs.Lookups.{eq_from, eq_to}
 use Rattle.shown_laws.proofs.SessionsApart.{at_link}
 
 -- WHAT IS ASKED -----------------------------------------------------------------------------------
@@ -79,9 +80,22 @@ held_session link x named held = by link.session (subst (λ (h : Option Ltxid). 
         let two = and_parts (implies (is_none link.session) (length link.served == 0)) _ one.1 in
         (and_parts (list_all (λ other. option_map_or (same_session other.served.session) link.session false) link.served) _ two.1).1
 
+-- the event that ended a connection on which a reply was taken is told, unless it was closed
+ended_is : (link : Link) (told event : ℕ) (x : Ltxid) → TellsEnd link told → same_event link.ended event ≡ true → is_closed link ≡ false → is_heard link ≡ true → link.held ≡ Some x → told ≡ event
+ended_is link _ event x (IsOpen opens none never) same unclosed heard held =
+    let met : same_event None event ≡ true = subst (λ (ended : Option ℕ). same_event ended event ≡ true) none same in
+    absurd (let no : ⊥ = cc in no)
+ended_is link told event x (HasEnded _ some shut at never) same unclosed heard held = eq_from told event (subst (λ (ended : Option ℕ). same_event ended event ≡ true) at same)
+ended_is link _ event x (WasClosed before shut closed) same unclosed heard held = absurd (let no : ⊥ = cc in no)
+ended_is link _ event x (NeverHeard before shut none empty) same unclosed heard held =
+    let one : same_held (last_told []) link.held ≡ true = subst (λ (taken : List Reply). same_held (last_told taken) link.held ≡ true) none heard in
+    let two : same_held None (Some x) ≡ true = subst (λ (h : Option Ltxid). same_held None h ≡ true) held one in
+    absurd (let no : ⊥ = cc in no)
+
 -- WHAT WAS LOST -----------------------------------------------------------------------------------
 
-module _ (t : Traced) (course : Course) (told : List Seen) (all : AllTold t.machine.links told) (found : FoundBySession told) (named : list_all is_named t.machine.links ≡ true) (lost : wants_lost t course ≡ true) where
+module _ (t : Traced) (course : Course) (told : List Seen) (all : AllTold t.machine.links told) (found : FoundBySession told) (named : list_all is_named t.machine.links ≡ true) (lost : wants_lost t course ≡ true) (heard : list_all is_heard t.machine.links ≡ true)
+    (unclosed : (number : ℕ) (link : Link) → list_any (λ other. other == number) (lost_links course) ≡ true → link_at t.machine.links number ≡ Some link → is_closed link ≡ false) where
   tells_lost : (x : Ltxid) (wanted : Wanted) → wanted_in course.phase ≡ Some wanted → x ≡ wanted.ltxid → TellsLost t course x (link_of_session (session_of x) told)
   tells_lost x wanted wants same = at_number (any_met _ (lost_links course) asked)
     where
@@ -107,6 +121,9 @@ module _ (t : Traced) (course : Course) (told : List Seen) (all : AllTold t.mach
                 seen = seen;
                 found = ap (λ (s : SessionId). link_of_session s told) (its seen here.session) ∙ found number seen is_told;
                 tells = here;
+                ended =
+                    ended_is link seen.ended wanted.event y here.end (and_parts (option_map_or (same_ltxid wanted.ltxid) link.held false) (same_event link.ended wanted.event) is).1 (unclosed number link among there)
+                    (at_link is_heard t.machine.links number link heard there) held;
               }) refl
             where
               session : link.session ≡ Some (session_of y)

@@ -1,9 +1,9 @@
 -- What a step of a client is told as.
-use Rattle.std.proofs.Common.{◌≡◌, refl, sym, ap, subst, ◌∙◌, append_assoc, Bool, true, false, ℕ, zero, suc, ◌+◌, length, List, [], ◌∷◌, ◌++◌, append-nil, Option, Some, None, option_and_then, option_map, if◌then◌else◌}
+use Rattle.std.proofs.Common.{◌≡◌, refl, sym, ap, subst, ◌∙◌, append_assoc, Bool, true, false, ℕ, zero, suc, ◌+◌, length, List, [], ◌∷◌, ◌++◌, append-nil, Option, Some, None, ◌⊎◌, inl, inr, option_and_then, option_map, if◌then◌else◌}
 use Rattle.std.specs.Prelude.{◌==◌, slice_get, slice_set, is_some, is_none, unwrap_or}
-use Rattle.std.specs.List.{list_all}
+use Rattle.std.specs.List.{list_all, list_any}
 use Rattle.std.specs.Option.{option_map_or}
-use Rattle.std.proofs.lemmas.Bool.{and_parts}
+use Rattle.std.proofs.lemmas.Bool.{and_parts, or_cases, or_left, or_right}
 use Rattle.svc_values.specs.declared.entry.Ltxid.{Ltxid}
 use Rattle.svc_values.specs.Identifiers.{same_session, session_of}
 use Rattle.svc_values.specs.Same.{same_bool}
@@ -23,11 +23,13 @@ use Rattle.world_model.specs.Frames.{Reply}
 use Rattle.world_model.specs.Hold.{holds_connection, waits_on, is_held}
 use Rattle.world_model.specs.Invariant.{Invariant}
 use Rattle.world_model.specs.Links.{Link, link_at}
-use Rattle.world_model.specs.Lost.{one_pending, wants_lost}
+use Rattle.world_model.specs.Lost.{without_last, has_last, lost_links, one_pending, wants_lost}
 use Rattle.world_model.specs.Machines.{Machine}
-use Rattle.world_model.specs.Parts.{implies}
+use Rattle.world_model.specs.Parts.{is_closed, implies}
+use Rattle.world_model.specs.Words.{held_in}
 use Rattle.world_model.specs.Traced.{Traced, Course, course_now}
 use Rattle.world_model.specs.Wire.{handled_from, is_answered_in_order}
+use Rattle.shown_laws.specs.Closing.{IsUnclosed, AllUnclosed}
 use Rattle.shown_laws.specs.ClientSteps.{TellsReply, LostTold, IsBare, now_at, after_now, ended_at, GoneBehind, GoesOn, IsOver, IsGone, TellsKind, Rested, FoundNone, Waited, WasLent, HasOpened, HasFailed, HasTaken, HasLost}
 use Rattle.shown_laws.specs.Connections.{FoundBySession}
 use Rattle.shown_laws.specs.Growth.{next_told}
@@ -69,6 +71,26 @@ pub data StepTells (t : Traced) (seen : Seen) (client : ℕ) (did : GoNote) (n :
 bare : (t : Traced) (seen : Seen) (client : ℕ) (did : GoNote) → reply_at seen.links did ≡ None → (told_step t seen client did).session ≡ None → IsBare (told_step t seen client did)
 bare t seen client did none session = record { taken = none; session = session; lost = ap (lost_at seen.links) none }
 
+-- LOST CONNECTIONS --------------------------------------------------------------------------------
+
+without_among : (numbers : List ℕ) (number : ℕ) → list_any (λ other. other == number) (without_last numbers) ≡ true → list_any (λ other. other == number) numbers ≡ true
+without_among [] number among = absurd (let none : ⊥ = cc in none)
+without_among (one ∷ []) number among = absurd (let none : ⊥ = cc in none)
+without_among (one ∷ next ∷ numbers) number among = by (or_cases (one == number) (list_any (λ other. other == number) (without_last (next ∷ numbers))) among) (without_among (next ∷ numbers) number)
+  where
+    by : ((one == number) ≡ true) ⊎ (list_any (λ other. other == number) (without_last (next ∷ numbers)) ≡ true) → (list_any (λ other. other == number) (without_last (next ∷ numbers)) ≡ true → list_any (λ other. other == number) (next ∷ numbers) ≡ true)
+        → list_any (λ other. other == number) (one ∷ next ∷ numbers) ≡ true
+    by (inl here) rest = or_left (one == number) (list_any (λ other. other == number) (next ∷ numbers)) here
+    by (inr there) rest = or_right (one == number) (list_any (λ other. other == number) (next ∷ numbers)) (rest there)
+
+-- it held those that it lost
+lost_held : (course : Course) (number : ℕ) → list_any (λ other. other == number) (lost_links course) ≡ true → list_any (λ other. other == number) (held_in course.steps) ≡ true
+lost_held course number among = by (has_last course) among
+  where
+    by : (last : Bool) → list_any (λ other. other == number) (if last then without_last (held_in course.steps) else held_in course.steps) ≡ true → list_any (λ other. other == number) (held_in course.steps) ≡ true
+    by true is = without_among (held_in course.steps) number is
+    by false is = is
+
 -- SAME CLIENTS ------------------------------------------------------------------------------------
 
 set_same : (clients : List Client) (index : ℕ) (own : Client) → slice_get clients index ≡ Some own → clients ≡ slice_set clients index own
@@ -82,7 +104,7 @@ same_clients clients (suc index) own is = set_same clients index own is
 
 -- ONE STEP ----------------------------------------------------------------------------------------
 
-module _ (t : Traced) (inv : Invariant t) (seen : Seen) (all : AllTold t.machine.links seen.links) (found : FoundBySession seen.links) (client : ℕ) where
+module _ (t : Traced) (inv : Invariant t) (seen : Seen) (all : AllTold t.machine.links seen.links) (found : FoundBySession seen.links) (unclosed : AllUnclosed t.machine) (client : ℕ) where
   abbrev m : Machine
   m = at_event t.machine
 
@@ -159,11 +181,20 @@ module _ (t : Traced) (inv : Invariant t) (seen : Seen) (all : AllTold t.machine
     session_told : (served : Served) → reply_at seen.links (go.Took connection sent) ≡ Some served → (told_step t seen client (go.Took connection sent)).session ≡ (if is_connect served.item then Some served.session else None)
     session_told served is = ap (λ (r : Option Served). greeted (is_hello r) r) is ∙ greets served
 
+    -- one that it lost was not closed
+    unclosed_lost : (number : ℕ) (lost : Link) → list_any (λ other. other == number) (lost_links (course_now t.setting client (length own.past) doing)) ≡ true → link_at t.machine.links number ≡ Some lost → is_closed lost ≡ false
+    unclosed_lost number lost among at =
+        let is : IsUnclosed t.machine.links doing number = unclosed client own doing here now number (lost_held (course_now t.setting client (length own.past) doing) number among) in
+        let both : Some is.link ≡ Some lost = sym is.there ∙ at in
+        let same : is.link ≡ lost = cc in
+        ap is_closed (sym same) ∙ is.never
+
     lost_so : LostTold t (course_now t.setting client (length own.past) doing) (told_step t seen client (go.Took connection sent)).lost (asked_of replied.served.item)
     lost_so =
         subst (λ (l : Option SeenLink). LostTold t (course_now t.setting client (length own.past) doing) l (asked_of replied.served.item)) (sym (ap (lost_at seen.links) replied.taken))
         (lost_told t (course_now t.setting client (length own.past) doing) seen.links all found inv.orderly.basic.named
-        (and_parts _ (wants_lost t (course_now t.setting client (length own.past) doing)) (course_holds (one_pending t) t client own doing inv.lost.pending here now)).1
+        (and_parts _ (wants_lost t (course_now t.setting client (length own.past) doing)) (course_holds (one_pending t) t client own doing inv.lost.pending here now)).1 inv.orderly.number.told
+        (λ number lost among at. unclosed_lost number lost among at)
         (record { client = client; place = length own.past }) link reply.frame replied.served replied.tells)
 
     kind : (more : List Step) → GoneBehind t doing link reply.frame more → TellsKind t client (length own.past) doing (told_step t seen client (go.Took connection sent)) (now_at t doing (Took reply.frame link.is_open) ∷ more)
@@ -171,7 +202,7 @@ module _ (t : Traced) (inv : Invariant t) (seen : Seen) (all : AllTold t.machine
 
     taken_acts : (does : doing_of t.setting.terms (t.machine.event + 1) t.machine.tick own ≡ Some doing) (a n : Machine) → a.event ≡ t.machine.event + 1 → a.tick ≡ t.machine.tick
         → TakenSo t.setting (at_event t.machine) client own here a n (after_now t doing (Took reply.frame link.is_open)) link (now_at t doing (Took reply.frame link.is_open)).done.act.hold → Acts t seen client (go.Took connection sent) n
-    taken_acts does a n event tick (Alive opens moves) = record {
+    taken_acts does a n event tick (Alive opens clients moves) = record {
       own = own;
       here = here;
       doing = doing;

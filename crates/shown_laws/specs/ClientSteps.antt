@@ -46,7 +46,7 @@ pub record TellsReply (owner : Owner) (phase : Phase) (link : Link) (frame : Dow
   pub session : link.session ≡ Some served.session
 
 -- The connection whose outcome is taken, as it is told: that of the session of the identifier. The request lost it, held this identifier on
--- it, and goes by the event that ended it.
+-- it, and goes by the event that is told to have ended it.
 pub record TellsLost (t : Traced) (course : Course) (x : Ltxid) (told : Option Seen) : Type 0 where
   pub wanted : Wanted
   pub wants : wanted_in course.phase ≡ Some wanted
@@ -59,6 +59,7 @@ pub record TellsLost (t : Traced) (course : Course) (x : Ltxid) (told : Option S
   pub seen : Seen
   pub found : told ≡ Some seen
   pub tells : TellsLink number link seen
+  pub ended : seen.ended ≡ wanted.event
 
 -- where no outcome is taken none is told
 pub data LostTold (t : Traced) (course : Course) (told : Option Seen) : Option Ltxid → Type 0 where

@@ -1,4 +1,5 @@
 pub mod ClientSteps
+pub mod Closing
 pub mod ConnectionLaws
 pub mod Connections
 pub mod Growth

@@ -1,5 +1,6 @@
 //! What the notes and the served items of a run tell is what its machine did, wherever the run has come to. Each law is the clause of a function
 //! with nothing to run.
+ghost use Rattle.shown_laws.specs.Closing.{RunsLeaveUnclosed, FinishesLeaveUnclosed};
 ghost use Rattle.shown_laws.specs.ConnectionLaws.{RunsTellConnections, FinishesTellConnections};
 ghost use Rattle.shown_laws.specs.Growth.{RunsAreCounted, RunsGrow, FinishesAreCounted, FinishesGrow};
 ghost use Rattle.shown_laws.specs.Tellings.{RunsTellSteps, FinishesTellSteps};
@@ -22,8 +23,18 @@ pub fn connections_are_told()
     world_model::kept_laws::runs_keep_invariant();
 }
 
+/// No Close was sent on a connection that a request in course held: those that it lost were cut, or ended by a crash or a block, and the event
+/// that ended them is told.
+pub fn held_connections_stay_unclosed()
+    ensures reached { RunsLeaveUnclosed }
+    ensures finishing { FinishesLeaveUnclosed }
+{
+    world_model::kept_laws::runs_keep_invariant();
+}
+
 /// The steps that are told of a client are those of its requests, in order, each with what the request did at it: the reply that it took is told by
-/// its item, the session that it acquired by its name, and the connection whose outcome it took by the session of the identifier.
+/// its item, the session that it acquired by its name, and the connection whose outcome it took by the session of the identifier, with the event that
+/// ended it.
 pub fn steps_are_told()
     ensures reached { RunsTellSteps }
     ensures finishing { FinishesTellSteps }
