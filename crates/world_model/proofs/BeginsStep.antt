@@ -205,15 +205,15 @@ module _ (setting : Setting) (m : Machine) (talks : AllTalk setting.terms m.clie
 
   -- BEHIND AN OUTCOME -----------------------------------------------------------------------------
 
-  asked_by : (asking : Asking) (input : Input) → heard_in step.before.talk.phase input ≡ Asked asking → step.before.talk.phase ≡ Asked asking
+  pub asked_by : (asking : Asking) (input : Input) → heard_in step.before.talk.phase input ≡ Asked asking → step.before.talk.phase ≡ Asked asking
   asked_by asking (Lent connection ltxid) same = absurd (let none : ⊥ = cc in none)
   asked_by asking input same = same
 
   module _ (asking : Asking) (asked : step.before.talk.phase ≡ Asked asking) where
-    call_is : asking.track.call ≡ length before.shown
+    pub call_is : asking.track.call ≡ length before.shown
     call_is = (fits_before (Asked asking) asked).0.tracked.call
 
-    lost_call : (call : Call) × (slice_get request.calls (length before.shown) ≡ Some call)
+    pub lost_call : (call : Call) × (slice_get request.calls (length before.shown) ≡ Some call)
     lost_call = let left = (fits_before (Asked asking) asked).0.left in (left.one, ap (slice_get request.calls) (sym call_is) ∙ left.is)
 
     -- a call that it showed

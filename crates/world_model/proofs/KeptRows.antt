@@ -132,7 +132,7 @@ module _ (t : Traced) (m : Machine) (number : ℕ) (n : Machine) (step : HasStep
       eq_from (length asking.track.recorder.calls + recorded_from course.report.calls) asking.track.call
       (and_parts (same_digests asking.track.recorder.calls told.since_purge) (length asking.track.recorder.calls + recorded_from course.report.calls == asking.track.call) recorded).1
 
-  before_kept : list_all (is_kept t) (courses_of t) ≡ true → (asking : Asking) → step.before.talk.phase ≡ Asked asking → asking.track.why ≡ None
+  pub before_kept : list_all (is_kept t) (courses_of t) ≡ true → (asking : Asking) → step.before.talk.phase ≡ Asked asking → asking.track.why ≡ None
       → length asking.track.recorder.calls + recorded_from (map shown_call (account_now t.setting.terms step.before).shown) ≡ asking.track.call
   before_kept old asking phase why = by step.client.now refl step.client.next step.does
     where

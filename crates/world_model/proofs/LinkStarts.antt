@@ -35,7 +35,7 @@ use Rattle.world_model.proofs.RanStarts.{IsKnown, all_known, follows_so}
 
 -- FRAMES THAT ARE THE SAME ------------------------------------------------------------------------
 
-owner_same : (a b : Sent) → same_sent a b ≡ true → a.owner ≡ b.owner
+pub owner_same : (a b : Sent) → same_sent a b ≡ true → a.owner ≡ b.owner
 owner_same a b same = owners_are a.owner b.owner (and_parts (same_owners a.owner b.owner) ((a.call == b.call) && same_up a.frame b.frame) same).0
 
 settings_alike : (request : Request) (index : ℕ) (a b : Up) → same_up a b ≡ true → carries_settings request index b ≡ true → carries_settings request index a ≡ true
@@ -67,7 +67,7 @@ module _ (course : Course) where
       by true carry = settings_alike course.request b.call a.frame b.frame (same_frames a b same) carry
 
   -- the Begin before it, in each of two rows that are the same
-  data IsAlike : Option Sent → Option Sent → Type 0 where
+  pub data IsAlike : Option Sent → Option Sent → Type 0 where
     Neither : IsAlike None None
     Both : (a b : Sent) → same_sent a b ≡ true → IsAlike (Some a) (Some b)
 
@@ -88,7 +88,7 @@ module _ (course : Course) where
       (and_from (x.call == a.call) (same_owners a.owner x.owner) (ap (λ (n : ℕ). n == a.call) (call_same course x z same) ∙ (ap (λ (n : ℕ). z.call == n) (call_same course a b begin) ∙ two.0))
       (ap (λ (owner : Option Owner). same_owners owner x.owner) (owner_same a b begin) ∙ (ap (same_owners b.owner) (owner_same x z same) ∙ two.1)))
 
-  front_follows : (begin other : Option Sent) (xs zs : List Sent) → IsAlike begin other → is_front same_sent xs zs ≡ true → followed_at_once other zs ≡ true → follows_so begin xs ≡ true
+  pub front_follows : (begin other : Option Sent) (xs zs : List Sent) → IsAlike begin other → is_front same_sent xs zs ≡ true → followed_at_once other zs ≡ true → follows_so begin xs ≡ true
   front_follows begin other [] zs alike front follow = refl
   front_follows begin other (x ∷ xs) [] alike front follow = absurd (let none : ⊥ = cc in none)
   front_follows begin other (x ∷ xs) (z ∷ zs) alike front follow =

@@ -61,7 +61,7 @@ module _ (course : Course) where
   since n = settings_before course.request n
 
   -- the call behind a Begin is of its index
-  row_from : (n : ℕ) (begin : Sent) (rests : List Sent) → owned_by course.owner begin ≡ true → follows_so (Some begin) rests ≡ true → in_row n (filter (is_mine course) rests) ≡ true → in_row begin.call (filter (is_mine course) rests) ≡ true
+  pub row_from : (n : ℕ) (begin : Sent) (rests : List Sent) → owned_by course.owner begin ≡ true → follows_so (Some begin) rests ≡ true → in_row n (filter (is_mine course) rests) ≡ true → in_row begin.call (filter (is_mine course) rests) ≡ true
   row_from n begin [] own follow row = refl
   row_from n begin (next ∷ rests) own follow row = subst (λ (k : ℕ). in_row k (filter (is_mine course) (next ∷ rests)) ≡ true) at row
     where

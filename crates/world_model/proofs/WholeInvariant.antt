@@ -24,6 +24,7 @@ use Rattle.world_model.proofs.KeptAnswers.{answers_law}
 use Rattle.world_model.proofs.KeptApart.{apart_law}
 use Rattle.world_model.proofs.KeptAsks.{asks_law}
 use Rattle.world_model.proofs.KeptCompleted.{completed_law}
+use Rattle.world_model.proofs.KeptDecided.{decided_law}
 use Rattle.world_model.proofs.KeptEnded.{ended_law}
 use Rattle.world_model.proofs.KeptEvents.{events_law}
 use Rattle.world_model.proofs.KeptFates.{fates_law}
@@ -169,6 +170,7 @@ module _ (keeps : EachKeeps) (numbers : EntryNumbers) (orderly : RunsAreOrderly)
         started = started document _ _ _ seen (traced_start document) calls reached;
         settings = settings_law.at_start document;
         followed = followed_law.at_start document;
+        decided = decided_law.at_start document;
       }
   reached_invariant document _ _ _ _ _ calls (GoesOn events notes items more before after old new event note reached one forgets) =
       let inv = reached_invariant document events notes items before old calls reached in
@@ -182,6 +184,7 @@ module _ (keeps : EachKeeps) (numbers : EntryNumbers) (orderly : RunsAreOrderly)
         started = started document _ _ _ after new calls now;
         settings = settings_law.at_event before after old new event note more [] one inv.orderly inv.settings;
         followed = followed_law.at_event before after old new event note more [] one inv.orderly inv.followed;
+        decided = decided_law.at_event before after old new event note more [] one inv.orderly inv.decided;
       }
 
   pub finishing_invariant : FinishesKeepInvariant

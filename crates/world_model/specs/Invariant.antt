@@ -11,6 +11,7 @@ use Rattle.world_model.specs.Shown.{Shown}
 use Rattle.world_model.specs.Lost.{Lost}
 use Rattle.world_model.specs.Once.{Once}
 use Rattle.world_model.specs.Begins.{are_followed, carry_settings}
+use Rattle.world_model.specs.FirstCalls.{begin_decided}
 use Rattle.world_model.specs.Same.{entries_ran, entries_started}
 
 -- What stands on itself: it is kept with nothing of the rest, and is all that serving and sending need.
@@ -34,3 +35,5 @@ pub record Invariant (t : Traced) : Type 0 where
   -- each Begin carries its request's settings, changed by each `set` before the call that follows it at once
   pub settings : IsTrue (carry_settings t)
   pub followed : IsTrue (are_followed t)
+  -- this is its first call, or behind one that was shown with a decided commit
+  pub decided : IsTrue (begin_decided t)

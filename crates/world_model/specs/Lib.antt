@@ -9,6 +9,7 @@ pub mod CrashCount
 pub mod Crashing
 pub mod Cutting
 pub mod Finishing
+pub mod FirstCalls
 pub mod Followed
 pub mod Forgets
 pub mod Frames

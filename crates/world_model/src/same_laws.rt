@@ -2,8 +2,9 @@
 //! settings those of requests; how the answers to calls end, that replies were shown, and what repeated calls draw. Each law is the clause
 //! of a function with nothing to run.
 ghost use Rattle.world_model.specs.Begins.{carry_settings, sessions_stand, transactions_start};
-ghost use Rattle.world_model.specs.CallEndings.{end_fittingly};
 ghost use Rattle.world_model.specs.BegunWith.{RunsBeginWith, RunsLead};
+ghost use Rattle.world_model.specs.CallEndings.{end_fittingly};
+ghost use Rattle.world_model.specs.FirstCalls.{transactions_begin};
 ghost use Rattle.world_model.specs.Redrawn.{RepeatsRedraw, WholeRepeatsRedraw};
 ghost use Rattle.world_model.specs.Same.{open_entries_known, run_script_calls};
 ghost use Rattle.world_model.specs.SameLaws.{FollowsInvariant, HoldsAtEnds, HoldsInRuns, RunsFollowScripts, RunsRan, RunsServe, RunsStoreScripts, WholeRunsFollowScripts, WholeRunsStoreScripts, RunsStarted, SettingsGoOn};
@@ -78,6 +79,13 @@ pub fn transactions_start_rightly()
 /// call of this, or before that one where it has none.
 pub fn sessions_have_settings()
     ensures { FollowsInvariant sessions_stand }
+{}
+
+/// In each such state: a transaction that was run on a connection that a request held, and that has a call of this request, begins with the
+/// request's first call, with one behind a call that was shown with a decided commit, or with one behind a call that the connection served with
+/// answers that ended a transaction.
+pub fn transactions_begin_rightly()
+    ensures { FollowsInvariant transactions_begin }
 {}
 
 /// So they go on from one transaction of a request to the next: the settings before a call, changed by each `set` of so many calls from there on,
