@@ -106,13 +106,13 @@ open_is links number link is = by (link_at links number) refl is
 -- EVENTS ------------------------------------------------------------------------------------------
 
 module _ (setting : Setting) (m : Machine) (stands : Stands m) (some : 0 < m.event) (seen : AllSeen) (all : AllTold m.links seen.links) where
-  names_ordinary : (number : ℕ) (front : Front) (served : Served) → front_at m.links number ≡ Some front → is_ordinary m front served ≡ true → (is_item_of front.first.frame served.item ≡ true) × NamesSession front served
+  pub names_ordinary : (number : ℕ) (front : Front) (served : Served) → front_at m.links number ≡ Some front → is_ordinary m front served ≡ true → (is_item_of front.first.frame served.item ≡ true) × NamesSession front served
   names_ordinary number front served at ordinary =
       let parts = and_parts (is_of_front m front served) (is_item_of front.first.frame served.item) ordinary in
       let mine = and_parts (served.event == m.event) (is_served_by m.server front.link front.first.frame served.session) parts.0 in
       (parts.1, names_session m.server front served (stands.fresh number front at) mine.1 (item_connects front.first.frame served.item parts.1))
 
-  names_stopped : (number after : ℕ) (front : Front) (served : Served) → front_at m.links number ≡ Some front → is_stopped m after front served ≡ true → NamesSession front served
+  pub names_stopped : (number after : ℕ) (front : Front) (served : Served) → front_at m.links number ≡ Some front → is_stopped m after front served ≡ true → NamesSession front served
   names_stopped number after front served at stopped =
       let within : Bool = nat_lt after (m.server.per_record * (1 + sequences_in front.first.frame)) in
       let parts = and_parts (is_of_front m front served) (is_crashed_item front.first.frame served.item && nat_lt after (m.server.per_record * (1 + sequences_in front.first.frame))) stopped in

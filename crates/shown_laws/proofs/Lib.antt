@@ -26,6 +26,10 @@ pub mod Single
 pub mod Standing
 pub mod StepsTold
 pub mod ToldOnce
+pub mod TurnsEvents
+pub mod TurnsKept
+pub mod TurnsRuns
+pub mod TurnsServed
 pub mod TurnsTold
 pub mod Unclosed
 pub mod UnclosedGoes

@@ -183,7 +183,7 @@ lone_first test (first ∷ told) number one once is met lone =
         let yes : test first ≡ true = subst (λ (l : Link). test l ≡ true) (sym same) met in
         absurd (let no : ⊥ = cc in no)
 
-session_told : (number : ℕ) (found : Option Connection) (one : Option Link) (link : Link) → TellsAt number found one → one ≡ Some link → (own : Connection) × ((found ≡ Some own) × (own.session ≡ Some link.session))
+pub session_told : (number : ℕ) (found : Option Connection) (one : Option Link) (link : Link) → TellsAt number found one → one ≡ Some link → (own : Connection) × ((found ≡ Some own) × (own.session ≡ Some link.session))
 session_told number _ _ link NoLink is = absurd (let no : ⊥ = cc in no)
 session_told number _ _ link (Unnamed own here) is = absurd (let no : ⊥ = cc in no)
 session_told number _ _ link (Named own seen here) is = let same : seen ≡ link = cc in (own, (refl, here.session ∙ ap (λ (l : Link). Some l.session) same))

@@ -33,7 +33,7 @@ use Rattle.shown_laws.proofs.Unclosed.{still_unclosed, held_more, acting}
 use Rattle.shown_laws.proofs.UnclosedGoes.{same_had, lost_had, OthersStay, all_from, after_held, leads_held, keep_stay, quiet_stay, other_stay, quiet_all, lends_all, opens_all, loses_all}
 
 -- what is lost at once leaves the connections
-unless_links : (setting : Setting) (a : Machine) (client : ℕ) (link : Link) → (unless_open setting a client link).links ≡ a.links
+pub unless_links : (setting : Setting) (a : Machine) (client : ℕ) (link : Link) → (unless_open setting a client link).links ≡ a.links
 unless_links setting a client link = by link.is_open
   where
     once : (doing : Option Doing) → (lost_at_once setting a client link.ended doing).links ≡ a.links

@@ -5,3 +5,4 @@ pub mod Connections
 pub mod Growth
 pub mod Telling
 pub mod Tellings
+pub mod TurnLaws

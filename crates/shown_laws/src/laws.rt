@@ -3,6 +3,7 @@
 ghost use Rattle.shown_laws.specs.Closing.{RunsLeaveUnclosed, FinishesLeaveUnclosed};
 ghost use Rattle.shown_laws.specs.ConnectionLaws.{RunsTellConnections, FinishesTellConnections};
 ghost use Rattle.shown_laws.specs.Growth.{RunsAreCounted, RunsGrow, FinishesAreCounted, FinishesGrow};
+ghost use Rattle.shown_laws.specs.TurnLaws.{RunsTellTurns, FinishesTellTurns};
 ghost use Rattle.shown_laws.specs.Tellings.{RunsTellSteps, FinishesTellSteps};
 
 /// There are as many events as notes, and as many ticks as are among them. One event more is told behind all others, with its number, its tick,
@@ -38,6 +39,15 @@ pub fn held_connections_stay_unclosed()
 pub fn steps_are_told()
     ensures reached { RunsTellSteps }
     ensures finishing { FinishesTellSteps }
+{
+    world_model::kept_laws::runs_keep_invariant();
+}
+
+/// The turn that is told of a connection has the calls that its session served since the last Begin, with their marks, the newest first: those
+/// that were blocked and those that a crash stopped among them.
+pub fn turns_are_told()
+    ensures reached { RunsTellTurns }
+    ensures finishing { FinishesTellTurns }
 {
     world_model::kept_laws::runs_keep_invariant();
 }
