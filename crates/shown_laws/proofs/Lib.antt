@@ -1,3 +1,4 @@
+pub mod ActsTold
 pub mod ChainTold
 pub mod ClientsMove
 pub mod ClientsTold
@@ -17,6 +18,7 @@ pub mod LinksTold
 pub mod Lookups
 pub mod LostTold
 pub mod NoClose
+pub mod Offered
 pub mod RepliesTold
 pub mod ReplyTaken
 pub mod RunsGrow
