@@ -2,6 +2,7 @@
 use Rattle.std.proofs.Common.{◌≡◌, refl, sym, ap, ◌∙◌, append-nil, append_assoc, ℕ, List, [], ◌∷◌, ◌++◌}
 use Rattle.outage_schedule.specs.declared.document.Request.{Request}
 use Rattle.world_model.specs.Clients.{Step}
+use Rattle.world_model.specs.Settings.{Setting}
 use Rattle.shown_laws.specs.Tellings.{Telling, TellsRequest, NoneYet, OneMore}
 
 -- one after the other
@@ -13,6 +14,6 @@ acts_more : (tellings : List Telling) (one : Telling) → acts_in (tellings ++ o
 acts_more [] one = append-nil one.acts
 acts_more (first ∷ tellings) one = ap (λ (rest : List Step). first.acts ++ rest) (acts_more tellings one) ∙ sym (append_assoc first.acts (acts_in tellings) one.acts)
 
-pub acts_told : (client place : ℕ) (request : Request) (tellings : List Telling) (steps : List Step) → TellsRequest client place request tellings steps → acts_in tellings ≡ steps
-acts_told client place request _ _ NoneYet = refl
-acts_told client place request _ _ (OneMore tellings steps one told step) = acts_more tellings one ∙ ap (λ (rest : List Step). rest ++ one.acts) (acts_told client place request tellings steps told)
+pub acts_told : (setting : Setting) (client place : ℕ) (request : Request) (tellings : List Telling) (steps : List Step) → TellsRequest setting client place request tellings steps → acts_in tellings ≡ steps
+acts_told setting client place request _ _ NoneYet = refl
+acts_told setting client place request _ _ (OneMore tellings steps one told step) = acts_more tellings one ∙ ap (λ (rest : List Step). rest ++ one.acts) (acts_told setting client place request tellings steps told)

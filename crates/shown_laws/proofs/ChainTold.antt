@@ -11,6 +11,7 @@ use Rattle.shown_clauses.specs.Steps.{Step as StepTold, steps_of}
 use Rattle.world_model.specs.Clients.{Step, Doing, Past, Client, client_at, begun, past_of}
 use Rattle.world_model.specs.Invariant.{Invariant}
 use Rattle.world_model.specs.Machines.{Machine}
+use Rattle.world_model.specs.Settings.{Setting}
 use Rattle.world_model.specs.Traced.{Traced}
 use Rattle.shown_laws.specs.Tellings.{Telling, steps_in_tellings, Begins, WasThere, BeginsNow, TellsRequest, NoneYet, OneMore, TellsPast, NonePast, OnePast, TellsNow, NoneNow, OneNow, joined, TellsClient, TellsClients}
 use Rattle.shown_laws.proofs.ClientsMove.{Leads, GoesOn, IsOver, client_own, client_other}
@@ -20,14 +21,14 @@ use Rattle.shown_laws.proofs.StepsTold.{told_step, Acts}
 -- REQUESTS ----------------------------------------------------------------------------------------
 
 -- a request more is over
-past_more : (client place : ℕ) (past : List Past) (told : List (List Telling)) (one : Past) (tellings : List Telling) → TellsPast client place past told → TellsRequest client (place + length past) one.request tellings one.steps
-    → TellsPast client place (past ++ one ∷ []) (told ++ tellings ∷ [])
-past_more client _ _ _ one tellings (NonePast place) is =
+past_more : (setting : Setting) (client place : ℕ) (past : List Past) (told : List (List Telling)) (one : Past) (tellings : List Telling) → TellsPast setting client place past told → TellsRequest setting client (place + length past) one.request tellings one.steps
+    → TellsPast setting client place (past ++ one ∷ []) (told ++ tellings ∷ [])
+past_more setting client _ _ _ one tellings (NonePast place) is =
     let same : place + 0 ≡ place = omega arith in
-    OnePast place one [] tellings [] (subst (λ (k : ℕ). TellsRequest client k one.request tellings one.steps) same is) (NonePast (place + 1))
-past_more client _ _ _ one tellings (OnePast place first others own more its rest) is =
+    OnePast place one [] tellings [] (subst (λ (k : ℕ). TellsRequest setting client k one.request tellings one.steps) same is) (NonePast (place + 1))
+past_more setting client _ _ _ one tellings (OnePast place first others own more its rest) is =
     let same : place + length (first ∷ others) ≡ (place + 1) + length others = omega arith in
-    OnePast place first (others ++ one ∷ []) own (more ++ tellings ∷ []) its (past_more client (place + 1) others more one tellings rest (subst (λ (k : ℕ). TellsRequest client k one.request tellings one.steps) same is))
+    OnePast place first (others ++ one ∷ []) own (more ++ tellings ∷ []) its (past_more setting client (place + 1) others more one tellings rest (subst (λ (k : ℕ). TellsRequest setting client k one.request tellings one.steps) same is))
 
 joined_more : (told : List (List Telling)) (tellings : List Telling) → joined (told ++ tellings ∷ []) ≡ joined told ++ tellings
 joined_more [] tellings = append-nil tellings
@@ -39,15 +40,15 @@ pub record Current (t : Traced) (client : ℕ) (own : Client) (doing : Doing) (t
   pub began : List Step
   pub begins : Begins t own doing steps began
   pub all : doing.steps ≡ steps ++ began
-  pub told : TellsRequest client (length own.past) doing.request tellings steps
+  pub told : TellsRequest t.setting client (length own.past) doing.request tellings steps
 
-was_now : (t : Traced) (client : ℕ) (own : Client) (doing : Doing) (one : Doing) (tellings : List Telling) → own.now ≡ Some one → one ≡ doing → TellsRequest client (length own.past) one.request tellings one.steps → Current t client own doing tellings
+was_now : (t : Traced) (client : ℕ) (own : Client) (doing : Doing) (one : Doing) (tellings : List Telling) → own.now ≡ Some one → one ≡ doing → TellsRequest t.setting client (length own.past) one.request tellings one.steps → Current t client own doing tellings
 was_now t client own doing one tellings now same told =
-    let its : TellsRequest client (length own.past) doing.request tellings doing.steps = subst (λ (d : Doing). TellsRequest client (length own.past) d.request tellings d.steps) same told in
+    let its : TellsRequest t.setting client (length own.past) doing.request tellings doing.steps = subst (λ (d : Doing). TellsRequest t.setting client (length own.past) d.request tellings d.steps) same told in
     record { steps = doing.steps; began = []; begins = WasThere (now ∙ ap Some same); all = sym (append-nil doing.steps); told = its }
 
 current : (t : Traced) (client : ℕ) (own : Client) (doing : Doing) (now : Option Doing) (next : Option Request) (tellings : List Telling) → own.now ≡ now → own.next ≡ next
-    → option_or now (option_map (begun t.setting.terms (t.machine.event + 1) t.machine.tick) next) ≡ Some doing → TellsNow client (length own.past) now tellings → Current t client own doing tellings
+    → option_or now (option_map (begun t.setting.terms (t.machine.event + 1) t.machine.tick) next) ≡ Some doing → TellsNow t.setting client (length own.past) now tellings → Current t client own doing tellings
 current t client own doing _ next _ is_now is_next does (OneNow one tellings told) = was_now t client own doing one tellings is_now (let same : one ≡ doing = cc in same) told
 current t client own doing _ None _ is_now is_next does NoneNow = absurd (let none : ⊥ = cc in none)
 current t client own doing _ (Some request) _ is_now is_next does NoneNow =
@@ -60,17 +61,18 @@ module _ (t : Traced) (inv : Invariant t) (seen : Seen) (client : ℕ) (did : Go
   telling : List Step → Telling
   telling began = record { step = told_step t seen client did; acts = began ++ acts.acts }
 
-  request_more : (tellings : List Telling) → Current t client acts.own acts.doing tellings → (one : Telling) × TellsRequest client (length acts.own.past) acts.after.request (tellings ++ one ∷ []) acts.after.steps × (one.step ≡ told_step t seen client did)
+  request_more : (tellings : List Telling) → Current t client acts.own acts.doing tellings → (one : Telling) × TellsRequest t.setting client (length acts.own.past) acts.after.request (tellings ++ one ∷ []) acts.after.steps × (one.step ≡ told_step t seen client did)
   request_more tellings is =
       let one : Telling = record { step = told_step t seen client did; acts = is.began ++ acts.acts } in
       let steps : acts.after.steps ≡ is.steps ++ (is.began ++ acts.acts) = acts.steps ∙ (ap (λ (s : List Step). s ++ acts.acts) is.all ∙ append_assoc is.steps is.began acts.acts) in (
         record { step = told_step t seen client did; acts = is.began ++ acts.acts },
-        subst (λ (request : Request). TellsRequest client (length acts.own.past) request (tellings ++ record { step = told_step t seen client did; acts = is.began ++ acts.acts } ∷ []) acts.after.steps) (sym acts.request)
-            (subst (TellsRequest client (length acts.own.past) acts.doing.request (tellings ++ record { step = told_step t seen client did; acts = is.began ++ acts.acts } ∷ [])) (sym steps)
+        subst (λ (request : Request). TellsRequest t.setting client (length acts.own.past) request (tellings ++ record { step = told_step t seen client did; acts = is.began ++ acts.acts } ∷ []) acts.after.steps) (sym acts.request)
+            (subst (TellsRequest t.setting client (length acts.own.past) acts.doing.request (tellings ++ record { step = told_step t seen client did; acts = is.began ++ acts.acts } ∷ [])) (sym steps)
             (OneMore tellings is.steps (record { step = told_step t seen client did; acts = is.began ++ acts.acts }) is.told
             (record {
               t = t;
               inv = inv;
+              of_run = refl;
               own = acts.own;
               here = acts.here;
               at = refl;
@@ -90,7 +92,7 @@ module _ (t : Traced) (inv : Invariant t) (seen : Seen) (client : ℕ) (did : Go
       )
 
   -- what is told of the client then
-  client_more : (told : List StepTold) (next : Client) → Leads t.setting client acts.own acts.after next → TellsClient client acts.own told → TellsClient client next (told ++ told_step t seen client did ∷ [])
+  client_more : (told : List StepTold) (next : Client) → Leads t.setting client acts.own acts.after next → TellsClient t.setting client acts.own told → TellsClient t.setting client next (told ++ told_step t seen client did ∷ [])
   client_more told next leads is = by next leads (request_more is.now (current t client acts.own acts.doing acts.own.now acts.own.next is.now refl refl acts.does is.tells_now))
     where
       longer : (one : Telling) → one.step ≡ told_step t seen client did → told ++ told_step t seen client did ∷ [] ≡ steps_in_tellings (joined is.past ++ (is.now ++ one ∷ []))
@@ -100,15 +102,15 @@ module _ (t : Traced) (inv : Invariant t) (seen : Seen) (client : ℕ) (did : Go
           ∙ (sym (map-append (λ (x : Telling). x.step) (joined is.past ++ is.now) (one ∷ [])) ∙ ap steps_in_tellings (append_assoc (joined is.past) is.now (one ∷ []))))
 
       by : (next : Client) → Leads t.setting client acts.own acts.after next
-          → (one : Telling) × TellsRequest client (length acts.own.past) acts.after.request (is.now ++ one ∷ []) acts.after.steps × (one.step ≡ told_step t seen client did) → TellsClient client next (told ++ told_step t seen client did ∷ [])
+          → (one : Telling) × TellsRequest t.setting client (length acts.own.past) acts.after.request (is.now ++ one ∷ []) acts.after.steps × (one.step ≡ told_step t seen client did) → TellsClient t.setting client next (told ++ told_step t seen client did ∷ [])
       by _ GoesOn more = record { past = is.past; now = is.now ++ more.0 ∷ []; tells_past = is.tells_past; tells_now = OneNow acts.after (is.now ++ more.0 ∷ []) more.1; all = longer more.0 more.2 }
       by _ IsOver more = record {
         past = is.past ++ (is.now ++ more.0 ∷ []) ∷ [];
         now = [];
         tells_past =
             let none : 0 + length acts.own.past ≡ length acts.own.past = omega arith in
-            past_more client 0 acts.own.past is.past (past_of t.setting.terms acts.after) (is.now ++ more.0 ∷ []) is.tells_past
-            (subst (λ (k : ℕ). TellsRequest client k acts.after.request (is.now ++ more.0 ∷ []) acts.after.steps) (sym none) more.1);
+            past_more t.setting client 0 acts.own.past is.past (past_of t.setting.terms acts.after) (is.now ++ more.0 ∷ []) is.tells_past
+            (subst (λ (k : ℕ). TellsRequest t.setting client k acts.after.request (is.now ++ more.0 ∷ []) acts.after.steps) (sym none) more.1);
         tells_now = NoneNow;
         all = longer more.0 more.2 ∙ ap steps_in_tellings (sym (append-nil (joined (is.past ++ (is.now ++ more.0 ∷ []) ∷ [])) ∙ joined_more is.past (is.now ++ more.0 ∷ [])));
       }
@@ -125,18 +127,18 @@ module _ (t : Traced) (inv : Invariant t) (seen : Seen) (client : ℕ) (did : Go
       ∙ (ap (λ (test : Bool). steps_of other told ++ cond test (told_step t seen client did ∷ []) []) (ne_to client other (λ same. differ (sym same))) ∙ append-nil (steps_of other told))
 
   -- All clients, where this one makes a step more.
-  pub clients_more : (told : List StepTold) → TellsClients t.machine.clients told → TellsClients n.clients (told ++ told_step t seen client did ∷ [])
+  pub clients_more : (told : List StepTold) → TellsClients t.setting t.machine.clients told → TellsClients t.setting n.clients (told ++ told_step t seen client did ∷ [])
   clients_more told before other own here = by (either other client)
     where
-      by : (other ≡ client) ⊎ (other ≢ client) → TellsClient other own (steps_of other (told ++ told_step t seen client did ∷ []))
+      by : (other ≡ client) ⊎ (other ≢ client) → TellsClient t.setting other own (steps_of other (told ++ told_step t seen client did ∷ []))
       by (inl same) =
           let at : client_at n.clients client ≡ Some acts.moves.next = ap (λ (c : List Client). client_at c client) acts.moves.clients ∙ client_own t.machine.clients client acts.own acts.moves.next acts.here in
           let both : Some acts.moves.next ≡ Some own = sym at ∙ (ap (client_at n.clients) (sym same) ∙ here) in
           let is : acts.moves.next ≡ own = cc in
-          subst (λ (k : ℕ). TellsClient k own (steps_of k (told ++ told_step t seen client did ∷ []))) (sym same)
-          (subst (TellsClient client own) (sym (own_steps told))
-          (subst (λ (c : Client). TellsClient client c (steps_of client told ++ told_step t seen client did ∷ [])) is
+          subst (λ (k : ℕ). TellsClient t.setting k own (steps_of k (told ++ told_step t seen client did ∷ []))) (sym same)
+          (subst (TellsClient t.setting client own) (sym (own_steps told))
+          (subst (λ (c : Client). TellsClient t.setting client c (steps_of client told ++ told_step t seen client did ∷ [])) is
           (client_more (steps_of client told) acts.moves.next acts.moves.leads (before client acts.own acts.here))))
       by (inr differ) =
-          subst (TellsClient other own) (sym (other_steps other differ told))
+          subst (TellsClient t.setting other own) (sym (other_steps other differ told))
           (before other own (sym (client_other t.machine.clients client other acts.moves.next differ) ∙ (ap (λ (c : List Client). client_at c other) (sym acts.moves.clients) ∙ here)))

@@ -18,6 +18,7 @@ use Rattle.world_model.specs.Machines.{Machine, start_of}
 use Rattle.world_model.specs.OneEvent.{OneEvent}
 use Rattle.world_model.specs.Reached.{Reached, Begins, GoesOn, IsFinishing, Scheduled, Finishes}
 use Rattle.world_model.specs.Ready.{all_requests_right}
+use Rattle.world_model.specs.Settings.{Setting, setting_of}
 use Rattle.world_model.specs.Traced.{Traced}
 use Rattle.shown_laws.specs.Closing.{AllUnclosed}
 use Rattle.shown_laws.specs.ConnectionLaws.{AreTold}
@@ -34,32 +35,32 @@ use Rattle.shown_laws.proofs.StepsTold.{told_steps, StepTells, TellsNone, TellsO
 
 -- THE START ---------------------------------------------------------------------------------------
 
-fresh_at : {A : Type 0} (script : A → List Request) (all : List A) (index : ℕ) (client : ℕ) (own : Client) → slice_get (map (λ one. resting (script one) []) all) index ≡ Some own → TellsClient client own []
-fresh_at script [] index client own is = absurd (let none : ⊥ = cc in none)
-fresh_at script (one ∷ all) zero client own is =
+fresh_at : {A : Type 0} (setting : Setting) (script : A → List Request) (all : List A) (index : ℕ) (client : ℕ) (own : Client) → slice_get (map (λ one. resting (script one) []) all) index ≡ Some own → TellsClient setting client own []
+fresh_at setting script [] index client own is = absurd (let none : ⊥ = cc in none)
+fresh_at setting script (one ∷ all) zero client own is =
     let same : resting (script one) [] ≡ own = cc in
-    subst (λ (c : Client). TellsClient client c []) same (record { past = []; now = []; tells_past = NonePast 0; tells_now = NoneNow; all = refl })
-fresh_at script (one ∷ all) (suc index) client own is = fresh_at script all index client own is
+    subst (λ (c : Client). TellsClient setting client c []) same (record { past = []; now = []; tells_past = NonePast 0; tells_now = NoneNow; all = refl })
+fresh_at setting script (one ∷ all) (suc index) client own is = fresh_at setting script all index client own is
 
-none_told : (document : Document) → TellsClients (start_of document).clients []
+none_told : (document : Document) → TellsClients (setting_of document) (start_of document).clients []
 none_told document zero own is = absurd (let none : ⊥ = cc in none)
-none_told document (suc index) own is = fresh_at (λ client. client.requests) document.clients index (suc index) own is
+none_told document (suc index) own is = fresh_at (setting_of document) (λ client. client.requests) document.clients index (suc index) own is
 
 -- EVENTS ------------------------------------------------------------------------------------------
 
-module _ (t : Traced) (inv : Invariant t) (notes : List Note) (items : List Served) (are : AreTold notes items t) (unclosed : AllUnclosed t.machine) (told : List StepTold) (before : TellsClients t.machine.clients told) where
+module _ (t : Traced) (inv : Invariant t) (notes : List Note) (items : List Served) (are : AreTold notes items t) (unclosed : AllUnclosed t.machine) (told : List StepTold) (before : TellsClients t.setting t.machine.clients told) where
   -- no step is told
-  quiet : TellsClients t.machine.clients (told ++ [])
-  quiet = subst (TellsClients t.machine.clients) (sym (append-nil told)) before
+  quiet : TellsClients t.setting t.machine.clients (told ++ [])
+  quiet = subst (TellsClients t.setting t.machine.clients) (sym (append-nil told)) before
 
-  goes_on : (client : ℕ) (did : GoNote) (n : Machine) → StepTells t (seen_told notes items) client did n → TellsClients n.clients (told ++ told_steps t (seen_told notes items) client did)
+  goes_on : (client : ℕ) (did : GoNote) (n : Machine) → StepTells t (seen_told notes items) client did n → TellsClients t.setting n.clients (told ++ told_steps t (seen_told notes items) client did)
   goes_on client did n (TellsNone none same) =
-      subst (λ (clients : List Client). TellsClients clients (told ++ told_steps t (seen_told notes items) client did)) (sym same)
-      (subst (λ (more : List StepTold). TellsClients t.machine.clients (told ++ more)) (sym none) quiet)
+      subst (λ (clients : List Client). TellsClients t.setting clients (told ++ told_steps t (seen_told notes items) client did)) (sym same)
+      (subst (λ (more : List StepTold). TellsClients t.setting t.machine.clients (told ++ more)) (sym none) quiet)
   goes_on client did n (TellsOne acts) =
-      subst (λ (more : List StepTold). TellsClients n.clients (told ++ more)) (sym acts.told) (clients_more t inv (seen_told notes items) client did n acts told before)
+      subst (λ (more : List StepTold). TellsClients t.setting n.clients (told ++ more)) (sym acts.told) (clients_more t inv (seen_told notes items) client did n acts told before)
 
-  event_on : (one : Note) (more : List Served) (n : Machine) → Does t.setting (at_event t.machine) one more n → TellsClients n.clients (told ++ steps_in (seen_told notes items) (next_told t.machine one more))
+  event_on : (one : Note) (more : List Served) (n : Machine) → Does t.setting (at_event t.machine) one more n → TellsClients t.setting n.clients (told ++ steps_in (seen_told notes items) (next_told t.machine one more))
   event_on _ _ _ (Goes client did n goes) =
       goes_on client did n (step_tells t inv (seen_told notes items) are.links.at are.sessions unclosed client did n (follow_goes t.setting (at_event t.machine) client did n goes))
   event_on _ _ _ (ServesNone connection) = quiet
@@ -81,21 +82,22 @@ module _ (t : Traced) (inv : Invariant t) (notes : List Note) (items : List Serv
   event_on _ _ _ (IsServers one server is) = absurd (let none : ⊥ = cc in none)
 
 module _ (before after : Seen) (old new : Traced) (event : Event) (note : Note) (notes : List Note) (items more : List Served) (one : OneEvent before old event note more [] after new) (come : HasCome notes items old.machine) (inv : Invariant old) (are : AreTold notes items old) (unclosed : AllUnclosed old.machine) where
-  clients_on : TellsClients old.machine.clients (steps_told notes items) → TellsClients new.machine.clients (steps_told (notes ++ note ∷ []) (items ++ more))
+  clients_on : TellsClients old.setting old.machine.clients (steps_told notes items) → TellsClients new.setting new.machine.clients (steps_told (notes ++ note ∷ []) (items ++ more))
   clients_on was =
-      subst (TellsClients new.machine.clients) (sym (grows_on before after old new event note notes items more one come).steps)
-      (event_on old inv notes items are unclosed (steps_told notes items) was note more new.machine (follow_does old.setting old.machine event note more new.machine one.follows))
+      subst (λ (setting : Setting). TellsClients setting new.machine.clients (steps_told (notes ++ note ∷ []) (items ++ more))) (sym one.setting)
+      (subst (TellsClients old.setting new.machine.clients) (sym (grows_on before after old new event note notes items more one come).steps)
+      (event_on old inv notes items are unclosed (steps_told notes items) was note more new.machine (follow_does old.setting old.machine event note more new.machine one.follows)))
 
 -- RUNS --------------------------------------------------------------------------------------------
 
 module _ (kept : RunsKeepInvariant) (stand : AllStand) (document : Document) (right : IsTrue (all_requests_right document)) where
-  reached_steps : (events : List Event) (notes : List Note) (items : List Served) (seen : Seen) (t : Traced) → Reached document events notes items seen t → TellsClients t.machine.clients (steps_told notes items)
+  reached_steps : (events : List Event) (notes : List Note) (items : List Served) (seen : Seen) (t : Traced) → Reached document events notes items seen t → TellsClients t.setting t.machine.clients (steps_told notes items)
   reached_steps _ _ _ _ _ (Begins seen start history horizon coupled) = none_told document
   reached_steps _ _ _ _ _ (GoesOn events notes items more before after old new event note reached one forgets) =
       clients_on before after old new event note notes items more one (reached_come document events notes items before old reached) (kept document events notes items before old right reached)
       (runs_told kept stand document events notes items before old right reached) (reached_unclosed kept stand document right events notes items before old reached) (reached_steps events notes items before old reached)
 
-  finishing_steps : FinishesKeepInvariant → (place : Place) (notes : List Note) (items : List Served) (seen : Seen) (t : Traced) → IsFinishing document place notes items seen t → TellsClients t.machine.clients (steps_told notes items)
+  finishing_steps : FinishesKeepInvariant → (place : Place) (notes : List Note) (items : List Served) (seen : Seen) (t : Traced) → IsFinishing document place notes items seen t → TellsClients t.setting t.machine.clients (steps_told notes items)
   finishing_steps all _ _ _ _ _ (Scheduled notes items seen t reached) = reached_steps document.schedule notes items seen t reached
   finishing_steps all _ _ _ _ _ (Finishes place later notes items more before after old new event note finishing next one forgets) =
       clients_on before after old new event note notes items more one (finishing_come document place notes items before old finishing) (all document place notes items before old right finishing)

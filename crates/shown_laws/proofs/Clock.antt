@@ -57,7 +57,7 @@ goes_clock setting m client _ _ (Waits doing is answer) = (refl, refl)
 goes_clock setting m client _ _ (Lends doing connection link ltxid is answer there held) = (refl, refl)
 goes_clock setting m client _ _ (Opens doing wanted pool is tries) = (refl, refl)
 goes_clock setting m client _ _ (Fails doing wanted pool is tries) = (refl, refl)
-goes_clock setting m client _ _ (Takes doing connection sent link reply left is has there down) = unless_clock setting m _ client link (refl, refl)
+goes_clock setting m client _ _ (Takes doing connection sent link reply left is has there down frames) = unless_clock setting m _ client link (refl, refl)
 goes_clock setting m client _ _ (Loses doing connection link is has there down shut) = (refl, refl)
 
 abbrev all_now : ℕ → List Served → Bool

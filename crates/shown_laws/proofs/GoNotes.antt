@@ -12,7 +12,7 @@ use Rattle.client_model.specs.declared.input.Wants.TheVariants as wants
 use Rattle.client_model.specs.Talk.{wants_of}
 use Rattle.outage_schedule.specs.declared.note.GoNote.{GoNote}
 use Rattle.outage_schedule.specs.declared.note.GoNote.TheVariants as go
-use Rattle.world_model.specs.Acting.{steps, loses}
+use Rattle.world_model.specs.Acting.{frames_of, act_at, steps, loses}
 use Rattle.world_model.specs.Clients.{Client, Doing, client_at, doing_of}
 use Rattle.world_model.specs.Frames.{Reply}
 use Rattle.world_model.specs.Going.{noted, tries_while, lends, takes_slot, unless_open, looks, looks_at, goes_by, goes, follow_go}
@@ -65,7 +65,8 @@ pub data GoesAs (setting : Setting) (m : Machine) (client : ℕ) : GoNote → Ma
   Fails : (doing : Doing) (wanted : Wants) (pool : Slots) → IsDoing setting m client doing wanted → Tries m client wanted pool
       → GoesAs setting m client go.Down (steps setting (with_pool m pool) client doing true TryFailed)
   Takes : (doing : Doing) (connection sent : ℕ) (link : Link) (reply : Reply) (left : List Reply) → IsDoing setting m client doing wants.Frame → doing.connection ≡ Some connection → link_at m.links connection ≡ Some link
-      → link.down ≡ reply ∷ left → GoesAs setting m client (go.Took connection sent) (unless_open setting (steps setting (taking m connection link reply left) client doing true (Took reply.frame link.is_open)) client link)
+      → link.down ≡ reply ∷ left → sent ≡ length (frames_of m.pool connection (act_at setting m doing (Took reply.frame link.is_open)))
+      → GoesAs setting m client (go.Took connection sent) (unless_open setting (steps setting (taking m connection link reply left) client doing true (Took reply.frame link.is_open)) client link)
   Loses : (doing : Doing) (connection : ℕ) (link : Link) → IsDoing setting m client doing wants.Frame → doing.connection ≡ Some connection → link_at m.links connection ≡ Some link
       → link.down ≡ [] → link.is_open ≡ false → GoesAs setting m client (go.Lost connection) (loses setting m client doing link.ended)
 
@@ -113,7 +114,7 @@ module _ (setting : Setting) (m : Machine) (number : ℕ) (did : GoNote) where
 
   looks_goes : (doing : Doing) → IsDoing setting m number doing wants.Frame → (connection : ℕ) (link : Link) → doing.connection ≡ Some connection → link_at m.links connection ≡ Some link → (down : List Reply) → link.down ≡ down → (n : Machine)
       → looks setting m number did doing connection link down ≡ Some n → GoesAs setting m number did n
-  looks_goes doing is connection link has there (reply ∷ left) same n e = noted_goes _ _ n (Takes doing connection _ link reply left is has there same) e
+  looks_goes doing is connection link has there (reply ∷ left) same n e = noted_goes _ _ n (Takes doing connection _ link reply left is has there same refl) e
   looks_goes doing is connection link has there [] same n e = by link.is_open refl e
     where
       by : (opens : Bool) → link.is_open ≡ opens → (if opens then noted did go.NoFrame m else noted did (go.Lost connection) (loses setting m number doing link.ended)) ≡ Some n → GoesAs setting m number did n

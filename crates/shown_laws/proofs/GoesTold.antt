@@ -101,7 +101,7 @@ goes_told setting m client _ _ told speaks all (Opens doing wanted pool is tries
     inl (ap (λ (l : Link). l.is_open) (sym same)))
 goes_told setting m client _ _ told speaks all (Fails doing wanted pool is tries) =
     steps_told setting told (with_pool m pool) client doing true TryFailed all (λ link there. inr (failed_silent setting.terms doing.talk m.tick _))
-goes_told setting m client _ _ told speaks all (Takes doing connection sent link reply left is has there down) =
+goes_told setting m client _ _ told speaks all (Takes doing connection sent link reply left is has there down frames) =
     unless_told setting _ (steps setting (taking m connection link reply left) client doing true (Took reply.frame link.is_open)) client link
     (steps_told setting _ (taking m connection link reply left) client doing true (Took reply.frame link.is_open)
     (takes_told client m.event connection (Took reply.frame link.is_open) m.links told link reply left all there down)

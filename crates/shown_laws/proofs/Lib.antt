@@ -4,6 +4,7 @@ pub mod ClientsMove
 pub mod ClientsTold
 pub mod Clock
 pub mod ConnectionsTold
+pub mod CourseHeard
 pub mod CourseNow
 pub mod CrashesTold
 pub mod EndsTold
@@ -13,6 +14,7 @@ pub mod GoNotes
 pub mod GoesTold
 pub mod HappeningsGrow
 pub mod ItemsTold
+pub mod LastSent
 pub mod LinksStay
 pub mod LinksTold
 pub mod Lookups
@@ -27,6 +29,7 @@ pub mod SessionsApart
 pub mod Single
 pub mod Standing
 pub mod StepsTold
+pub mod TermsTold
 pub mod ToldOnce
 pub mod TurnsEvents
 pub mod TurnsKept

@@ -4,10 +4,19 @@ use Rattle.std.specs.Prelude.{◌==◌, slice_get, slice_set, is_some, is_none, 
 use Rattle.std.specs.List.{list_all, list_any}
 use Rattle.std.specs.Option.{option_map_or}
 use Rattle.std.proofs.lemmas.Bool.{and_parts, or_cases, or_left, or_right}
+use Rattle.std.proofs.lemmas.List.{length_push}
 use Rattle.svc_values.specs.declared.entry.Ltxid.{Ltxid}
+use Rattle.svc_values.specs.declared.frame.Up.TheVariants as up
 use Rattle.svc_values.specs.Identifiers.{same_session, session_of}
 use Rattle.svc_values.specs.Same.{same_bool}
+use Rattle.pool_core.specs.declared.answers.Back.{Back}
+use Rattle.pool_core.specs.declared.answers.Back.TheVariants as back
+use Rattle.pool_core.specs.Slots.{Slots, give_back_answer}
+use Rattle.client_model.specs.declared.act.Act.{Act}
+use Rattle.client_model.specs.declared.act.Hold.{Hold}
+use Rattle.client_model.specs.declared.act.Hold.TheVariants as hold
 use Rattle.client_model.specs.declared.input.Input.TheVariants.{Waiting, Lent, Opened, TryFailed, Took, Gone}
+use Rattle.client_model.specs.declared.input.Wants.{Wants}
 use Rattle.client_model.specs.declared.input.Wants.TheVariants as wants
 use Rattle.outage_schedule.specs.declared.item.Served.{Served}
 use Rattle.outage_schedule.specs.declared.note.GoNote.{GoNote}
@@ -16,7 +25,7 @@ use Rattle.outage_schedule.specs.declared.note.Note.TheVariants as note
 use Rattle.shown_clauses.specs.Fronts.{first_item}
 use Rattle.shown_clauses.specs.Links.{Link as SeenLink, Seen, is_connect, is_hello, link_of}
 use Rattle.shown_clauses.specs.Steps.{Step as StepTold, reply_at, greeted, asked_of, lost_at, step_at as told_at_step, steps_at}
-use Rattle.world_model.specs.Acting.{steps}
+use Rattle.world_model.specs.Acting.{closing, frames_of, steps}
 use Rattle.world_model.specs.Basic.{first_is_connect, is_named}
 use Rattle.world_model.specs.Clients.{Step, Doing, Client, client_at, with_client, step_at, heard, doing_of}
 use Rattle.world_model.specs.Frames.{Reply}
@@ -29,15 +38,16 @@ use Rattle.world_model.specs.Parts.{is_closed, implies}
 use Rattle.world_model.specs.Words.{held_in}
 use Rattle.world_model.specs.Traced.{Traced, Course, course_now}
 use Rattle.world_model.specs.Wire.{handled_from, is_answered_in_order}
+use Rattle.caused_laws.specs.Telling.{SentBy}
 use Rattle.shown_laws.specs.Closing.{IsUnclosed, AllUnclosed}
-use Rattle.shown_laws.specs.ClientSteps.{TellsReply, LostTold, IsBare, now_at, after_now, ended_at, GoneBehind, GoesOn, IsOver, IsGone, TellsKind, Rested, FoundNone, Waited, WasLent, HasOpened, HasFailed, HasTaken, HasLost}
+use Rattle.shown_laws.specs.ClientSteps.{TellsReply, LostTold, IsBare, HasBegun, now_at, after_now, ended_at, GoneBehind, GoesOn, IsOver, IsGone, TellsKind, Rested, FoundNone, Waited, WasLent, HasOpened, HasFailed, HasTaken, HasLost}
 use Rattle.shown_laws.specs.Connections.{FoundBySession}
 use Rattle.shown_laws.specs.Growth.{next_told}
 use Rattle.shown_laws.proofs.ClientsMove.{GoesOn as GoesFurther, Moves, stepped, steps_move, TakenSo, Alive, Ended, Lost, unless_moves}
 use Rattle.shown_laws.proofs.ConnectionsTold.{AllTold, told_at}
 use Rattle.shown_laws.proofs.CourseNow.{course_holds, was_there}
 use Rattle.shown_laws.proofs.Following.{at_event}
-use Rattle.shown_laws.proofs.GoNotes.{IsDoing, with_pool, with_new, next_number, taking, TooEarly, NoneFound, GoesAs, Idles, Rests, Waits, Lends, Opens, Fails, Takes, Loses}
+use Rattle.shown_laws.proofs.GoNotes.{IsDoing, Tries, FromQueue, Again, with_pool, with_new, next_number, taking, TooEarly, NoneFound, GoesAs, Idles, Rests, Waits, Lends, Opens, Fails, Takes, Loses}
 use Rattle.shown_laws.proofs.LostTold.{held_session, lost_told}
 use Rattle.shown_laws.proofs.ReplyTaken.{waits_so, reply_told}
 use Rattle.shown_laws.proofs.RepliesTold.{NextReply, next_reply}
@@ -91,6 +101,21 @@ lost_held course number among = by (has_last course) among
     by true is = without_among (held_in course.steps) number is
     by false is = is
 
+-- THE FRAMES --------------------------------------------------------------------------------------
+
+-- the frames of an act go out, and Close where its connection is given back and closed
+frames_sent : (pool : Slots) (connection : ℕ) (act : Act) → SentBy act (length (frames_of pool connection act))
+frames_sent pool connection act = by act.hold refl (give_back_answer pool connection)
+  where
+    none : SentBy act (length (act.send ++ []))
+    none = inl (ap length (append-nil act.send))
+
+    by : (held : Hold) → act.hold ≡ held → (answer : Back) → SentBy act (length (act.send ++ closing held answer))
+    by hold.Keep is answer = none
+    by hold.Drop is answer = none
+    by hold.GiveBack is back.Closed = inr (is, length_push act.send up.Close)
+    by hold.GiveBack is answer = none
+
 -- SAME CLIENTS ------------------------------------------------------------------------------------
 
 set_same : (clients : List Client) (index : ℕ) (own : Client) → slice_get clients index ≡ Some own → clients ≡ slice_set clients index own
@@ -118,6 +143,14 @@ module _ (t : Traced) (inv : Invariant t) (seen : Seen) (all : AllTold t.machine
     leads = GoesFurther;
     clients = same_clients t.machine.clients client own here ∙ ap (λ (held : Option Doing). with_client t.machine.clients client (record own { now = held })) now;
   }
+
+  -- a request that is to get a slot, or to try again, has begun
+  begun_slot : (doing : Doing) (is : IsDoing t.setting (at_event t.machine) client doing wants.Slot) → HasBegun t doing
+  begun_slot doing is never = let both : wants.Slot ≡ wants.Request = sym is.wants ∙ never in let none : ⊥ = cc in none
+
+  begun_try : (doing : Doing) (wanted : Wants) (pool : Slots) (is : IsDoing t.setting (at_event t.machine) client doing wanted) → Tries (at_event t.machine) client wanted pool → HasBegun t doing
+  begun_try doing _ _ is (FromQueue answer) never = begun_slot doing is never
+  begun_try doing _ _ is Again never = let both : wants.Try ≡ wants.Request = sym is.wants ∙ never in let none : ⊥ = cc in none
 
   -- LENT ------------------------------------------------------------------------------------------
 
@@ -197,44 +230,44 @@ module _ (t : Traced) (inv : Invariant t) (seen : Seen) (all : AllTold t.machine
         (λ number lost among at. unclosed_lost number lost among at)
         (record { client = client; place = length own.past }) link reply.frame replied.served replied.tells)
 
-    kind : (more : List Step) → GoneBehind t doing link reply.frame more → TellsKind t client (length own.past) doing (told_step t seen client (go.Took connection sent)) (now_at t doing (Took reply.frame link.is_open) ∷ more)
-    kind more gone = HasTaken connection sent link reply.frame replied.served more refl has there replied.taken replied.tells (session_told replied.served replied.taken) lost_so gone
+    kind : (more : List Step) → SentBy (now_at t doing (Took reply.frame link.is_open)).done.act sent → GoneBehind t doing link reply.frame more → TellsKind t client (length own.past) doing (told_step t seen client (go.Took connection sent)) (now_at t doing (Took reply.frame link.is_open) ∷ more)
+    kind more sends gone = HasTaken connection sent link reply.frame replied.served more refl sends has there replied.taken replied.tells (session_told replied.served replied.taken) lost_so gone
 
-    taken_acts : (does : doing_of t.setting.terms (t.machine.event + 1) t.machine.tick own ≡ Some doing) (a n : Machine) → a.event ≡ t.machine.event + 1 → a.tick ≡ t.machine.tick
+    taken_acts : (does : doing_of t.setting.terms (t.machine.event + 1) t.machine.tick own ≡ Some doing) (sends : SentBy (now_at t doing (Took reply.frame link.is_open)).done.act sent) (a n : Machine) → a.event ≡ t.machine.event + 1 → a.tick ≡ t.machine.tick
         → TakenSo t.setting (at_event t.machine) client own here a n (after_now t doing (Took reply.frame link.is_open)) link (now_at t doing (Took reply.frame link.is_open)).done.act.hold → Acts t seen client (go.Took connection sent) n
-    taken_acts does a n event tick (Alive opens clients moves) = record {
+    taken_acts does sends a n event tick (Alive opens clients moves) = record {
       own = own;
       here = here;
       doing = doing;
       does = does;
       acts = now_at t doing (Took reply.frame link.is_open) ∷ [];
-      tells = kind [] (GoesOn opens);
+      tells = kind [] sends (GoesOn opens);
       after = after_now t doing (Took reply.frame link.is_open);
       request = refl;
       steps = refl;
       moves = moves;
       told = refl;
     }
-    taken_acts does a n event tick (Ended shut over moves) = record {
+    taken_acts does sends a n event tick (Ended shut over moves) = record {
       own = own;
       here = here;
       doing = doing;
       does = does;
       acts = now_at t doing (Took reply.frame link.is_open) ∷ [];
-      tells = kind [] (IsOver shut over);
+      tells = kind [] sends (IsOver shut over);
       after = after_now t doing (Took reply.frame link.is_open);
       request = refl;
       steps = refl;
       moves = moves;
       told = refl;
     }
-    taken_acts does a n event tick (Lost shut keeps moves) = record {
+    taken_acts does sends a n event tick (Lost shut keeps moves) = record {
       own = own;
       here = here;
       doing = doing;
       does = does;
       acts = now_at t doing (Took reply.frame link.is_open) ∷ now_at t (after_now t doing (Took reply.frame link.is_open)) (Gone (ended_at link)) ∷ [];
-      tells = kind (now_at t (after_now t doing (Took reply.frame link.is_open)) (Gone (ended_at link)) ∷ []) (IsGone shut keeps);
+      tells = kind (now_at t (after_now t doing (Took reply.frame link.is_open)) (Gone (ended_at link)) ∷ []) sends (IsGone shut keeps);
       after = heard t.setting.terms a.event a.tick (record (after_now t doing (Took reply.frame link.is_open)) { connection = None }) (Gone (unwrap_or link.ended 0));
       request = refl;
       steps =
@@ -254,7 +287,7 @@ module _ (t : Traced) (inv : Invariant t) (seen : Seen) (all : AllTold t.machine
         doing = doing;
         does = is.does;
         acts = [];
-        tells = Rested refl (bare t seen client go.Early refl refl);
+        tells = Rested refl is.wants (bare t seen client go.Early refl refl);
         after = doing;
         request = refl;
         steps = sym (append-nil doing.steps);
@@ -268,7 +301,7 @@ module _ (t : Traced) (inv : Invariant t) (seen : Seen) (all : AllTold t.machine
         doing = doing;
         does = is.does;
         acts = [];
-        tells = FoundNone refl (bare t seen client go.NoFrame refl refl);
+        tells = FoundNone refl is.wants (bare t seen client go.NoFrame refl refl);
         after = doing;
         request = refl;
         steps = sym (append-nil doing.steps);
@@ -282,7 +315,7 @@ module _ (t : Traced) (inv : Invariant t) (seen : Seen) (all : AllTold t.machine
         doing = doing;
         does = is.does;
         acts = now_at t doing Waiting ∷ [];
-        tells = Waited refl (bare t seen client go.Wait refl refl);
+        tells = Waited refl (begun_slot doing is) (bare t seen client go.Wait refl refl);
         after = after_now t doing Waiting;
         request = refl;
         steps = refl;
@@ -297,7 +330,7 @@ module _ (t : Traced) (inv : Invariant t) (seen : Seen) (all : AllTold t.machine
         doing = doing;
         does = is.does;
         acts = now_at t doing (Lent connection ltxid) ∷ [];
-        tells = WasLent connection link ltxid refl there held refl session.0 (session.0 ∙ session.1) refl;
+        tells = WasLent connection link ltxid refl (begun_slot doing is) there held refl session.0 (session.0 ∙ session.1) refl;
         after = after_now t (record doing { connection = Some connection }) (Lent connection ltxid);
         request = refl;
         steps = refl;
@@ -311,7 +344,7 @@ module _ (t : Traced) (inv : Invariant t) (seen : Seen) (all : AllTold t.machine
         doing = doing;
         does = is.does;
         acts = now_at t doing (Opened (next_number (at_event t.machine))) ∷ [];
-        tells = HasOpened (next_number (at_event t.machine)) refl refl (bare t seen client (go.Open (next_number (at_event t.machine))) refl refl);
+        tells = HasOpened (next_number (at_event t.machine)) refl refl (begun_try doing wanted pool is tries) (bare t seen client (go.Open (next_number (at_event t.machine))) refl refl);
         after = after_now t (record doing { connection = Some (next_number (at_event t.machine)) }) (Opened (next_number (at_event t.machine)));
         request = refl;
         steps = refl;
@@ -325,15 +358,16 @@ module _ (t : Traced) (inv : Invariant t) (seen : Seen) (all : AllTold t.machine
         doing = doing;
         does = is.does;
         acts = now_at t doing TryFailed ∷ [];
-        tells = HasFailed refl (bare t seen client go.Down refl refl);
+        tells = HasFailed refl (begun_try doing wanted pool is tries) (bare t seen client go.Down refl refl);
         after = after_now t doing TryFailed;
         request = refl;
         steps = refl;
         moves = steps_move t.setting (at_event t.machine) client is.client is.here (with_pool (at_event t.machine) pool) doing true TryFailed refl;
         told = refl;
       })
-  step_tells _ _ (Takes doing connection sent link reply left is has there down) =
+  step_tells _ _ (Takes doing connection sent link reply left is has there down frames) =
       TellsOne (taken_acts doing is.client is.here (old_doing doing is) connection sent link reply left has there down is.does
+      (subst (SentBy (now_at t doing (Took reply.frame link.is_open)).done.act) (sym frames) (frames_sent t.machine.pool connection (now_at t doing (Took reply.frame link.is_open)).done.act))
       (steps t.setting (taking (at_event t.machine) connection link reply left) client doing true (Took reply.frame link.is_open)) _ refl refl
       (unless_moves t.setting (at_event t.machine) client is.client is.here (steps t.setting (taking (at_event t.machine) connection link reply left) client doing true (Took reply.frame link.is_open))
       (after_now t doing (Took reply.frame link.is_open)) link (now_at t doing (Took reply.frame link.is_open)).done.act.hold

@@ -105,7 +105,7 @@ goes_served setting m client _ _ (Lends doing connection link ltxid is answer th
 goes_served setting m client _ _ (Opens doing wanted pool is tries) =
     then_served m.links (m.links ++ new_link ∷ []) _ (new_served m.links) (steps_served setting (with_new m pool) client (record doing { connection = Some (next_number m) }) true (Opened (next_number m)))
 goes_served setting m client _ _ (Fails doing wanted pool is tries) = steps_served setting (with_pool m pool) client doing true TryFailed
-goes_served setting m client _ _ (Takes doing connection sent link reply left is has there down) =
+goes_served setting m client _ _ (Takes doing connection sent link reply left is has there down frames) =
     subst (SameServed m.links) (sym (unless_links setting (steps setting (taking m connection link reply left) client doing true (Took reply.frame link.is_open)) client link))
     (then_served m.links (taking m connection link reply left).links (steps setting (taking m connection link reply left) client doing true (Took reply.frame link.is_open)).links
     (with_served m.links connection link (takes (Took reply.frame link.is_open) reply left link) there refl) (steps_served setting (taking m connection link reply left) client doing true (Took reply.frame link.is_open)))

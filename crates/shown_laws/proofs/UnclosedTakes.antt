@@ -156,5 +156,5 @@ module _ (t : Traced) (inv : Invariant t) (speaks : Speaks (at_event t.machine))
   goes_all _ _ (Lends doing connection link ltxid is answer there held) = lends_all t inv speaks before client doing connection link ltxid is answer there
   goes_all _ _ (Opens doing wanted pool is tries) = opens_all t inv speaks before client doing wanted pool is (tries_other wanted pool tries)
   goes_all _ _ (Fails doing wanted pool is tries) = quiet_all t inv speaks before client doing wanted is pool true TryFailed refl (failed_silent t.setting.terms doing.talk t.machine.tick _)
-  goes_all _ _ (Takes doing connection sent link reply left is has there down) = takes_all doing connection link reply left is has there
+  goes_all _ _ (Takes doing connection sent link reply left is has there down frames) = takes_all doing connection link reply left is has there
   goes_all _ _ (Loses doing connection link is has there down shut) = loses_all t inv speaks before client doing connection link is has there shut

@@ -7,6 +7,9 @@ use Rattle.svc_values.specs.Identifiers.{same_ltxid, session_of}
 use Rattle.client_model.specs.declared.act.Hold.TheVariants as hold
 use Rattle.client_model.specs.declared.input.Input.{Input}
 use Rattle.client_model.specs.declared.input.Input.TheVariants.{Waiting, Lent, Opened, TryFailed, Took, Gone}
+use Rattle.client_model.specs.declared.input.Wants.{Wants}
+use Rattle.client_model.specs.declared.input.Wants.TheVariants as wants
+use Rattle.client_model.specs.Talk.{wants_of}
 use Rattle.client_model.specs.Terms.{Phase}
 use Rattle.outage_schedule.specs.declared.item.Served.{Served}
 use Rattle.outage_schedule.specs.declared.note.GoNote.TheVariants as go
@@ -22,6 +25,7 @@ use Rattle.world_model.specs.Serving.{is_item_of, reply_of}
 use Rattle.world_model.specs.Traced.{Traced, Course, course_now}
 use Rattle.world_model.specs.Wanted.{Wanted, wanted_in}
 use Rattle.world_model.specs.Wire.{same_replies}
+use Rattle.caused_laws.specs.Telling.{SentBy}
 use Rattle.shown_laws.specs.Connections.{TellsLink}
 
 -- REPLIES -----------------------------------------------------------------------------------------
@@ -91,16 +95,23 @@ pub data GoneBehind (t : Traced) (doing : Doing) (link : Link) (frame : Down) : 
   IsOver : link.is_open ≡ false → ((now_at t doing (Took frame link.is_open)).done.act.hold ≡ hold.Keep → ⊥) → GoneBehind t doing link frame []
   IsGone : link.is_open ≡ false → (now_at t doing (Took frame link.is_open)).done.act.hold ≡ hold.Keep → GoneBehind t doing link frame (now_at t (after_now t doing (Took frame link.is_open)) (Gone (ended_at link)) ∷ [])
 
+-- what the request wants then, and that it has begun
+abbrev pub wants_at : Traced → Doing → Wants
+wants_at t doing = wants_of t.setting.terms doing.talk t.machine.tick
+
+abbrev pub HasBegun : Traced → Doing → Type 0
+HasBegun t doing = wants_at t doing ≡ wants.Request → ⊥
+
 -- What a step of a client is told as, by its kind, and what the request did at it.
 pub data TellsKind (t : Traced) (client place : ℕ) (doing : Doing) (step : StepTold) : List Step → Type 0 where
-  Rested : step.did ≡ go.Early → IsBare step → TellsKind t client place doing step []
-  FoundNone : step.did ≡ go.NoFrame → IsBare step → TellsKind t client place doing step []
-  Waited : step.did ≡ go.Wait → IsBare step → TellsKind t client place doing step (now_at t doing Waiting ∷ [])
-  WasLent : (connection : ℕ) (link : Link) (ltxid : Ltxid) → step.did ≡ go.Lent connection → link_at t.machine.links connection ≡ Some link → link.held ≡ Some ltxid
+  Rested : step.did ≡ go.Early → wants_at t doing ≡ wants.Early → IsBare step → TellsKind t client place doing step []
+  FoundNone : step.did ≡ go.NoFrame → wants_at t doing ≡ wants.Frame → IsBare step → TellsKind t client place doing step []
+  Waited : step.did ≡ go.Wait → HasBegun t doing → IsBare step → TellsKind t client place doing step (now_at t doing Waiting ∷ [])
+  WasLent : (connection : ℕ) (link : Link) (ltxid : Ltxid) → step.did ≡ go.Lent connection → HasBegun t doing → link_at t.machine.links connection ≡ Some link → link.held ≡ Some ltxid
       → step.taken ≡ None → step.session ≡ link.session → step.session ≡ Some (session_of ltxid) → step.lost ≡ None → TellsKind t client place doing step (now_at t doing (Lent connection ltxid) ∷ [])
-  HasOpened : (connection : ℕ) → step.did ≡ go.Open connection → connection ≡ length t.machine.links + 1 → IsBare step → TellsKind t client place doing step (now_at t doing (Opened connection) ∷ [])
-  HasFailed : step.did ≡ go.Down → IsBare step → TellsKind t client place doing step (now_at t doing TryFailed ∷ [])
-  HasTaken : (connection sent : ℕ) (link : Link) (frame : Down) (served : Served) (more : List Step) → step.did ≡ go.Took connection sent → doing.connection ≡ Some connection → link_at t.machine.links connection ≡ Some link
+  HasOpened : (connection : ℕ) → step.did ≡ go.Open connection → connection ≡ length t.machine.links + 1 → HasBegun t doing → IsBare step → TellsKind t client place doing step (now_at t doing (Opened connection) ∷ [])
+  HasFailed : step.did ≡ go.Down → HasBegun t doing → IsBare step → TellsKind t client place doing step (now_at t doing TryFailed ∷ [])
+  HasTaken : (connection sent : ℕ) (link : Link) (frame : Down) (served : Served) (more : List Step) → step.did ≡ go.Took connection sent → SentBy (now_at t doing (Took frame link.is_open)).done.act sent → doing.connection ≡ Some connection → link_at t.machine.links connection ≡ Some link
       → step.taken ≡ Some served → TellsReply (record { client = client; place = place }) doing.talk.phase link frame served → step.session ≡ (if is_connect served.item then Some served.session else None)
       → LostTold t (course_now t.setting client place doing) step.lost (asked_of served.item) → GoneBehind t doing link frame more
       → TellsKind t client place doing step (now_at t doing (Took frame link.is_open) ∷ more)

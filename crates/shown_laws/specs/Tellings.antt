@@ -14,6 +14,7 @@ use Rattle.world_model.specs.Finishing.{Place}
 use Rattle.world_model.specs.Invariant.{Invariant}
 use Rattle.world_model.specs.Reached.{Reached, IsFinishing}
 use Rattle.world_model.specs.Ready.{all_requests_right}
+use Rattle.world_model.specs.Settings.{Setting}
 use Rattle.world_model.specs.Traced.{Traced}
 use Rattle.shown_laws.specs.ClientSteps.{now_at, TellsKind}
 use Rattle.shown_laws.specs.Telling.{steps_told}
@@ -37,9 +38,10 @@ pub data Begins (t : Traced) (own : Client) (doing : Doing) : List Step → List
 
 -- One step of a request of this client, as it is told: in the state of the machine before its event the client is at this request, and what is
 -- told is of this kind.
-pub record TellsStep (client place : ℕ) (request : Request) (steps : List Step) (one : Telling) : Type 0 where
+pub record TellsStep (setting : Setting) (client place : ℕ) (request : Request) (steps : List Step) (one : Telling) : Type 0 where
   pub t : Traced
   pub inv : Invariant t
+  pub of_run : t.setting ≡ setting
   pub own : Client
   pub here : client_at t.machine.clients client ≡ Some own
   pub at : length own.past ≡ place
@@ -56,44 +58,44 @@ pub record TellsStep (client place : ℕ) (request : Request) (steps : List Step
   pub kind : TellsKind t client place doing one.step acts
 
 -- All steps of a request so far, in order, are told.
-pub data TellsRequest (client place : ℕ) (request : Request) : List Telling → List Step → Type 0 where
-  NoneYet : TellsRequest client place request [] []
-  OneMore : (tellings : List Telling) (steps : List Step) (one : Telling) → TellsRequest client place request tellings steps → TellsStep client place request steps one
-      → TellsRequest client place request (tellings ++ one ∷ []) (steps ++ one.acts)
+pub data TellsRequest (setting : Setting) (client place : ℕ) (request : Request) : List Telling → List Step → Type 0 where
+  NoneYet : TellsRequest setting client place request [] []
+  OneMore : (tellings : List Telling) (steps : List Step) (one : Telling) → TellsRequest setting client place request tellings steps → TellsStep setting client place request steps one
+      → TellsRequest setting client place request (tellings ++ one ∷ []) (steps ++ one.acts)
 
 -- the requests that are over, the first at this place
-pub data TellsPast (client : ℕ) : ℕ → List Past → List (List Telling) → Type 0 where
-  NonePast : (place : ℕ) → TellsPast client place [] []
-  OnePast : (place : ℕ) (one : Past) (others : List Past) (tellings : List Telling) (more : List (List Telling)) → TellsRequest client place one.request tellings one.steps → TellsPast client (place + 1) others more
-      → TellsPast client place (one ∷ others) (tellings ∷ more)
+pub data TellsPast (setting : Setting) (client : ℕ) : ℕ → List Past → List (List Telling) → Type 0 where
+  NonePast : (place : ℕ) → TellsPast setting client place [] []
+  OnePast : (place : ℕ) (one : Past) (others : List Past) (tellings : List Telling) (more : List (List Telling)) → TellsRequest setting client place one.request tellings one.steps → TellsPast setting client (place + 1) others more
+      → TellsPast setting client place (one ∷ others) (tellings ∷ more)
 
 -- and the one in course
-pub data TellsNow (client place : ℕ) : Option Doing → List Telling → Type 0 where
-  NoneNow : TellsNow client place None []
-  OneNow : (doing : Doing) (tellings : List Telling) → TellsRequest client place doing.request tellings doing.steps → TellsNow client place (Some doing) tellings
+pub data TellsNow (setting : Setting) (client place : ℕ) : Option Doing → List Telling → Type 0 where
+  NoneNow : TellsNow setting client place None []
+  OneNow : (doing : Doing) (tellings : List Telling) → TellsRequest setting client place doing.request tellings doing.steps → TellsNow setting client place (Some doing) tellings
 
 abbrev pub joined : List (List Telling) → List Telling
 joined [] = []
 joined (tellings ∷ more) = tellings ++ joined more
 
 -- The steps that are told of a client are those of its requests, one request after the other.
-pub record TellsClient (client : ℕ) (own : Client) (told : List StepTold) : Type 0 where
+pub record TellsClient (setting : Setting) (client : ℕ) (own : Client) (told : List StepTold) : Type 0 where
   pub past : List (List Telling)
   pub now : List Telling
-  pub tells_past : TellsPast client 0 own.past past
-  pub tells_now : TellsNow client (length own.past) own.now now
+  pub tells_past : TellsPast setting client 0 own.past past
+  pub tells_now : TellsNow setting client (length own.past) own.now now
   pub all : told ≡ steps_in_tellings (joined past ++ now)
 
-abbrev pub TellsClients : List Client → List StepTold → Type 0
-TellsClients clients told = (client : ℕ) (own : Client) → client_at clients client ≡ Some own → TellsClient client own (steps_of client told)
+abbrev pub TellsClients : Setting → List Client → List StepTold → Type 0
+TellsClients setting clients told = (client : ℕ) (own : Client) → client_at clients client ≡ Some own → TellsClient setting client own (steps_of client told)
 
 -- wherever a run has come to
 abbrev pub RunsTellSteps : Type 0
 RunsTellSteps =
     (document : Document) (events : List Event) (notes : List Note) (items : List Served) (seen : Seen) (t : Traced)
-    → IsTrue (all_requests_right document) → Reached document events notes items seen t → TellsClients t.machine.clients (steps_told notes items)
+    → IsTrue (all_requests_right document) → Reached document events notes items seen t → TellsClients t.setting t.machine.clients (steps_told notes items)
 
 abbrev pub FinishesTellSteps : Type 0
 FinishesTellSteps =
     (document : Document) (place : Place) (notes : List Note) (items : List Served) (seen : Seen) (t : Traced)
-    → IsTrue (all_requests_right document) → IsFinishing document place notes items seen t → TellsClients t.machine.clients (steps_told notes items)
+    → IsTrue (all_requests_right document) → IsFinishing document place notes items seen t → TellsClients t.setting t.machine.clients (steps_told notes items)
