@@ -1,4 +1,5 @@
 pub mod ActsTold
+pub mod AwaitedFrame
 pub mod ChainTold
 pub mod ClientsMove
 pub mod ClientsTold
@@ -10,9 +11,11 @@ pub mod CrashesTold
 pub mod EndsTold
 pub mod EventsTold
 pub mod Following
+pub mod FrameAnswered
 pub mod GoNotes
 pub mod GoesTold
 pub mod HappeningsGrow
+pub mod HeldTold
 pub mod ItemsTold
 pub mod LastSent
 pub mod LinksStay
@@ -21,6 +24,7 @@ pub mod Lookups
 pub mod LostTold
 pub mod NoClose
 pub mod Offered
+pub mod RecordedCalls
 pub mod RepliesTold
 pub mod ReplyTaken
 pub mod RunsGrow
@@ -29,6 +33,7 @@ pub mod SessionsApart
 pub mod Single
 pub mod Standing
 pub mod StepsTold
+pub mod TakenHeard
 pub mod TermsTold
 pub mod ToldOnce
 pub mod TurnsEvents
