@@ -1,5 +1,5 @@
 -- Where a request takes an outcome, the connection that it lost is told.
-use Rattle.std.proofs.Common.{◌≡◌, refl, sym, ap, subst, ◌∙◌, Bool, true, false, ℕ, length, List, [], ◌∷◌, Option, Some, None, option_and_then, ◌⊎◌, inl, inr}
+use Rattle.std.proofs.Common.{◌≡◌, ◌<◌, refl, sym, ap, subst, ◌∙◌, Bool, true, false, ℕ, length, List, [], ◌∷◌, Option, Some, None, option_and_then, ◌⊎◌, inl, inr}
 use Rattle.std.specs.Prelude.{◌==◌, is_some, is_none}
 use Rattle.std.specs.List.{list_all, list_any}
 use Rattle.std.specs.Option.{option_map_or}
@@ -81,11 +81,11 @@ held_session link x named held = by link.session (subst (λ (h : Option Ltxid). 
         (and_parts (list_all (λ other. option_map_or (same_session other.served.session) link.session false) link.served) _ two.1).1
 
 -- the event that ended a connection on which a reply was taken is told, unless it was closed
-ended_is : (link : Link) (told event : ℕ) (x : Ltxid) → TellsEnd link told → same_event link.ended event ≡ true → is_closed link ≡ false → is_heard link ≡ true → link.held ≡ Some x → told ≡ event
+ended_is : (link : Link) (told event : ℕ) (x : Ltxid) → TellsEnd link told → same_event link.ended event ≡ true → is_closed link ≡ false → is_heard link ≡ true → link.held ≡ Some x → (told ≡ event) × (0 < told)
 ended_is link _ event x (IsOpen opens none never) same unclosed heard held =
     let met : same_event None event ≡ true = subst (λ (ended : Option ℕ). same_event ended event ≡ true) none same in
     absurd (let no : ⊥ = cc in no)
-ended_is link told event x (HasEnded _ some shut at never) same unclosed heard held = eq_from told event (subst (λ (ended : Option ℕ). same_event ended event ≡ true) at same)
+ended_is link told event x (HasEnded _ some shut at never) same unclosed heard held = (eq_from told event (subst (λ (ended : Option ℕ). same_event ended event ≡ true) at same), some)
 ended_is link _ event x (WasClosed before shut closed) same unclosed heard held = absurd (let no : ⊥ = cc in no)
 ended_is link _ event x (NeverHeard before shut none empty) same unclosed heard held =
     let one : same_held (last_told []) link.held ≡ true = subst (λ (taken : List Reply). same_held (last_told taken) link.held ≡ true) none heard in
@@ -121,9 +121,10 @@ module _ (t : Traced) (course : Course) (told : List Seen) (all : AllTold t.mach
                 seen = seen;
                 found = ap (λ (s : SessionId). link_of_session s told) (its seen here.session) ∙ found number seen is_told;
                 tells = here;
-                ended =
-                    ended_is link seen.ended wanted.event y here.end (and_parts (option_map_or (same_ltxid wanted.ltxid) link.held false) (same_event link.ended wanted.event) is).1 (unclosed number link among there)
-                    (at_link is_heard t.machine.links number link heard there) held;
+                ended = (ended_is link seen.ended wanted.event y here.end (and_parts (option_map_or (same_ltxid wanted.ltxid) link.held false) (same_event link.ended wanted.event) is).1 (unclosed number link among there)
+                    (at_link is_heard t.machine.links number link heard there) held).0;
+                some = (ended_is link seen.ended wanted.event y here.end (and_parts (option_map_or (same_ltxid wanted.ltxid) link.held false) (same_event link.ended wanted.event) is).1 (unclosed number link among there)
+                    (at_link is_heard t.machine.links number link heard there) held).1;
               }) refl
             where
               session : link.session ≡ Some (session_of y)

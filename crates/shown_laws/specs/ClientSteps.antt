@@ -1,5 +1,5 @@
 -- What the notes and the items of a run tell of a step of a client, beside what the client did.
-use Rattle.std.specs.Prelude.{◌≡◌, ◌+◌, ◌==◌, ℕ, true, false, IsTrue, List, [], ◌∷◌, ◌++◌, length, Option, Some, None, unwrap_or, if◌then◌else◌}
+use Rattle.std.specs.Prelude.{◌≡◌, ◌<◌, ◌+◌, ◌==◌, ℕ, true, false, IsTrue, List, [], ◌∷◌, ◌++◌, length, Option, Some, None, unwrap_or, if◌then◌else◌}
 use Rattle.std.specs.List.{list_any, last_or}
 use Rattle.svc_values.specs.declared.entry.Ltxid.{Ltxid}
 use Rattle.svc_values.specs.declared.frame.Down.{Down}
@@ -64,6 +64,7 @@ pub record TellsLost (t : Traced) (course : Course) (x : Ltxid) (told : Option S
   pub found : told ≡ Some seen
   pub tells : TellsLink number link seen
   pub ended : seen.ended ≡ wanted.event
+  pub some : 0 < seen.ended
 
 -- where no outcome is taken none is told
 pub data LostTold (t : Traced) (course : Course) (told : Option Seen) : Option Ltxid → Type 0 where
