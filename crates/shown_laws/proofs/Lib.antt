@@ -32,6 +32,7 @@ pub mod SeenLists
 pub mod SessionsApart
 pub mod Single
 pub mod Standing
+pub mod StepsHeard
 pub mod StepsTold
 pub mod TakenHeard
 pub mod TermsTold

@@ -1,7 +1,7 @@
 -- A step that takes a frame, as the judge of causes reads it.
 use Rattle.std.proofs.Common.{◌≡◌, refl, sym, ap, subst, ◌∙◌, Bool, true, false, ℕ, ◌&&◌, length, List, [], ◌∷◌, ◌++◌, cond, Option, Some, None}
 use Rattle.std.specs.Prelude.{◌==◌, filter}
-use Rattle.std.specs.List.{list_all, last_or}
+use Rattle.std.specs.List.{list_all, last_or, list_any}
 use Rattle.std.specs.Option.{option_map_or}
 use Rattle.std.proofs.lemmas.Bool.{and_parts, and_from}
 use Rattle.svc_values.specs.declared.frame.Down.{Down}
@@ -17,11 +17,22 @@ use Rattle.world_model.specs.Sames.{owned_by, same_owners, same_up}
 use Rattle.world_model.specs.Shown.{is_call, calls_on, in_row, is_scripts, is_current, is_row, rows_on, stands}
 use Rattle.world_model.specs.Traced.{Traced, Course, course_now}
 use Rattle.world_model.specs.Words.{held_in}
-use Rattle.shown_laws.specs.ClientSteps.{TellsReply}
-use Rattle.shown_laws.proofs.AwaitedFrame.{now_talks, heard, awaits, last_is}
+use Rattle.svc_values.specs.declared.entry.Ltxid.{Ltxid}
+use Rattle.client_model.specs.Terms.{Terms, Phase, Idle, Unbegun, Queued, Seeking, Greeting, Asked, Running, Replaying}
+use Rattle.client_model.proofs.Offered.{Fits}
+use Rattle.outage_schedule.specs.declared.item.Item.{Item}
+use Rattle.outage_schedule.specs.declared.item.Item.TheVariants as item
+use Rattle.shown_clauses.specs.Causes.{is_had}
+use Rattle.shown_clauses.specs.Links.{Link as Seen}
+use Rattle.shown_clauses.specs.Steps.{Step as StepTold, asked_of}
+use Rattle.svc_values.specs.declared.call.Call.{Call}
+use Rattle.world_model.specs.Wanted.{Wanted, wanted_in}
+use Rattle.caused_laws.specs.Telling.{WasLost, LostBy}
+use Rattle.shown_laws.specs.ClientSteps.{TellsReply, TellsLost, LostTold, WasAsked}
+use Rattle.shown_laws.proofs.AwaitedFrame.{now_talks, heard, awaits, last_is, fits_now}
 use Rattle.shown_laws.proofs.CourseNow.{course_holds}
 use Rattle.shown_laws.proofs.FrameAnswered.{LastIs, IsAnswer, answer_is}
-use Rattle.shown_laws.proofs.HeldTold.{has_among, all_among}
+use Rattle.shown_laws.proofs.HeldTold.{has_among, all_among, Among, lost_among}
 use Rattle.shown_laws.proofs.SessionsApart.{at_link}
 
 -- LISTS -------------------------------------------------------------------------------------------
@@ -85,3 +96,51 @@ module _ (t : Traced) (inv : Invariant t) (client : ℕ) (own : Client) (here : 
     -- The reply answers the frame that was sent last.
     pub is_answer : IsAnswer heard_now.last served.item frame
     is_answer = answer_is t served.session reply.commits frame served.item reply.one.sent.frame reply.sent.frame heard_now.last reply.is_its alike last reply.says stand
+
+-- THE LOSS ----------------------------------------------------------------------------------------
+
+none_is : (wanted : Wanted) → ◌≡◌ {A = Option Wanted} None (Some wanted) → ⊥
+none_is wanted is = let none : ⊥ = cc in none
+
+-- the event that a request wants to know of is the one that it tells
+ended_by : (terms : Terms) (calls : List Call) (a : Account) (gone : Bool) (phase : Phase) (wanted : Wanted) → Fits terms calls a gone phase → wanted_in phase ≡ Some wanted → a.ended ≡ Some wanted.event
+ended_by terms calls a gone (Seeking (Some lost)) wanted fits is = fits.ended ∙ ap (λ (w : Wanted). Some w.event) (let same : ◌≡◌ {A = Wanted} (record { ltxid = lost.ltxid; event = lost.event }) wanted = cc in same)
+ended_by terms calls a gone (Greeting (Some lost)) wanted fits is = fits.0.ended ∙ ap (λ (w : Wanted). Some w.event) (let same : ◌≡◌ {A = Wanted} (record { ltxid = lost.ltxid; event = lost.event }) wanted = cc in same)
+ended_by terms calls a gone (Asked asking) wanted fits is = fits.0.ended ∙ ap (λ (w : Wanted). Some w.event) (let same : ◌≡◌ {A = Wanted} (record { ltxid = asking.ltxid; event = asking.event }) wanted = cc in same)
+ended_by terms calls a gone (Seeking None) wanted fits is = absurd (none_is wanted is)
+ended_by terms calls a gone (Greeting None) wanted fits is = absurd (none_is wanted is)
+ended_by terms calls a gone Idle wanted fits is = absurd (none_is wanted is)
+ended_by terms calls a gone Unbegun wanted fits is = absurd (none_is wanted is)
+ended_by terms calls a gone (Queued from) wanted fits is = absurd (none_is wanted is)
+ended_by terms calls a gone (Running state) wanted fits is = absurd (none_is wanted is)
+ended_by terms calls a gone (Replaying state) wanted fits is = absurd (none_is wanted is)
+
+module _ (t : Traced) (inv : Invariant t) (client : ℕ) (own : Client) (here : client_at t.machine.clients client ≡ Some own) (doing : Doing) (now : own.now ≡ Some doing)
+    (steps : List StepTold) (all : (number : ℕ) → Among number (held_in doing.steps) → list_any (λ step. is_had number step.did) steps ≡ true) where
+  was_lost : (x : Ltxid) (told : Option Seen) → TellsLost t (course_now t.setting client (length own.past) doing) x told → WasLost (heard_now t inv client own here doing now) steps told
+  was_lost x told l =
+      let fits = fits_now t.setting.terms doing (talks_now t inv client own here doing now) in
+      record {
+        link = l.seen;
+        is_link = l.found;
+        held =
+            subst (λ (number : ℕ). list_any (λ step. is_had number step.did) steps ≡ true) (sym l.tells.connection)
+            (all l.number (lost_among (course_now t.setting client (length own.past) doing) l.number l.among));
+        is_event = l.some;
+        ended =
+            ended_by t.setting.terms doing.request.calls (heard_now t inv client own here doing now) fits.0 doing.talk.phase l.wanted fits.1 l.wants
+            ∙ ap Some (sym l.ended);
+      }
+
+  -- Where an outcome is taken the request held the lost connection, and knows of the event that ended it.
+  pub lost_is : (told : Option Seen) (one : Item) → LostTold t (course_now t.setting client (length own.past) doing) told (asked_of one) → LostBy (heard_now t inv client own here doing now) steps told one
+  lost_is told (item.Outcome x result) (WasAsked _ l) = was_lost x told l
+  lost_is told item.Connect is = tt
+  lost_is told (item.Begin settings) is = tt
+  lost_is told (item.Call marked call answers draws) is = tt
+  lost_is told (item.Blocked call) is = tt
+  lost_is told item.End is = tt
+  lost_is told item.Close is = tt
+  lost_is told (item.Refused cause) is = tt
+  lost_is told (item.CrashedCall marked call) is = tt
+  lost_is told (item.CrashedOutcome x) is = tt
