@@ -5,6 +5,7 @@ pub mod ClientsMove
 pub mod ClientsTold
 pub mod Clock
 pub mod ConnectionsTold
+pub mod ConversationsHeard
 pub mod CourseHeard
 pub mod CourseNow
 pub mod CrashesTold
