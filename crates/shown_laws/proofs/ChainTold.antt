@@ -6,14 +6,16 @@ use Rattle.std.proofs.lemmas.List.{map-append}
 use Rattle.std.proofs.lemmas.List.Elements.{filter-append}
 use Rattle.outage_schedule.specs.declared.document.Request.{Request}
 use Rattle.outage_schedule.specs.declared.note.GoNote.{GoNote}
+use Rattle.outage_schedule.specs.declared.request.RequestReport.{RequestReport}
+use Rattle.run_clauses.specs.Copies.{next_of}
 use Rattle.shown_clauses.specs.Links.{Seen}
 use Rattle.shown_clauses.specs.Steps.{Step as StepTold, steps_of}
-use Rattle.world_model.specs.Clients.{Step, Doing, Past, Client, client_at, begun, past_of}
+use Rattle.world_model.specs.Clients.{Step, Doing, Past, Client, client_at, begun, past_of, script_at, reports_of}
 use Rattle.world_model.specs.Invariant.{Invariant}
 use Rattle.world_model.specs.Machines.{Machine}
 use Rattle.world_model.specs.Settings.{Setting}
 use Rattle.world_model.specs.Traced.{Traced}
-use Rattle.shown_laws.specs.Tellings.{Telling, steps_in_tellings, Begins, WasThere, BeginsNow, TellsRequest, NoneYet, OneMore, TellsPast, NonePast, OnePast, TellsNow, NoneNow, OneNow, joined, TellsClient, TellsClients}
+use Rattle.shown_laws.specs.Tellings.{Telling, steps_in_tellings, Begins, WasThere, BeginsNow, TellsRequest, NoneYet, OneMore, TellsPast, NonePast, OnePast, TellsNow, NoneNow, OneNow, joined, FollowsFrom, IsScripted, TellsClient, TellsClients}
 use Rattle.shown_laws.proofs.ClientsMove.{Leads, GoesOn, IsOver, client_own, client_other}
 use Rattle.shown_laws.proofs.Lookups.{either, eq_to, ne_to}
 use Rattle.shown_laws.proofs.StepsTold.{told_step, Acts}
@@ -91,9 +93,35 @@ module _ (t : Traced) (inv : Invariant t) (seen : Seen) (client : ℕ) (did : Go
         refl,
       )
 
+  -- the request in course is the one that was next
+  was_next : IsScripted (script_at t.setting client) acts.own → acts.own.next ≡ Some acts.doing.request
+  was_next is = by acts.own.now acts.own.next refl refl acts.does
+    where
+      by : (now : Option Doing) (next : Option Request) → acts.own.now ≡ now → acts.own.next ≡ next → option_or now (option_map (begun t.setting.terms (t.machine.event + 1) t.machine.tick) next) ≡ Some acts.doing → acts.own.next ≡ Some acts.doing.request
+      by (Some doing) next has is_next does = is.now acts.doing (has ∙ does)
+      by None (Some request) has is_next does = is_next ∙ ap Some (let same : begun t.setting.terms (t.machine.event + 1) t.machine.tick request ≡ acts.doing = cc in ap (λ (d : Doing). d.request) same)
+      by None None has is_next does = absurd (let none : ⊥ = cc in none)
+
+  follows_on : (script : List Request) (before : List RequestReport) (past : List Past) (one : Past) → FollowsFrom script before past → next_of script (before ++ reports_of past) ≡ Some one.request → FollowsFrom script before (past ++ one ∷ [])
+  follows_on script before [] one follows next = (ap (next_of script) (sym (append-nil before)) ∙ next, tt)
+  follows_on script before (first ∷ past) one follows next =
+      (follows.0, follows_on script (before ++ first.report ∷ []) past one follows.1 (ap (next_of script) (append_assoc before (first.report ∷ []) (reports_of past)) ∙ next))
+
+  scripted_more : (next : Client) → Leads t.setting client acts.own acts.after next → IsScripted (script_at t.setting client) acts.own → IsScripted (script_at t.setting client) next
+  scripted_more _ GoesOn is = record {
+    past = is.past;
+    next = is.next;
+    now = λ doing has. was_next is ∙ ap Some (sym acts.request ∙ (let same : acts.after ≡ doing = cc in ap (λ (d : Doing). d.request) same));
+  }
+  scripted_more _ IsOver is = record {
+    past = follows_on (script_at t.setting client) [] acts.own.past (past_of t.setting.terms acts.after) is.past (sym is.next ∙ (was_next is ∙ ap Some (sym acts.request)));
+    next = refl;
+    now = λ doing never. absurd (let none : ⊥ = cc in none);
+  }
+
   -- what is told of the client then
   client_more : (told : List StepTold) (next : Client) → Leads t.setting client acts.own acts.after next → TellsClient t.setting client acts.own told → TellsClient t.setting client next (told ++ told_step t seen client did ∷ [])
-  client_more told next leads is = by next leads (request_more is.now (current t client acts.own acts.doing acts.own.now acts.own.next is.now refl refl acts.does is.tells_now))
+  client_more told next leads is = by next leads (scripted_more next leads is.scripted) (request_more is.now (current t client acts.own acts.doing acts.own.now acts.own.next is.now refl refl acts.does is.tells_now))
     where
       longer : (one : Telling) → one.step ≡ told_step t seen client did → told ++ told_step t seen client did ∷ [] ≡ steps_in_tellings (joined is.past ++ (is.now ++ one ∷ []))
       longer one same =
@@ -101,10 +129,10 @@ module _ (t : Traced) (inv : Invariant t) (seen : Seen) (client : ℕ) (did : Go
           ∙ (ap (λ (s : StepTold). steps_in_tellings (joined is.past ++ is.now) ++ s ∷ []) (sym same)
           ∙ (sym (map-append (λ (x : Telling). x.step) (joined is.past ++ is.now) (one ∷ [])) ∙ ap steps_in_tellings (append_assoc (joined is.past) is.now (one ∷ []))))
 
-      by : (next : Client) → Leads t.setting client acts.own acts.after next
+      by : (next : Client) → Leads t.setting client acts.own acts.after next → IsScripted (script_at t.setting client) next
           → (one : Telling) × TellsRequest t.setting client (length acts.own.past) acts.after.request (is.now ++ one ∷ []) acts.after.steps × (one.step ≡ told_step t seen client did) → TellsClient t.setting client next (told ++ told_step t seen client did ∷ [])
-      by _ GoesOn more = record { past = is.past; now = is.now ++ more.0 ∷ []; tells_past = is.tells_past; tells_now = OneNow acts.after (is.now ++ more.0 ∷ []) more.1; all = longer more.0 more.2 }
-      by _ IsOver more = record {
+      by _ GoesOn scripted more = record { past = is.past; now = is.now ++ more.0 ∷ []; tells_past = is.tells_past; tells_now = OneNow acts.after (is.now ++ more.0 ∷ []) more.1; all = longer more.0 more.2; scripted = scripted }
+      by _ IsOver scripted more = record {
         past = is.past ++ (is.now ++ more.0 ∷ []) ∷ [];
         now = [];
         tells_past =
@@ -113,6 +141,7 @@ module _ (t : Traced) (inv : Invariant t) (seen : Seen) (client : ℕ) (did : Go
             (subst (λ (k : ℕ). TellsRequest t.setting client k acts.after.request (is.now ++ more.0 ∷ []) acts.after.steps) (sym none) more.1);
         tells_now = NoneNow;
         all = longer more.0 more.2 ∙ ap steps_in_tellings (sym (append-nil (joined (is.past ++ (is.now ++ more.0 ∷ []) ∷ [])) ∙ joined_more is.past (is.now ++ more.0 ∷ [])));
+        scripted = scripted;
       }
 
   -- the steps of one client, where this one makes a step more

@@ -1,6 +1,6 @@
 -- Wherever a run has come to, the steps that are told of each client are those of its requests.
-use Rattle.std.proofs.Common.{◌≡◌, refl, sym, subst, append-nil, ℕ, zero, suc, List, [], ◌∷◌, ◌++◌, map, Some, IsTrue}
-use Rattle.std.specs.Prelude.{slice_get}
+use Rattle.std.proofs.Common.{◌≡◌, refl, ap, sym, subst, append-nil, ℕ, zero, suc, List, [], ◌∷◌, ◌++◌, map, Some, IsTrue}
+use Rattle.std.specs.Prelude.{slice_get, get_or}
 use Rattle.outage_schedule.specs.declared.document.Document.{Document}
 use Rattle.outage_schedule.specs.declared.document.Request.{Request}
 use Rattle.outage_schedule.specs.declared.event.Event.{Event}
@@ -9,8 +9,9 @@ use Rattle.outage_schedule.specs.declared.note.GoNote.{GoNote}
 use Rattle.outage_schedule.specs.declared.note.Note.{Note}
 use Rattle.outage_schedule.specs.declared.note.Note.TheVariants as note
 use Rattle.server_model.specs.Seen.{Seen}
+use Rattle.run_clauses.specs.Copies.{next_of}
 use Rattle.shown_clauses.specs.Steps.{Step as StepTold}
-use Rattle.world_model.specs.Clients.{Client, resting}
+use Rattle.world_model.specs.Clients.{Client, resting, script_at}
 use Rattle.world_model.specs.Finishing.{Place}
 use Rattle.world_model.specs.Invariant.{Invariant}
 use Rattle.world_model.specs.KeptLaws.{RunsKeepInvariant, FinishesKeepInvariant}
@@ -35,16 +36,16 @@ use Rattle.shown_laws.proofs.StepsTold.{told_steps, StepTells, TellsNone, TellsO
 
 -- THE START ---------------------------------------------------------------------------------------
 
-fresh_at : {A : Type 0} (setting : Setting) (script : A → List Request) (all : List A) (index : ℕ) (client : ℕ) (own : Client) → slice_get (map (λ one. resting (script one) []) all) index ≡ Some own → TellsClient setting client own []
-fresh_at setting script [] index client own is = absurd (let none : ⊥ = cc in none)
-fresh_at setting script (one ∷ all) zero client own is =
+fresh_at : {A : Type 0} (setting : Setting) (script : A → List Request) (all : List A) (index : ℕ) (client : ℕ) (own : Client) → script_at setting client ≡ get_or (map script all) index [] → slice_get (map (λ one. resting (script one) []) all) index ≡ Some own → TellsClient setting client own []
+fresh_at setting script [] index client own its is = absurd (let none : ⊥ = cc in none)
+fresh_at setting script (one ∷ all) zero client own its is =
     let same : resting (script one) [] ≡ own = cc in
-    subst (λ (c : Client). TellsClient setting client c []) same (record { past = []; now = []; tells_past = NonePast 0; tells_now = NoneNow; all = refl })
-fresh_at setting script (one ∷ all) (suc index) client own is = fresh_at setting script all index client own is
+    subst (λ (c : Client). TellsClient setting client c []) same (record { past = []; now = []; tells_past = NonePast 0; tells_now = NoneNow; all = refl; scripted = record { past = tt; next = ap (λ (made : List Request). next_of made []) (sym its); now = λ doing never. absurd (let none : ⊥ = cc in none) } })
+fresh_at setting script (one ∷ all) (suc index) client own its is = fresh_at setting script all index client own its is
 
 none_told : (document : Document) → TellsClients (setting_of document) (start_of document).clients []
 none_told document zero own is = absurd (let none : ⊥ = cc in none)
-none_told document (suc index) own is = fresh_at (setting_of document) (λ client. client.requests) document.clients index (suc index) own is
+none_told document (suc index) own is = fresh_at (setting_of document) (λ client. client.requests) document.clients index (suc index) own refl is
 
 -- EVENTS ------------------------------------------------------------------------------------------
 

@@ -35,6 +35,7 @@ pub mod Single
 pub mod Standing
 pub mod StepsHeard
 pub mod StepsTold
+pub mod SubmissionsTold
 pub mod TakenHeard
 pub mod TermsTold
 pub mod ToldOnce

@@ -5,11 +5,13 @@ use Rattle.outage_schedule.specs.declared.document.Request.{Request}
 use Rattle.outage_schedule.specs.declared.event.Event.{Event}
 use Rattle.outage_schedule.specs.declared.item.Served.{Served}
 use Rattle.outage_schedule.specs.declared.note.Note.{Note}
+use Rattle.outage_schedule.specs.declared.request.RequestReport.{RequestReport}
+use Rattle.run_clauses.specs.Copies.{next_of}
 use Rattle.server_model.specs.Seen.{Seen}
 use Rattle.client_model.specs.Terms.{requested}
 use Rattle.client_model.specs.declared.input.Input.TheVariants.{Start}
 use Rattle.shown_clauses.specs.Steps.{Step as StepTold, steps_of}
-use Rattle.world_model.specs.Clients.{Step, Doing, Past, Client, client_at, begun, doing_of}
+use Rattle.world_model.specs.Clients.{Step, Doing, Past, Client, client_at, script_at, begun, doing_of, reports_of}
 use Rattle.world_model.specs.Finishing.{Place}
 use Rattle.world_model.specs.Invariant.{Invariant}
 use Rattle.world_model.specs.Reached.{Reached, IsFinishing}
@@ -78,6 +80,17 @@ abbrev pub joined : List (List Telling) → List Telling
 joined [] = []
 joined (tellings ∷ more) = tellings ++ joined more
 
+-- each request that is over was the one that the script lets follow the reports before it
+abbrev pub FollowsFrom : List Request → List RequestReport → List Past → Type 0
+FollowsFrom script before [] = Unit {0}
+FollowsFrom script before (past ∷ others) = (next_of script before ≡ Some past.request) × FollowsFrom script (before ++ past.report ∷ []) others
+
+-- A client follows its script: with each request, and with the next one, which is the one in course if one is.
+pub record IsScripted (script : List Request) (own : Client) : Type 0 where
+  pub past : FollowsFrom script [] own.past
+  pub next : own.next ≡ next_of script (reports_of own.past)
+  pub now : (doing : Doing) → own.now ≡ Some doing → own.next ≡ Some doing.request
+
 -- The steps that are told of a client are those of its requests, one request after the other.
 pub record TellsClient (setting : Setting) (client : ℕ) (own : Client) (told : List StepTold) : Type 0 where
   pub past : List (List Telling)
@@ -85,6 +98,7 @@ pub record TellsClient (setting : Setting) (client : ℕ) (own : Client) (told :
   pub tells_past : TellsPast setting client 0 own.past past
   pub tells_now : TellsNow setting client (length own.past) own.now now
   pub all : told ≡ steps_in_tellings (joined past ++ now)
+  pub scripted : IsScripted (script_at setting client) own
 
 abbrev pub TellsClients : Setting → List Client → List StepTold → Type 0
 TellsClients setting clients told = (client : ℕ) (own : Client) → client_at clients client ≡ Some own → TellsClient setting client own (steps_of client told)
