@@ -1,6 +1,6 @@
 -- The steps of a client, request by request, where it makes one more.
-use Rattle.std.proofs.Common.{◌≡◌, ◌≢◌, refl, sym, ap, subst, ◌∙◌, append-nil, append_assoc, Bool, ℕ, ◌+◌, length, List, [], ◌∷◌, ◌++◌, cond, Option, Some, None, option_map, ◌⊎◌, inl, inr, arith}
-use Rattle.std.specs.Prelude.{◌==◌}
+use Rattle.std.proofs.Common.{◌≡◌, ◌≢◌, refl, sym, ap, subst, ◌∙◌, append-nil, append_assoc, Bool, ℕ, zero, suc, ◌+◌, length, List, [], ◌∷◌, ◌++◌, cond, Option, Some, None, option_map, ◌⊎◌, inl, inr, arith}
+use Rattle.std.specs.Prelude.{◌==◌, slice_set}
 use Rattle.std.specs.Option.{option_or}
 use Rattle.std.proofs.lemmas.List.{map-append}
 use Rattle.std.proofs.lemmas.List.Elements.{filter-append}
@@ -10,7 +10,7 @@ use Rattle.outage_schedule.specs.declared.request.RequestReport.{RequestReport}
 use Rattle.run_clauses.specs.Copies.{next_of}
 use Rattle.shown_clauses.specs.Links.{Seen}
 use Rattle.shown_clauses.specs.Steps.{Step as StepTold, steps_of}
-use Rattle.world_model.specs.Clients.{Step, Doing, Past, Client, client_at, begun, past_of, script_at, reports_of}
+use Rattle.world_model.specs.Clients.{Step, Doing, Past, Client, client_at, begun, past_of, script_at, reports_of, with_client}
 use Rattle.world_model.specs.Invariant.{Invariant}
 use Rattle.world_model.specs.Machines.{Machine}
 use Rattle.world_model.specs.Settings.{Setting}
@@ -56,6 +56,15 @@ current t client own doing _ None _ is_now is_next does NoneNow = absurd (let no
 current t client own doing _ (Some request) _ is_now is_next does NoneNow =
     let same : begun t.setting.terms (t.machine.event + 1) t.machine.tick request ≡ doing = cc in
     record { steps = []; began = _; begins = BeginsNow request is_now is_next (sym same); all = ap (λ (d : Doing). d.steps) (sym same); told = NoneYet }
+
+set_long : (clients : List Client) (index : ℕ) (client : Client) → length (slice_set clients index client) ≡ length clients
+set_long [] index client = refl
+set_long (first ∷ clients) zero client = refl
+set_long (first ∷ clients) (suc index) client = ap suc (set_long clients index client)
+
+with_long : (clients : List Client) (number : ℕ) (client : Client) → length (with_client clients number client) ≡ length clients
+with_long clients zero client = refl
+with_long clients (suc index) client = set_long clients index client
 
 -- ONE STEP MORE -----------------------------------------------------------------------------------
 
@@ -155,19 +164,22 @@ module _ (t : Traced) (inv : Invariant t) (seen : Seen) (client : ℕ) (did : Go
       filter-append (λ (step : StepTold). step.client == other) told (told_step t seen client did ∷ [])
       ∙ (ap (λ (test : Bool). steps_of other told ++ cond test (told_step t seen client did ∷ []) []) (ne_to client other (λ same. differ (sym same))) ∙ append-nil (steps_of other told))
 
-  -- All clients, where this one makes a step more.
-  pub clients_more : (told : List StepTold) → TellsClients t.setting t.machine.clients told → TellsClients t.setting n.clients (told ++ told_step t seen client did ∷ [])
-  clients_more told before other own here = by (either other client)
-    where
-      by : (other ≡ client) ⊎ (other ≢ client) → TellsClient t.setting other own (steps_of other (told ++ told_step t seen client did ∷ []))
-      by (inl same) =
+  each_more : (told : List StepTold) → TellsClients t.setting t.machine.clients told → (other : ℕ) (own : Client) → client_at n.clients other ≡ Some own → (other ≡ client) ⊎ (other ≢ client) → TellsClient t.setting other own (steps_of other (told ++ told_step t seen client did ∷ []))
+  each_more told before other own here (inl same) =
           let at : client_at n.clients client ≡ Some acts.moves.next = ap (λ (c : List Client). client_at c client) acts.moves.clients ∙ client_own t.machine.clients client acts.own acts.moves.next acts.here in
           let both : Some acts.moves.next ≡ Some own = sym at ∙ (ap (client_at n.clients) (sym same) ∙ here) in
           let is : acts.moves.next ≡ own = cc in
           subst (λ (k : ℕ). TellsClient t.setting k own (steps_of k (told ++ told_step t seen client did ∷ []))) (sym same)
           (subst (TellsClient t.setting client own) (sym (own_steps told))
           (subst (λ (c : Client). TellsClient t.setting client c (steps_of client told ++ told_step t seen client did ∷ [])) is
-          (client_more (steps_of client told) acts.moves.next acts.moves.leads (before client acts.own acts.here))))
-      by (inr differ) =
+          (client_more (steps_of client told) acts.moves.next acts.moves.leads (before.each client acts.own acts.here))))
+  each_more told before other own here (inr differ) =
           subst (TellsClient t.setting other own) (sym (other_steps other differ told))
-          (before other own (sym (client_other t.machine.clients client other acts.moves.next differ) ∙ (ap (λ (c : List Client). client_at c other) (sym acts.moves.clients) ∙ here)))
+          (before.each other own (sym (client_other t.machine.clients client other acts.moves.next differ) ∙ (ap (λ (c : List Client). client_at c other) (sym acts.moves.clients) ∙ here)))
+
+  -- All clients, where this one makes a step more.
+  pub clients_more : (told : List StepTold) → TellsClients t.setting t.machine.clients told → TellsClients t.setting n.clients (told ++ told_step t seen client did ∷ [])
+  clients_more told before = record {
+    many = ap length acts.moves.clients ∙ (with_long t.machine.clients client acts.moves.next ∙ before.many);
+    each = λ other own here. each_more told before other own here (either other client);
+  }

@@ -1,5 +1,5 @@
 -- Wherever a run has come to, the steps that are told of each client are those of its requests.
-use Rattle.std.proofs.Common.{◌≡◌, refl, ap, sym, subst, append-nil, ℕ, zero, suc, List, [], ◌∷◌, ◌++◌, map, Some, IsTrue}
+use Rattle.std.proofs.Common.{◌≡◌, refl, ap, length, sym, subst, append-nil, ℕ, zero, suc, List, [], ◌∷◌, ◌++◌, map, Some, IsTrue}
 use Rattle.std.specs.Prelude.{slice_get, get_or}
 use Rattle.outage_schedule.specs.declared.document.Document.{Document}
 use Rattle.outage_schedule.specs.declared.document.Request.{Request}
@@ -11,7 +11,7 @@ use Rattle.outage_schedule.specs.declared.note.Note.TheVariants as note
 use Rattle.server_model.specs.Seen.{Seen}
 use Rattle.run_clauses.specs.Copies.{next_of}
 use Rattle.shown_clauses.specs.Steps.{Step as StepTold}
-use Rattle.world_model.specs.Clients.{Client, resting, script_at}
+use Rattle.world_model.specs.Clients.{Client, client_at, resting, script_at}
 use Rattle.world_model.specs.Finishing.{Place}
 use Rattle.world_model.specs.Invariant.{Invariant}
 use Rattle.world_model.specs.KeptLaws.{RunsKeepInvariant, FinishesKeepInvariant}
@@ -43,9 +43,16 @@ fresh_at setting script (one ∷ all) zero client own its is =
     subst (λ (c : Client). TellsClient setting client c []) same (record { past = []; now = []; tells_past = NonePast 0; tells_now = NoneNow; all = refl; scripted = record { past = tt; next = ap (λ (made : List Request). next_of made []) (sym its); now = λ doing never. absurd (let none : ⊥ = cc in none) } })
 fresh_at setting script (one ∷ all) (suc index) client own its is = fresh_at setting script all index client own its is
 
+many_same : {A : Type 0} (script : A → List Request) (all : List A) → length (map (λ one. resting (script one) []) all) ≡ length (map script all)
+many_same script [] = refl
+many_same script (one ∷ all) = ap suc (many_same script all)
+
+each_fresh : (document : Document) (client : ℕ) (own : Client) → client_at (start_of document).clients client ≡ Some own → TellsClient (setting_of document) client own []
+each_fresh document zero own is = absurd (let none : ⊥ = cc in none)
+each_fresh document (suc index) own is = fresh_at (setting_of document) (λ client. client.requests) document.clients index (suc index) own refl is
+
 none_told : (document : Document) → TellsClients (setting_of document) (start_of document).clients []
-none_told document zero own is = absurd (let none : ⊥ = cc in none)
-none_told document (suc index) own is = fresh_at (setting_of document) (λ client. client.requests) document.clients index (suc index) own refl is
+none_told document = record { many = many_same (λ client. client.requests) document.clients; each = each_fresh document }
 
 -- EVENTS ------------------------------------------------------------------------------------------
 

@@ -100,8 +100,10 @@ pub record TellsClient (setting : Setting) (client : ℕ) (own : Client) (told :
   pub all : told ≡ steps_in_tellings (joined past ++ now)
   pub scripted : IsScripted (script_at setting client) own
 
-abbrev pub TellsClients : Setting → List Client → List StepTold → Type 0
-TellsClients setting clients told = (client : ℕ) (own : Client) → client_at clients client ≡ Some own → TellsClient setting client own (steps_of client told)
+-- of each client, of which there are as many as scripts
+pub record TellsClients (setting : Setting) (clients : List Client) (told : List StepTold) : Type 0 where
+  pub many : length clients ≡ length setting.scripts
+  pub each : (client : ℕ) (own : Client) → client_at clients client ≡ Some own → TellsClient setting client own (steps_of client told)
 
 -- wherever a run has come to
 abbrev pub RunsTellSteps : Type 0
