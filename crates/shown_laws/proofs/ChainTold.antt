@@ -166,16 +166,16 @@ module _ (t : Traced) (inv : Invariant t) (seen : Seen) (client : ℕ) (did : Go
 
   each_more : (told : List StepTold) → TellsClients t.setting t.machine.clients told → (other : ℕ) (own : Client) → client_at n.clients other ≡ Some own → (other ≡ client) ⊎ (other ≢ client) → TellsClient t.setting other own (steps_of other (told ++ told_step t seen client did ∷ []))
   each_more told before other own here (inl same) =
-          let at : client_at n.clients client ≡ Some acts.moves.next = ap (λ (c : List Client). client_at c client) acts.moves.clients ∙ client_own t.machine.clients client acts.own acts.moves.next acts.here in
-          let both : Some acts.moves.next ≡ Some own = sym at ∙ (ap (client_at n.clients) (sym same) ∙ here) in
-          let is : acts.moves.next ≡ own = cc in
-          subst (λ (k : ℕ). TellsClient t.setting k own (steps_of k (told ++ told_step t seen client did ∷ []))) (sym same)
-          (subst (TellsClient t.setting client own) (sym (own_steps told))
-          (subst (λ (c : Client). TellsClient t.setting client c (steps_of client told ++ told_step t seen client did ∷ [])) is
-          (client_more (steps_of client told) acts.moves.next acts.moves.leads (before.each client acts.own acts.here))))
+      let at : client_at n.clients client ≡ Some acts.moves.next = ap (λ (c : List Client). client_at c client) acts.moves.clients ∙ client_own t.machine.clients client acts.own acts.moves.next acts.here in
+      let both : Some acts.moves.next ≡ Some own = sym at ∙ (ap (client_at n.clients) (sym same) ∙ here) in
+      let is : acts.moves.next ≡ own = cc in
+      subst (λ (k : ℕ). TellsClient t.setting k own (steps_of k (told ++ told_step t seen client did ∷ []))) (sym same)
+      (subst (TellsClient t.setting client own) (sym (own_steps told))
+      (subst (λ (c : Client). TellsClient t.setting client c (steps_of client told ++ told_step t seen client did ∷ [])) is
+      (client_more (steps_of client told) acts.moves.next acts.moves.leads (before.each client acts.own acts.here))))
   each_more told before other own here (inr differ) =
-          subst (TellsClient t.setting other own) (sym (other_steps other differ told))
-          (before.each other own (sym (client_other t.machine.clients client other acts.moves.next differ) ∙ (ap (λ (c : List Client). client_at c other) (sym acts.moves.clients) ∙ here)))
+      subst (TellsClient t.setting other own) (sym (other_steps other differ told))
+      (before.each other own (sym (client_other t.machine.clients client other acts.moves.next differ) ∙ (ap (λ (c : List Client). client_at c other) (sym acts.moves.clients) ∙ here)))
 
   -- All clients, where this one makes a step more.
   pub clients_more : (told : List StepTold) → TellsClients t.setting t.machine.clients told → TellsClients t.setting n.clients (told ++ told_step t seen client did ∷ [])

@@ -1,5 +1,6 @@
 pub mod ActsTold
 pub mod AwaitedFrame
+pub mod CausedRuns
 pub mod ChainTold
 pub mod ClientsMove
 pub mod ClientsTold

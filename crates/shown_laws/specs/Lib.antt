@@ -1,3 +1,4 @@
+pub mod CausedRuns
 pub mod ClientSteps
 pub mod Closing
 pub mod ConnectionLaws
