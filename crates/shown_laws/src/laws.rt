@@ -1,5 +1,6 @@
 //! What the notes and the served items of a run tell is what its machine did, wherever the run has come to. Each law is the clause of a function
 //! with nothing to run.
+ghost use Rattle.shown_laws.specs.CausedRuns.{RunsAreCaused};
 ghost use Rattle.shown_laws.specs.Closing.{RunsLeaveUnclosed, FinishesLeaveUnclosed};
 ghost use Rattle.shown_laws.specs.ConnectionLaws.{RunsTellConnections, FinishesTellConnections};
 ghost use Rattle.shown_laws.specs.Growth.{RunsAreCounted, RunsGrow, FinishesAreCounted, FinishesGrow};
@@ -50,4 +51,13 @@ pub fn turns_are_told()
     ensures finishing { FinishesTellTurns }
 {
     world_model::kept_laws::runs_keep_invariant();
+}
+
+/// The clause `Caused` holds of the report of every whole run of a document that lets a request try at least once: each request ends as its
+/// conversation does, and where it fails it is for the cause that its steps show.
+pub fn runs_are_caused()
+    ensures { RunsAreCaused }
+{
+    world_model::kept_laws::runs_keep_invariant();
+    steps_are_told();
 }
