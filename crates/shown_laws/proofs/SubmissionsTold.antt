@@ -75,6 +75,24 @@ none_submitted : (script : List Request) → submissions_in script [] ≡ []
 none_submitted [] = refl
 none_submitted (request ∷ requests) = none_submitted requests
 
+-- one more of the copies of a request, where no submission stands behind them
+copy_more : (other request : Request) (first : RequestReport) (mine : List RequestReport) (report : RequestReport) (behind left : List Submission) → other ≡ request → behind ≡ [] → left ≡ []
+    → submissions_of (record { request = other; reports = first ∷ (mine ++ report ∷ []) }) ++ behind ≡ (submissions_of (record { request = other; reports = first ∷ mine }) ++ left) ++ record { request = request; copy = report } ∷ []
+copy_more other request first mine report behind left same none gone = whole ∙ (more ∙ its)
+  where
+    whole : submissions_of (record { request = other; reports = first ∷ (mine ++ report ∷ []) }) ++ behind ≡ submissions_of (record { request = other; reports = first ∷ (mine ++ report ∷ []) })
+    whole = ap (λ (all : List Submission). submissions_of (record { request = other; reports = first ∷ (mine ++ report ∷ []) }) ++ all) none ∙ append-nil (submissions_of (record { request = other; reports = first ∷ (mine ++ report ∷ []) }))
+
+    more : submissions_of (record { request = other; reports = first ∷ (mine ++ report ∷ []) }) ≡ submissions_of (record { request = other; reports = first ∷ mine }) ++ record { request = other; copy = report } ∷ []
+    more = map-append (λ (copy : RequestReport). record { request = other; copy = copy }) (first ∷ mine) (report ∷ [])
+
+    its : submissions_of (record { request = other; reports = first ∷ mine }) ++ record { request = other; copy = report } ∷ []
+        ≡ (submissions_of (record { request = other; reports = first ∷ mine }) ++ left) ++ record { request = request; copy = report } ∷ []
+    its =
+        ap (λ (r : Request). submissions_of (record { request = other; reports = first ∷ mine }) ++ record { request = r; copy = report } ∷ []) same
+        ∙ ap (λ (all : List Submission). all ++ record { request = request; copy = report } ∷ [])
+        (sym (ap (λ (all : List Submission). submissions_of (record { request = other; reports = first ∷ mine }) ++ all) gone ∙ append-nil (submissions_of (record { request = other; reports = first ∷ mine }))))
+
 -- One report more is that of the request that follows.
 submissions_more : (script : List Request) (reports : List RequestReport) (request : Request) (report : RequestReport) → next_of script reports ≡ Some request
     → submissions_in script (reports ++ report ∷ []) ≡ submissions_in script reports ++ record { request = request; copy = report } ∷ []
@@ -106,11 +124,7 @@ submissions_more (other ∷ requests) (first ∷ reports) request report follows
         let both : Some other ≡ Some request = sym (first_follows requests other own (copies_of requests rest) opens) ∙ follows in
         let same : other ≡ request = cc in
         let left : submissions_in requests rest ≡ [] = ap (submissions_in requests) none ∙ none_submitted requests in
-        ap (λ (all : List Submission). submissions_of (record { request = other; reports = first ∷ (mine ++ report ∷ []) }) ++ all) (none_submitted requests)
-        ∙ (append-nil (submissions_of (record { request = other; reports = first ∷ (mine ++ report ∷ []) }))
-        ∙ (map-append (λ (copy : RequestReport). record { request = other; copy = copy }) (first ∷ mine) (report ∷ [])
-        ∙ (ap (λ (r : Request). submissions_of own ++ record { request = r; copy = report } ∷ []) same
-        ∙ ap (λ (all : List Submission). all ++ last) (sym (ap (λ (all : List Submission). submissions_of own ++ all) left ∙ append-nil (submissions_of own))))))
+        copy_more other request first mine report (submissions_in requests []) (submissions_in requests rest) same (none_submitted requests) left
     by _ later (IsLater closed) =
         ap (λ (all : List Submission). submissions_of own ++ all) (later (sym (later_follows requests other own (copies_of requests rest) closed) ∙ follows))
         ∙ sym (append_assoc (submissions_of own) (submissions_in requests rest) last)
