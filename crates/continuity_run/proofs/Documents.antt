@@ -52,6 +52,7 @@ counted n is = grind (arith, nat_tests)
 -- THE SERVICE -------------------------------------------------------------------------------------
 
 record KeepsLimits (service : ServiceOf) : Type 0 where
+  tries : 1 ≤ service.retries
   delay : service.delay ≤ 1000
   replays : service.replays ≤ 4
   recorded : service.record_limit ≤ 256
@@ -70,6 +71,7 @@ keeps_limits service is =
     let slots = first_true (is_between 1 64 service.pool.max) _ behind_recorded in
     let behind_slots = second_true (is_between 1 64 service.pool.max) _ behind_recorded in
     record {
+      tries = low 1 1000 service.retries (first_true (is_between 1 1000 service.retries) _ is);
       delay = high 0 1000 service.delay (first_true (is_between 0 1000 service.delay) _ behind_retries);
       replays = high 0 4 service.replays (first_true (is_between 0 4 service.replays) _ behind_timeout);
       recorded = high 1 256 service.record_limit (first_true (is_between 1 256 service.record_limit) _ behind_replays);
@@ -83,6 +85,10 @@ has_room document is =
     let keeps = keeps_limits document.service is.service in
     let retention : document.service.retention ≤ 1000000 = keeps.retention in
     record { slots = keeps.slots; retention = omega (arith, retention) }
+
+-- a request tries at least once
+pub may_try : (document : Document) → IsDocument document → 1 ≤ document.service.retries
+may_try document is = (keeps_limits document.service is.service).tries
 
 -- REQUESTS ----------------------------------------------------------------------------------------
 

@@ -1,6 +1,6 @@
 -- What the report of a run that is over says of its document.
 use Rattle.std.proofs.Common.{◌≡◌, arith, ◌∙◌, refl, sym, ap, ap₂, subst, ℕ, Bool, true, false, List, [], ◌∷◌, ◌++◌, length, drop, Option, Some, None, Result, Ok, Err}
-use Rattle.std.specs.Prelude.{IfOk, ◌==◌}
+use Rattle.std.specs.Prelude.{IfOk, ◌==◌, ◌≤◌}
 use Rattle.std.proofs.lemmas.Bool.Decides.{nat_tests}
 use Rattle.disk_model.specs.Disk.{DiskState}
 use Rattle.json_form.proofs.Offered.{both_true}
@@ -183,8 +183,8 @@ module _ (document : Document) (ran : Ran Within) (before : Before) (report : Re
       (both_true _ _ (laws.answered document report has.seen has.traced gained.server reported) (laws.ordered document report has.seen has.traced gained.server reported))
       (image_is document report off.journal read_from (sym off.forgotten ∙ same_number report.forgotten (last_horizon document report) told) (printed_as document.print_image off.image))))))
 
-  headline : RunsHold → all_requests_right document ≡ true → Headline document report
-  headline laws calls = record {
+  headline : RunsHold → all_requests_right document ≡ true → 1 ≤ document.service.retries → Headline document report
+  headline laws calls tries = record {
     followed_so = laws.followed document report has.seen has.traced is_run (off.clients ∙ has.clients);
     serial = serial_of laws.serial;
     legal = laws.legal document report has.seen has.traced gained.server reported;
@@ -192,14 +192,15 @@ module _ (document : Document) (ran : Ran Within) (before : Before) (report : Re
     fresh = laws.fresh document report has.seen has.traced gained.server calls reported;
     once_so = laws.once document report has.seen has.traced gained.server calls reported;
     stored_so = stored_so laws calls;
+    caused_so = laws.caused document report has.seen has.traced gained.server calls tries reported;
     journal = off.journal;
     read = read_from;
     image = printed_as document.print_image off.image;
   }
 
 pub headline_if : {E : Type 0} (document : Document) (ran : Ran Within) (before : Before) (result : Result Report E) → HasRun SeesIn document ran → Counts (journal_before document) before
-    → IfOk result (IsReadOff (bytes_in ran.service) before document.print_image ran) → (bytes : List ℕ) → journal_of bytes ≡ Ok (journal_before document) → HaveOneBase bytes (bytes_in ran.service) → RunsHold → all_requests_right document ≡ true
+    → IfOk result (IsReadOff (bytes_in ran.service) before document.print_image ran) → (bytes : List ℕ) → journal_of bytes ≡ Ok (journal_before document) → HaveOneBase bytes (bytes_in ran.service) → RunsHold → all_requests_right document ≡ true → 1 ≤ document.service.retries
     → IfOk result (Headline document)
-headline_if document ran before (Ok report) has counts off bytes reads kept laws calls =
-    headline document ran before report has counts off (kept (journal_before document) off.journal reads off.reads) laws calls
-headline_if document ran before (Err e) has counts off bytes reads kept laws calls = tt
+headline_if document ran before (Ok report) has counts off bytes reads kept laws calls tries =
+    headline document ran before report has counts off (kept (journal_before document) off.journal reads off.reads) laws calls tries
+headline_if document ran before (Err e) has counts off bytes reads kept laws calls tries = tt

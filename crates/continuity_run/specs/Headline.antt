@@ -9,6 +9,7 @@ use Rattle.run_clauses.specs.Fresh.{fresh}
 use Rattle.run_clauses.specs.Once.{once}
 use Rattle.run_clauses.specs.Serial.{IsSerial, printed_tables}
 use Rattle.run_clauses.specs.Stored.{stored}
+use Rattle.shown_clauses.specs.Caused.{caused}
 use Rattle.world_model.specs.Followed.{followed}
 use Rattle.world_model.specs.Judged.{is_legal, is_fresh_new}
 
@@ -45,6 +46,8 @@ pub record Headline (document : Document) (report : Report) : Type 0 where
   pub once_so : IsTrue (once document report)
   -- each outcome that was told is the stored one, by the table and the horizon of then; blocks and entries never share an identifier
   pub stored_so : IsTrue (stored document report)
+  -- each request failed for the cause that its steps show, and no other failed
+  pub caused_so : IsTrue (caused document report)
   -- it is read from what the store holds at the end
   pub journal : Journal
   pub read : IsReadFrom document report journal

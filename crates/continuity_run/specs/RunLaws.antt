@@ -1,5 +1,6 @@
 -- What is proved of whole runs and of their reports, before any is made.
 use Rattle.server_model.specs.Laws.{RunsSerial}
+use Rattle.shown_laws.specs.CausedRuns.{RunsAreCaused}
 use Rattle.world_model.specs.OnceLaws.{ReportsAreOnce}
 use Rattle.world_model.specs.Reported.{RunsAreLegal, RunsAreFreshNew, RunsAreFresh}
 use Rattle.world_model.specs.RunLaws.{RunsAreFollowed}
@@ -18,3 +19,4 @@ pub record RunsHold : Type 0 where
   pub apart : BlocksStayApart
   pub answered : BlocksAreAnswered
   pub ordered : BlocksComeInOrder
+  pub caused : RunsAreCaused

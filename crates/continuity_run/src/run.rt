@@ -18,6 +18,7 @@ use request_bounds::{BoundRule, DynamicRule, OffRule, StaticRule};
 use server_model::laws::runs_serial;
 use service_calls::Service;
 use service_core::OneService;
+use shown_laws::laws::runs_are_caused;
 use std::alloc::Global;
 use svc_values::NoMemory;
 use world_model::laws::{
@@ -105,6 +106,7 @@ fn runs_hold()
     horizons_are_told();
     blocks_stay_apart();
     blocks_are_answered();
+    runs_are_caused();
 }
 
 /// The run of a document, and its report.

@@ -7,7 +7,7 @@ use Rattle.world_model.specs.Settings.{rules_of}
 use Rattle.continuity_run.specs.Runs.{IsRunOf}
 use Rattle.continuity_run.proofs.Beginning.{can_begin, run_begins}
 use Rattle.continuity_run.proofs.Lasting.{may_be_read}
-use Rattle.continuity_run.proofs.Documents.{are_limits}
+use Rattle.continuity_run.proofs.Documents.{are_limits, may_try}
 use Rattle.continuity_run.proofs.Headlines.{headline_if}
 use Rattle.continuity_run.proofs.run.run_document.Goals as goal
 
@@ -37,4 +37,4 @@ returns c =
     c.new-service.ensures.made c.new-service.ensures.sound c.new-service.ensures.seen in
     let reads : journal_of (bytes_in c.new-service.result) ≡ Ok (journal_before c.args.document) = ap (λ (service : Within). journal_of (bytes_in service)) c.new-service.ensures.made ∙ c.in_ok-disk.ensures.reads in
     headline_if c.args.document c.in_ok-ran.ran c.in_ok-disk.field-0.before c.report_of.result (c.in_ok-ran.ensures.ran c.args.document begun) c.in_ok-disk.ensures.counts c.report_of.ensures (bytes_in c.new-service.result) reads c.in_ok-ran.ensures.base
-    c.runs_hold.ensures (are_limits c.args.document c.requires.document).have_calls
+    c.runs_hold.ensures (are_limits c.args.document c.requires.document).have_calls (may_try c.args.document c.requires.document)

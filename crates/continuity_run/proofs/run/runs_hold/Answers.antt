@@ -14,4 +14,5 @@ returns c = record {
   apart = c.blocks_stay_apart.ensures;
   answered = c.blocks_are_answered.ensures.answered;
   ordered = c.blocks_are_answered.ensures.order;
+  caused = c.runs_are_caused.ensures;
 }
