@@ -54,11 +54,11 @@ module _ (script : List Request) (request : Request) (first : Copies) (others : 
   placed found = option_and_then (slice_get (request ∷ script)) found
 
   -- it is the first one, where that is not over
-  first_follows : is_over first ≡ false → placed (position is_left (first ∷ others)) ≡ Some request
+  pub first_follows : is_over first ≡ false → placed (position is_left (first ∷ others)) ≡ Some request
   first_follows opens = ap placed (position_cons is_left first others true (ap not opens))
 
   -- and else it is one behind it
-  later_follows : is_over first ≡ true → placed (position is_left (first ∷ others)) ≡ option_and_then (slice_get script) (position is_left others)
+  pub later_follows : is_over first ≡ true → placed (position is_left (first ∷ others)) ≡ option_and_then (slice_get script) (position is_left others)
   later_follows closed = ap placed (position_cons is_left first others false (ap not closed)) ∙ by (position is_left others)
     where
       by : (found : Option ℕ) → placed (counted found) ≡ option_and_then (slice_get script) found

@@ -87,7 +87,7 @@ module _ (course : Course) where
   call_alike up.Close up.Close same = refl
   call_alike a b same = absurd (let never : ⊥ = cc in never)
 
-  mine_alike : (a b : Sent) → same_sent a b ≡ true → is_mine a ≡ is_mine b
+  pub mine_alike : (a b : Sent) → same_sent a b ≡ true → is_mine a ≡ is_mine b
   mine_alike a b same =
       ap (λ (owner : Option Owner). is_of course.owner owner && is_call a.frame) (owners_are a.owner b.owner (and_parts (same_owners a.owner b.owner) ((a.call == b.call) && same_up a.frame b.frame) same).0)
       ∙ ap (λ (test : Bool). owned_by course.owner b && test) (call_alike a.frame b.frame (same_frames a b same))

@@ -61,3 +61,4 @@ pub mod OnceLaws
 pub mod StoredOnce
 pub mod CallEndings
 pub mod ValueLaws
+pub mod Verified

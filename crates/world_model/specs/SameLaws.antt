@@ -7,15 +7,21 @@ use Rattle.outage_schedule.specs.declared.document.Request.{Request}
 use Rattle.outage_schedule.specs.declared.event.Event.{Event}
 use Rattle.outage_schedule.specs.declared.item.Served.{Served}
 use Rattle.outage_schedule.specs.declared.note.Note.{Note}
+use Rattle.outage_schedule.specs.declared.report.Report.{Report}
+use Rattle.run_clauses.specs.NoClash.{no_clash}
+use Rattle.run_clauses.specs.Same.{same}
+use Rattle.server_model.specs.Runs.{Server}
 use Rattle.server_model.specs.Seen.{Seen}
 use Rattle.world_model.specs.Begins.{settings_before}
 use Rattle.world_model.specs.Invariant.{Invariant}
 use Rattle.world_model.specs.Links.{Link, link_at}
 use Rattle.world_model.specs.Reached.{IsRun, Reached}
 use Rattle.world_model.specs.Ready.{all_requests_right}
-use Rattle.world_model.specs.Same.{committed_entries_known, entries_follow_scripts, entries_ran, entries_started}
+use Rattle.world_model.specs.Same.{committed_entries_known, entries_follow_scripts, entries_ran, entries_started, granted_by, over_same}
+use Rattle.world_model.specs.Reported.{IsReported}
 use Rattle.world_model.specs.SessionHistory.{served_in, served_on}
 use Rattle.world_model.specs.Traced.{Traced}
+use Rattle.world_model.specs.Verified.{answers_known, are_verified, insides_known, none_clash}
 
 -- Wherever a run has come to, what the history has of a connection's session is what the connection served.
 abbrev pub RunsServe : Type 0
@@ -80,3 +86,52 @@ abbrev pub WholeRunsFollowScripts : Type 0
 WholeRunsFollowScripts =
     (document : Document) (notes : List Note) (items : List Served) (seen : Seen) (t : Traced)
     → IsTrue (all_requests_right document) → IsRun document notes items seen t → IsTrue (entries_follow_scripts t)
+
+-- Wherever a run has come to, each call of a request that its connection served, and behind which it sent a further one, was shown with what was
+-- answered; where it was repeated, the digest of what was answered is that of what was shown.
+abbrev pub RunsVerify : Type 0
+RunsVerify =
+    (document : Document) (events : List Event) (notes : List Note) (items : List Served) (seen : Seen) (t : Traced)
+    → IsTrue (all_requests_right document) → Reached document events notes items seen t → IsTrue (are_verified t)
+
+-- and at the end of a whole run
+abbrev pub WholeRunsVerify : Type 0
+WholeRunsVerify =
+    (document : Document) (notes : List Note) (items : List Served) (seen : Seen) (t : Traced)
+    → IsTrue (all_requests_right document) → IsRun document notes items seen t → IsTrue (are_verified t)
+
+-- Where no two answers that are compared have one digest by chance, the answers are those that were shown.
+abbrev pub RunsKnowAnswers : Type 0
+RunsKnowAnswers =
+    (document : Document) (events : List Event) (notes : List Note) (items : List Served) (seen : Seen) (t : Traced)
+    → IsTrue (all_requests_right document) → Reached document events notes items seen t → IsTrue (none_clash t) → IsTrue (answers_known t)
+
+-- and at the end of a whole run
+abbrev pub WholeRunsKnowAnswers : Type 0
+WholeRunsKnowAnswers =
+    (document : Document) (notes : List Note) (items : List Served) (seen : Seen) (t : Traced)
+    → IsTrue (all_requests_right document) → IsRun document notes items seen t → IsTrue (none_clash t) → IsTrue (answers_known t)
+
+-- Then each call inside a transaction that such a run's connections ran for a request was answered as it was shown, and ended none.
+abbrev pub RunsKnowInsides : Type 0
+RunsKnowInsides =
+    (document : Document) (events : List Event) (notes : List Note) (items : List Served) (seen : Seen) (t : Traced)
+    → IsTrue (all_requests_right document) → Reached document events notes items seen t → IsTrue (none_clash t) → IsTrue (insides_known t)
+
+-- and at the end of a whole run
+abbrev pub WholeRunsKnowInsides : Type 0
+WholeRunsKnowInsides =
+    (document : Document) (notes : List Note) (items : List Served) (seen : Seen) (t : Traced)
+    → IsTrue (all_requests_right document) → IsRun document notes items seen t → IsTrue (none_clash t) → IsTrue (insides_known t)
+
+-- Where no two answers that the clients of a report compared have one digest by chance, none do in the state at the end of its run.
+abbrev pub ReportsClashNowhere : Type 0
+ReportsClashNowhere =
+    (document : Document) (report : Report) (seen : Seen) (t : Traced) (server : Server)
+    → IsTrue (all_requests_right document) → IsReported document report seen t server → IsTrue (no_clash document report) → IsTrue (none_clash t)
+
+-- Where each request that is over stands in the journal at the end of a run as its client knows it, it does in the report.
+abbrev pub ReportsAreSame : Type 0
+ReportsAreSame =
+    (document : Document) (report : Report) (seen : Seen) (t : Traced) (server : Server)
+    → IsReported document report seen t server → IsTrue (over_same (granted_by document) t) → IsTrue (same document report)

@@ -7,7 +7,7 @@ ghost use Rattle.world_model.specs.CallEndings.{end_fittingly};
 ghost use Rattle.world_model.specs.FirstCalls.{transactions_begin};
 ghost use Rattle.world_model.specs.Redrawn.{RepeatsRedraw, WholeRepeatsRedraw};
 ghost use Rattle.world_model.specs.Same.{open_entries_known, run_script_calls};
-ghost use Rattle.world_model.specs.SameLaws.{FollowsInvariant, HoldsAtEnds, HoldsInRuns, RunsFollowScripts, RunsRan, RunsServe, RunsStoreScripts, WholeRunsFollowScripts, WholeRunsStoreScripts, RunsStarted, SettingsGoOn};
+ghost use Rattle.world_model.specs.SameLaws.{FollowsInvariant, HoldsAtEnds, HoldsInRuns, RunsFollowScripts, RunsRan, RunsServe, RunsStoreScripts, WholeRunsFollowScripts, WholeRunsStoreScripts, RunsStarted, SettingsGoOn, ReportsAreSame, ReportsClashNowhere, RunsKnowAnswers, RunsKnowInsides, RunsVerify, WholeRunsKnowAnswers, WholeRunsKnowInsides, WholeRunsVerify};
 ghost use Rattle.world_model.specs.Showing.{show_replies};
 
 /// Wherever a run of a document whose requests are right has come to, what the service's history has of a connection's session is
@@ -120,6 +120,48 @@ pub fn entries_follow_scripts()
     crate::kept_laws::runs_keep_invariant();
     committed_sendings_store_scripts();
 }
+
+/// Wherever such a run has come to, and at its end: each call of a request that its connection served, and behind which the request sent a
+/// further one there, was shown with the answers and values of its item; of a repeated one the digest of the answers is that of the shown ones.
+pub fn calls_are_verified()
+    ensures reached { RunsVerify }
+    ensures run { WholeRunsVerify }
+{
+    crate::laws::runs_are_orderly();
+}
+
+/// Where no two answers that such a run compares have one digest by chance: each of these calls, repeated or not, was answered as it was shown.
+pub fn answers_are_known()
+    ensures reached { RunsKnowAnswers }
+    ensures run { WholeRunsKnowAnswers }
+{
+    calls_are_verified();
+}
+
+/// Then each call inside a transaction that a connection ran for a request, so each but the transaction's last one, was answered as it was
+/// shown, and no transaction ended with it.
+pub fn insides_are_known()
+    ensures reached { RunsKnowInsides }
+    ensures run { WholeRunsKnowInsides }
+{
+    crate::kept_laws::runs_keep_invariant();
+    answers_are_known();
+}
+
+/// Where no two answers that the clients of a report compared have one digest by chance, none do in the state at the end of the report's run:
+/// each repeated call of a request was served by a session of the request's report, with the script's call.
+pub fn reports_clash_nowhere()
+    ensures { ReportsClashNowhere }
+{
+    crate::laws::runs_are_orderly();
+    crate::kept_laws::runs_keep_invariant();
+}
+
+/// Where each request that is over stands in the journal at the end of a run with the calls, answers, granted draws and settings that its
+/// client knows, each copy of it in the report does in the report's entries.
+pub fn reports_are_same()
+    ensures { ReportsAreSame }
+{}
 
 /// Wherever such a run has come to: each Begin carries the settings that the call behind it runs in, those of the request changed by each
 /// `set` before that call; and that call is sent right behind it.
