@@ -161,23 +161,23 @@ start_at course (one ∷ over) (start ∷ starts) (suc number) dids have at =
 -- A SENDING ---------------------------------------------------------------------------------------
 
 -- it is the request's, on a connection that it held, and what became of it is known
-abbrev is_its : Traced → Course → Sending → Bool
+abbrev pub is_its : Traced → Course → Sending → Bool
 is_its t course sending = same_owner sending.owner course.owner && (fated t.machine.links sending && list_any (λ number. number == sending.connection) (held_in course.steps))
 
 module _ (t : Traced) (whole : Invariant t) where
   -- an entry that is there is below the count of its session, and was run
-  abbrev is_run : Entry → Bool
+  abbrev pub is_run : Entry → Bool
   is_run entry = is_ran t entry && is_started t entry
 
-  abbrev is_there : Entry → Bool
+  abbrev pub is_there : Entry → Bool
   is_there entry = nat_lt entry.ltxid.number (entries_of t.entries (session_of entry.ltxid)) && is_run entry
 
-  all_there : list_all is_there t.entries ≡ true
+  pub all_there : list_all is_there t.entries ≡ true
   all_there =
       both_all (λ entry. nat_lt entry.ltxid.number (entries_of t.entries (session_of entry.ltxid))) is_run t.entries (all_below t.entries whole.orderly.number.entries)
       (both_all (is_ran t) (is_started t) t.entries whole.ran whole.started)
 
-  module _ (course : Course) (runs : list_all (test_at t (runs_script_calls course)) (held_in course.steps) ≡ true) (starts : list_all (test_at t (starts_rightly course)) (held_in course.steps) ≡ true) (sending : Sending) (its : is_its t course sending ≡ true) (untaken : sending.taken ≡ None) where
+  module _ (course : Course) (runs : list_all (test_at t (runs_script_calls course)) (held_in course.steps) ≡ true) (sending : Sending) (its : is_its t course sending ≡ true) (untaken : sending.taken ≡ None) where
     abbrev x : Ltxid
     x = sending.ltxid
 
@@ -200,23 +200,34 @@ module _ (t : Traced) (whole : Invariant t) where
     held = ap (λ (found : Option Ltxid). option_map_or (λ (y : Ltxid). y.number) found 0) waits.held
 
     -- its connection's transactions are the script's
-    on_link : (test : Link → Bool) → list_all (test_at t test) (held_in course.steps) ≡ true → test at.link ≡ true
-    on_link test all =
+    on_link : (test : Link → Bool) (link : Link) → link_at t.machine.links sending.connection ≡ Some link → list_all (test_at t test) (held_in course.steps) ≡ true → test link ≡ true
+    on_link test link there all =
         let found = any_all (λ number. number == sending.connection) (test_at t test) (held_in course.steps) two.1 all in
         let same : found.0 ≡ sending.connection = eq_from found.0 sending.connection found.1.0 in
-        sym (ap (λ (one : Option Link). option_map_or test one false) (ap (link_at t.machine.links) same ∙ at.there)) ∙ found.1.1
+        sym (ap (λ (one : Option Link). option_map_or test one false) (ap (link_at t.machine.links) same ∙ there)) ∙ found.1.1
 
     known : runs_script_calls course at.link ≡ true
-    known = on_link (runs_script_calls course) runs
-
-    started : starts_rightly course at.link ≡ true
-    started = on_link (starts_rightly course) starts
+    known = on_link (runs_script_calls course) at.link at.there runs
 
     owner : sending.owner ≡ course.owner
     owner = same_owner_is sending.owner course.owner parts.0
 
-    entry_known : (entry : Entry) → is_there entry ≡ true → same_ltxid entry.ltxid x ≡ true → ends_with_sent course sending entry ≡ true
-    entry_known entry there same = script_entry course sending entry ran.before ran.did script pieces own index start.start start.has settings
+    -- the transaction that the entry has, with the call that was sent as its last one
+    pub record HasRun (entry : Entry) : Type 0 where
+      pub link : Link
+      pub there : link_at t.machine.links sending.connection ≡ Some link
+      pub before : List ServedCall
+      pub did : ServedCall
+      pub named : link.session ≡ Some (session_of entry.ltxid)
+      pub started : is_started t entry ≡ true
+      pub over : slice_get (ran_by link).over entry.ltxid.number ≡ Some (before ++ did ∷ [])
+      pub pieces : are_pieces (before ++ did ∷ []) entry.pieces ≡ true
+      pub script : has_script_calls course (before ++ did ∷ []) ≡ true
+      pub own : owned_by course.owner did.sent ≡ true
+      pub index : did.sent.call ≡ sending.at
+
+    pub entry_ran : (entry : Entry) → is_there entry ≡ true → same_ltxid entry.ltxid x ≡ true → HasRun entry
+    entry_ran entry there same = record { link = at.link; there = at.there; before = ran.before; did = ran.did; named = named_so; started = its_runs.1; over = over; pieces = pieces; script = script; own = own; index = index }
       where
         its_parts : (nat_lt entry.ltxid.number (entries_of t.entries (session_of entry.ltxid)) ≡ true) × (is_run entry ≡ true)
         its_parts = and_parts (nat_lt entry.ltxid.number (entries_of t.entries (session_of entry.ltxid))) (is_run entry) there
@@ -258,17 +269,6 @@ module _ (t : Traced) (whole : Invariant t) where
         named_so : at.link.session ≡ Some (session_of entry.ltxid)
         named_so = named ∙ ap (λ (y : Ltxid). Some (session_of y)) (sym equal)
 
-        -- the settings at the start of it
-        start : StartAt course (ran_by at.link).starts entry.ltxid.number (ran.before ++ ran.did ∷ [])
-        start =
-            start_at course (ran_by at.link).over (ran_by at.link).starts entry.ltxid.number (ran.before ++ ran.did ∷ [])
-            (and_parts (have_starts course (ran_by at.link).over (ran_by at.link).starts) (has_start course (ran_by at.link).pieces (ran_by at.link).at_start) started).0 over
-
-        settings : same_settings entry.settings start.start ≡ true
-        settings =
-            sym (ap (λ (found : Option NamedValues). option_map_or (same_settings entry.settings) found false) start.is)
-            ∙ link_started t whole.orderly.basic.apart entry sending.connection at.link at.there named_so its_runs.1
-
         pieces : are_pieces (ran.before ++ ran.did ∷ []) entry.pieces ≡ true
         pieces =
             sym (ap (λ (some : Option (List ServedCall)). option_map_or (λ dids. are_pieces dids entry.pieces) some false) over)
@@ -298,6 +298,23 @@ module _ (t : Traced) (whole : Invariant t) where
             eq_from ran.did.sent.call waits.frame.call (and_parts (ran.did.sent.call == waits.frame.call) (same_up ran.did.sent.frame waits.frame.frame) same_parts.1).0
             ∙ eq_from waits.frame.call sending.at (and_parts (owned_by sending.owner waits.frame) (waits.frame.call == sending.at) frame).1
 
+    entry_known : list_all (test_at t (starts_rightly course)) (held_in course.steps) ≡ true → (entry : Entry) → is_there entry ≡ true → same_ltxid entry.ltxid x ≡ true → ends_with_sent course sending entry ≡ true
+    entry_known starts entry there same = script_entry course sending entry so.before so.did so.script so.pieces so.own so.index start.start start.has settings
+      where
+        so : HasRun entry
+        so = entry_ran entry there same
+
+        -- the settings at the start of it
+        start : StartAt course (ran_by so.link).starts entry.ltxid.number (so.before ++ so.did ∷ [])
+        start =
+            start_at course (ran_by so.link).over (ran_by so.link).starts entry.ltxid.number (so.before ++ so.did ∷ [])
+            (and_parts (have_starts course (ran_by so.link).over (ran_by so.link).starts) (has_start course (ran_by so.link).pieces (ran_by so.link).at_start) (on_link (starts_rightly course) so.link so.there starts)).0 so.over
+
+        settings : same_settings entry.settings start.start ≡ true
+        settings =
+            sym (ap (λ (found : Option NamedValues). option_map_or (same_settings entry.settings) found false) start.is)
+            ∙ link_started t whole.orderly.basic.apart entry sending.connection so.link so.there so.named so.started
+
   sending_known : (course : Course) → list_all (test_at t (runs_script_calls course)) (held_in course.steps) ≡ true → list_all (test_at t (starts_rightly course)) (held_in course.steps) ≡ true → (sending : Sending) → is_its t course sending ≡ true → is_open_stored t course sending ≡ true
   sending_known course runs starts sending its = by sending.taken refl
     where
@@ -306,39 +323,46 @@ module _ (t : Traced) (whole : Invariant t) where
         where
           of : (test : Bool) → same_ltxid entry.ltxid sending.ltxid ≡ test → (not test || ends_with_sent course sending entry) ≡ true
           of false is = refl
-          of true is = entry_known course runs starts sending its none entry there is
+          of true is = entry_known course runs sending its none starts entry there is
 
       by : (taken : Option (List Answer)) → sending.taken ≡ taken → (is_some taken || list_all (λ entry. not (same_ltxid entry.ltxid sending.ltxid) || ends_with_sent course sending entry) t.entries) ≡ true
       by (Some answers) is = refl
       by None is = weaker_all is_there (λ entry. not (same_ltxid entry.ltxid sending.ltxid) || ends_with_sent course sending entry) t.entries (entry_so is) all_there
 
-  course_known : (course : Course) → list_all (test_at t (starts_rightly course)) (held_in course.steps) ≡ true → (list_all (test_at t (runs_script_calls course)) (held_in course.steps) && (list_all (fated t.machine.links) (commit_sendings course) && are_placed course)) ≡ true
-      → list_all (is_open_stored t course) (commit_sendings course) ≡ true
-  course_known course starts so =
-      weaker_all (is_its t course) (is_open_stored t course) (commit_sendings course) (sending_known course one.0 starts)
-      (both_all (λ s. same_owner s.owner course.owner) (λ s. fated t.machine.links s && list_any (λ number. number == s.connection) (held_in course.steps)) (commit_sendings course)
+  course_its : (course : Course) → (list_all (fated t.machine.links) (commit_sendings course) && are_placed course) ≡ true → list_all (is_its t course) (commit_sendings course) ≡ true
+  course_its course so =
+      both_all (λ s. same_owner s.owner course.owner) (λ s. fated t.machine.links s && list_any (λ number. number == s.connection) (held_in course.steps)) (commit_sendings course)
       (filter_all (λ s. same_owner s.owner course.owner) commits (sendings_of course) (scan_owned course.owner (scan_by course.owner []) course.steps refl refl))
       (both_all (fated t.machine.links) (λ s. list_any (λ number. number == s.connection) (held_in course.steps)) (commit_sendings course) two.0
       (filter_all (λ s. list_any (λ number. number == s.connection) (held_in course.steps)) commits (sendings_of course)
       (weaker_all (is_placed course.request.calls (held_in course.steps)) (λ s. list_any (λ number. number == s.connection) (held_in course.steps)) (sendings_of course)
-      (λ s is. (and_parts (option_map_or (same_call s.call) (slice_get course.request.calls s.at) false) (list_any (λ number. number == s.connection) (held_in course.steps)) is).1) two.1))))
+      (λ s is. (and_parts (option_map_or (same_call s.call) (slice_get course.request.calls s.at) false) (list_any (λ number. number == s.connection) (held_in course.steps)) is).1) two.1)))
     where
       commits : Sending → Bool
       commits sending = has_commit sending.call
 
-      one : (list_all (test_at t (runs_script_calls course)) (held_in course.steps) ≡ true) × ((list_all (fated t.machine.links) (commit_sendings course) && are_placed course) ≡ true)
-      one = and_parts (list_all (test_at t (runs_script_calls course)) (held_in course.steps)) (list_all (fated t.machine.links) (commit_sendings course) && are_placed course) so
-
       two : (list_all (fated t.machine.links) (commit_sendings course) ≡ true) × (are_placed course ≡ true)
-      two = and_parts (list_all (fated t.machine.links) (commit_sendings course)) (are_placed course) one.1
+      two = and_parts (list_all (fated t.machine.links) (commit_sendings course)) (are_placed course) so
+
+  -- each sending with a commit is its request's
+  pub all_its : list_all (λ course. list_all (is_its t course) (commit_sendings course)) (courses_of t) ≡ true
+  all_its =
+      weaker_all (λ course. list_all (fated t.machine.links) (commit_sendings course) && are_placed course) (λ course. list_all (is_its t course) (commit_sendings course)) (courses_of t) course_its
+      (both_all (λ course. list_all (fated t.machine.links) (commit_sendings course)) are_placed (courses_of t) (each_flat (fated t.machine.links) commit_sendings (courses_of t) whole.once.fates) whole.once.placed)
+
+  course_known : (course : Course)
+      → (list_all (test_at t (runs_script_calls course)) (held_in course.steps) && (list_all (test_at t (starts_rightly course)) (held_in course.steps) && list_all (is_its t course) (commit_sendings course))) ≡ true
+      → list_all (is_open_stored t course) (commit_sendings course) ≡ true
+  course_known course so =
+      let one = and_parts (list_all (test_at t (runs_script_calls course)) (held_in course.steps)) (list_all (test_at t (starts_rightly course)) (held_in course.steps) && list_all (is_its t course) (commit_sendings course)) so in
+      let two = and_parts (list_all (test_at t (starts_rightly course)) (held_in course.steps)) (list_all (is_its t course) (commit_sendings course)) one.1 in
+      weaker_all (is_its t course) (is_open_stored t course) (commit_sendings course) (sending_known course one.0 two.0) two.1
 
 pub open_known : (t : Traced) → Invariant t → open_entries_known t ≡ true
 open_known t whole =
-    weaker_all (λ course. list_all (test_at t (starts_rightly course)) (held_in course.steps) && so course) (λ course. list_all (is_open_stored t course) (commit_sendings course)) (courses_of t)
-    (λ course both. let parts = and_parts (list_all (test_at t (starts_rightly course)) (held_in course.steps)) (so course) both in course_known t whole course parts.0 parts.1)
-    (both_all (λ course. list_all (test_at t (starts_rightly course)) (held_in course.steps)) so (courses_of t) (starts_known t whole.orderly whole.shown.rows whole.settings whole.followed)
-    (both_all (λ course. list_all (test_at t (runs_script_calls course)) (held_in course.steps)) (λ course. list_all (fated t.machine.links) (commit_sendings course) && are_placed course) (courses_of t) (scripts_ran t whole)
-    (both_all (λ course. list_all (fated t.machine.links) (commit_sendings course)) are_placed (courses_of t) (each_flat (fated t.machine.links) commit_sendings (courses_of t) whole.once.fates) whole.once.placed)))
-  where
-    so : Course → Bool
-    so course = list_all (test_at t (runs_script_calls course)) (held_in course.steps) && (list_all (fated t.machine.links) (commit_sendings course) && are_placed course)
+    weaker_all (λ course. list_all (test_at t (runs_script_calls course)) (held_in course.steps) && (list_all (test_at t (starts_rightly course)) (held_in course.steps) && list_all (is_its t course) (commit_sendings course)))
+    (λ course. list_all (is_open_stored t course) (commit_sendings course)) (courses_of t) (course_known t whole)
+    (both_all (λ course. list_all (test_at t (runs_script_calls course)) (held_in course.steps))
+    (λ course. list_all (test_at t (starts_rightly course)) (held_in course.steps) && list_all (is_its t course) (commit_sendings course)) (courses_of t) (scripts_ran t whole)
+    (both_all (λ course. list_all (test_at t (starts_rightly course)) (held_in course.steps)) (λ course. list_all (is_its t course) (commit_sendings course)) (courses_of t)
+    (starts_known t whole.orderly whole.shown.rows whole.settings whole.followed) (all_its t whole)))

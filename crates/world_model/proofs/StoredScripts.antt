@@ -65,7 +65,7 @@ use Rattle.world_model.proofs.Turning.{some_same}
 use Rattle.world_model.proofs.WholeInvariant.{finishing_reached}
 
 -- the other tests of a sending, where it goes on to be fated
-if_fated : (fate stored : Bool) → stored ≡ true → implies fate stored ≡ true
+pub if_fated : (fate stored : Bool) → stored ≡ true → implies fate stored ≡ true
 if_fated fate stored is = or_right (not fate) stored is
 
 -- more entries

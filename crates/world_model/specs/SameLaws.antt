@@ -21,7 +21,7 @@ use Rattle.world_model.specs.Same.{committed_entries_known, entries_follow_scrip
 use Rattle.world_model.specs.Reported.{IsReported}
 use Rattle.world_model.specs.SessionHistory.{served_in, served_on}
 use Rattle.world_model.specs.Traced.{Traced}
-use Rattle.world_model.specs.Verified.{answers_known, are_verified, insides_known, none_clash}
+use Rattle.world_model.specs.Verified.{answers_known, are_verified, commits_ran, insides_known, none_clash}
 
 -- Wherever a run has come to, what the history has of a connection's session is what the connection served.
 abbrev pub RunsServe : Type 0
@@ -135,3 +135,15 @@ abbrev pub ReportsAreSame : Type 0
 ReportsAreSame =
     (document : Document) (report : Report) (seen : Seen) (t : Traced) (server : Server)
     → IsReported document report seen t server → IsTrue (over_same (granted_by document) t) → IsTrue (same document report)
+
+-- Wherever a run has come to, a sending that was answered Committed was run as the last call of the transaction of its number on its connection.
+abbrev pub RunsRanLast : Type 0
+RunsRanLast =
+    (document : Document) (events : List Event) (notes : List Note) (items : List Served) (seen : Seen) (t : Traced)
+    → IsTrue (all_requests_right document) → Reached document events notes items seen t → IsTrue (commits_ran t)
+
+-- and at the end of a whole run
+abbrev pub WholeRunsRanLast : Type 0
+WholeRunsRanLast =
+    (document : Document) (notes : List Note) (items : List Served) (seen : Seen) (t : Traced)
+    → IsTrue (all_requests_right document) → IsRun document notes items seen t → IsTrue (commits_ran t)

@@ -1,18 +1,18 @@
 -- What a request knows of the calls that its connections served: where it sent a further one behind, a call without the mark was shown with what
 -- was answered, and of a repeated one the digest is that of the answers that were shown.
-use Rattle.std.specs.Prelude.{ℕ, ◌-◌, ◌&&◌, ◌||◌, Bool, true, false, not, List, [], ◌∷◌, length, filter, take, slice_get}
-use Rattle.std.specs.List.{list_all, list_any}
+use Rattle.std.specs.Prelude.{ℕ, ◌-◌, ◌==◌, ◌&&◌, ◌||◌, Bool, true, false, not, List, [], ◌∷◌, length, filter, take, slice_get, None}
+use Rattle.std.specs.List.{list_all, list_any, last_or}
 use Rattle.std.specs.Option.{option_map_or}
 use Rattle.std.specs.Str.{bytes_eq}
 use Rattle.svc_values.specs.declared.answer.Answer.{Answer}
-use Rattle.svc_values.specs.Endings.{ends_transaction}
+use Rattle.svc_values.specs.Endings.{ends_committed, ends_transaction}
 use Rattle.svc_values.specs.Same.{same_answers, same_draws}
 use Rattle.outage_schedule.specs.declared.item.Item.{Item}
 use Rattle.outage_schedule.specs.declared.item.Item.TheVariants as item
 use Rattle.outage_schedule.specs.declared.request.ShownCall.{ShownCall}
 use Rattle.world_model.specs.Frames.{Handled}
 use Rattle.world_model.specs.Links.{Link, link_at}
-use Rattle.world_model.specs.Parts.{implies}
+use Rattle.world_model.specs.Parts.{Sending, commit_sendings, implies}
 use Rattle.world_model.specs.Same.{ServedCall, ran_by}
 use Rattle.world_model.specs.Sames.{owned_by}
 use Rattle.world_model.specs.Shown.{calls_on, is_call}
@@ -96,3 +96,17 @@ ran_knowing course link = list_all (knows_inside course) (ran_by link).over && k
 -- each that was run on a connection that the request held
 abbrev pub insides_known : Traced → Bool
 insides_known t = list_all (λ course. on_held t course (ran_knowing course)) (courses_of t)
+
+-- OF A SENDING ------------------------------------------------------------------------------------
+
+-- the transaction of its identifier's number on its connection ends with it
+abbrev pub ran_last : Course → Sending → Link → Bool
+ran_last course sending link =
+    option_map_or (λ dids. option_map_or (λ did. owned_by course.owner did.sent && (did.sent.call == sending.at)) (last_or None dids) false) (slice_get (ran_by link).over sending.ltxid.number) false
+
+-- where it was answered Committed
+abbrev pub is_committed_ran : List Link → Course → Sending → Bool
+is_committed_ran links course sending = implies (option_map_or ends_committed sending.taken false) (option_map_or (ran_last course sending) (link_at links sending.connection) false)
+
+abbrev pub commits_ran : Traced → Bool
+commits_ran t = list_all (λ course. list_all (is_committed_ran t.machine.links course) (commit_sendings course)) (courses_of t)

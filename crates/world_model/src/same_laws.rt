@@ -7,7 +7,7 @@ ghost use Rattle.world_model.specs.CallEndings.{end_fittingly};
 ghost use Rattle.world_model.specs.FirstCalls.{transactions_begin};
 ghost use Rattle.world_model.specs.Redrawn.{RepeatsRedraw, WholeRepeatsRedraw};
 ghost use Rattle.world_model.specs.Same.{open_entries_known, run_script_calls};
-ghost use Rattle.world_model.specs.SameLaws.{FollowsInvariant, HoldsAtEnds, HoldsInRuns, RunsFollowScripts, RunsRan, RunsServe, RunsStoreScripts, WholeRunsFollowScripts, WholeRunsStoreScripts, RunsStarted, SettingsGoOn, ReportsAreSame, ReportsClashNowhere, RunsKnowAnswers, RunsKnowInsides, RunsVerify, WholeRunsKnowAnswers, WholeRunsKnowInsides, WholeRunsVerify};
+ghost use Rattle.world_model.specs.SameLaws.{FollowsInvariant, HoldsAtEnds, HoldsInRuns, RunsFollowScripts, RunsRan, RunsServe, RunsStoreScripts, WholeRunsFollowScripts, WholeRunsStoreScripts, RunsStarted, SettingsGoOn, ReportsAreSame, ReportsClashNowhere, RunsKnowAnswers, RunsKnowInsides, RunsVerify, WholeRunsKnowAnswers, WholeRunsKnowInsides, WholeRunsVerify, RunsRanLast, WholeRunsRanLast};
 ghost use Rattle.world_model.specs.Showing.{show_replies};
 
 /// Wherever a run of a document whose requests are right has come to, what the service's history has of a connection's session is
@@ -162,6 +162,15 @@ pub fn reports_clash_nowhere()
 pub fn reports_are_same()
     ensures { ReportsAreSame }
 {}
+
+/// Wherever a run of a document whose requests are right has come to, and at its end: a sending with a commit that was answered Committed was
+/// run on its connection, as the last call of the transaction that has its identifier's number.
+pub fn committed_sendings_ran_last()
+    ensures reached { RunsRanLast }
+    ensures run { WholeRunsRanLast }
+{
+    crate::kept_laws::runs_keep_invariant();
+}
 
 /// Wherever such a run has come to: each Begin carries the settings that the call behind it runs in, those of the request changed by each
 /// `set` before that call; and that call is sent right behind it.
