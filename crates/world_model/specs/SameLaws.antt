@@ -13,12 +13,14 @@ use Rattle.run_clauses.specs.Same.{same}
 use Rattle.server_model.specs.Runs.{Server}
 use Rattle.server_model.specs.Seen.{Seen}
 use Rattle.world_model.specs.Begins.{settings_before}
+use Rattle.svc_values.specs.declared.draw.Draw.{Draw}
 use Rattle.world_model.specs.Invariant.{Invariant}
 use Rattle.world_model.specs.Links.{Link, link_at}
 use Rattle.world_model.specs.Reached.{IsRun, Reached}
 use Rattle.world_model.specs.Ready.{all_requests_right}
 use Rattle.world_model.specs.Same.{committed_entries_known, entries_follow_scripts, entries_ran, entries_started, granted_by, over_same}
 use Rattle.world_model.specs.Reported.{IsReported}
+use Rattle.world_model.specs.Same.{committed_entries_known, entries_follow_scripts, entries_ran, entries_same, granted_by, over_same}
 use Rattle.world_model.specs.SessionHistory.{served_in, served_on}
 use Rattle.world_model.specs.Traced.{Traced}
 use Rattle.world_model.specs.Verified.{answers_known, are_verified, commits_ran, insides_known, none_clash}
@@ -147,3 +149,14 @@ abbrev pub WholeRunsRanLast : Type 0
 WholeRunsRanLast =
     (document : Document) (notes : List Note) (items : List Served) (seen : Seen) (t : Traced)
     → IsTrue (all_requests_right document) → IsRun document notes items seen t → IsTrue (commits_ran t)
+
+-- In a state that is as the invariant says: where each entry of a sending that is open or was answered Committed has the calls, answers, granted draws
+-- and settings that its request knows, so has each transaction of a request that is over.
+abbrev pub EntriesMakeSame : Type 0
+EntriesMakeSame = (granted : Draw → Bool) (t : Traced) → Invariant t → IsTrue (entries_same granted t) → IsTrue (over_same granted t)
+
+-- So the report of a whole run has Same, where at the run's end each such entry has this.
+abbrev pub EntriesMakeReportsSame : Type 0
+EntriesMakeReportsSame =
+    (document : Document) (report : Report) (seen : Seen) (t : Traced) (server : Server)
+    → IsTrue (all_requests_right document) → IsReported document report seen t server → IsTrue (entries_same (granted_by document) t) → IsTrue (same document report)

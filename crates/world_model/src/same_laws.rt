@@ -7,7 +7,7 @@ ghost use Rattle.world_model.specs.CallEndings.{end_fittingly};
 ghost use Rattle.world_model.specs.FirstCalls.{transactions_begin};
 ghost use Rattle.world_model.specs.Redrawn.{RepeatsRedraw, WholeRepeatsRedraw};
 ghost use Rattle.world_model.specs.Same.{open_entries_known, run_script_calls};
-ghost use Rattle.world_model.specs.SameLaws.{FollowsInvariant, HoldsAtEnds, HoldsInRuns, RunsFollowScripts, RunsRan, RunsServe, RunsStoreScripts, WholeRunsFollowScripts, WholeRunsStoreScripts, RunsStarted, SettingsGoOn, ReportsAreSame, ReportsClashNowhere, RunsKnowAnswers, RunsKnowInsides, RunsVerify, WholeRunsKnowAnswers, WholeRunsKnowInsides, WholeRunsVerify, RunsRanLast, WholeRunsRanLast};
+ghost use Rattle.world_model.specs.SameLaws.{FollowsInvariant, HoldsAtEnds, HoldsInRuns, RunsFollowScripts, RunsRan, RunsServe, RunsStoreScripts, WholeRunsFollowScripts, WholeRunsStoreScripts, RunsStarted, SettingsGoOn, ReportsAreSame, ReportsClashNowhere, RunsKnowAnswers, RunsKnowInsides, RunsVerify, WholeRunsKnowAnswers, WholeRunsKnowInsides, WholeRunsVerify, RunsRanLast, WholeRunsRanLast, EntriesMakeReportsSame, EntriesMakeSame};
 ghost use Rattle.world_model.specs.Showing.{show_replies};
 
 /// Wherever a run of a document whose requests are right has come to, what the service's history has of a connection's session is
@@ -170,6 +170,17 @@ pub fn committed_sendings_ran_last()
     ensures run { WholeRunsRanLast }
 {
     crate::kept_laws::runs_keep_invariant();
+}
+
+/// In each state that is as the invariant says: where each entry of a sending that is open or was answered Committed has what its request knows,
+/// each transaction of a request that is over stands in the journal so. Its lists hold the identifiers of such sendings: of the call that was
+/// shown as committed, or of the next one of a request that failed. So the report of a whole run has Same, where this is so at the run's end.
+pub fn entries_make_same()
+    ensures state { EntriesMakeSame }
+    ensures report { EntriesMakeReportsSame }
+{
+    crate::kept_laws::runs_keep_invariant();
+    reports_are_same();
 }
 
 /// Wherever such a run has come to: each Begin carries the settings that the call behind it runs in, those of the request changed by each
