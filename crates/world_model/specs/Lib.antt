@@ -62,3 +62,4 @@ pub mod StoredOnce
 pub mod CallEndings
 pub mod ValueLaws
 pub mod Verified
+pub mod EntryParts

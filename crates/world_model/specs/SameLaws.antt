@@ -14,6 +14,7 @@ use Rattle.server_model.specs.Runs.{Server}
 use Rattle.server_model.specs.Seen.{Seen}
 use Rattle.world_model.specs.Begins.{settings_before}
 use Rattle.svc_values.specs.declared.draw.Draw.{Draw}
+use Rattle.world_model.specs.EntryParts.{begins_set, drew_so, ends_answered, goes_on, of_entries, starts_one}
 use Rattle.world_model.specs.Invariant.{Invariant}
 use Rattle.world_model.specs.Links.{Link, link_at}
 use Rattle.world_model.specs.Reached.{IsRun, Reached}
@@ -160,3 +161,9 @@ abbrev pub EntriesMakeReportsSame : Type 0
 EntriesMakeReportsSame =
     (document : Document) (report : Report) (seen : Seen) (t : Traced) (server : Server)
     → IsTrue (all_requests_right document) → IsReported document report seen t server → IsTrue (entries_same (granted_by document) t) → IsTrue (same document report)
+
+-- Each entry of a sending that is open or was answered Committed is as its request knows, where each of its parts is.
+abbrev pub PartsMakeEntries : Type 0
+PartsMakeEntries =
+    (granted : Draw → Bool) (t : Traced) → IsTrue (entries_follow_scripts t) → IsTrue (of_entries starts_one t) → IsTrue (of_entries goes_on t) → IsTrue (of_entries ends_answered t)
+    → IsTrue (of_entries (drew_so granted) t) → IsTrue (of_entries begins_set t) → IsTrue (entries_same granted t)

@@ -7,7 +7,7 @@ ghost use Rattle.world_model.specs.CallEndings.{end_fittingly};
 ghost use Rattle.world_model.specs.FirstCalls.{transactions_begin};
 ghost use Rattle.world_model.specs.Redrawn.{RepeatsRedraw, WholeRepeatsRedraw};
 ghost use Rattle.world_model.specs.Same.{open_entries_known, run_script_calls};
-ghost use Rattle.world_model.specs.SameLaws.{FollowsInvariant, HoldsAtEnds, HoldsInRuns, RunsFollowScripts, RunsRan, RunsServe, RunsStoreScripts, WholeRunsFollowScripts, WholeRunsStoreScripts, RunsStarted, SettingsGoOn, ReportsAreSame, ReportsClashNowhere, RunsKnowAnswers, RunsKnowInsides, RunsVerify, WholeRunsKnowAnswers, WholeRunsKnowInsides, WholeRunsVerify, RunsRanLast, WholeRunsRanLast, EntriesMakeReportsSame, EntriesMakeSame};
+ghost use Rattle.world_model.specs.SameLaws.{FollowsInvariant, HoldsAtEnds, HoldsInRuns, RunsFollowScripts, RunsRan, RunsServe, RunsStoreScripts, WholeRunsFollowScripts, WholeRunsStoreScripts, RunsStarted, SettingsGoOn, ReportsAreSame, ReportsClashNowhere, RunsKnowAnswers, RunsKnowInsides, RunsVerify, WholeRunsKnowAnswers, WholeRunsKnowInsides, WholeRunsVerify, RunsRanLast, WholeRunsRanLast, EntriesMakeReportsSame, EntriesMakeSame, PartsMakeEntries};
 ghost use Rattle.world_model.specs.Showing.{show_replies};
 
 /// Wherever a run of a document whose requests are right has come to, what the service's history has of a connection's session is
@@ -182,6 +182,13 @@ pub fn entries_make_same()
     crate::kept_laws::runs_keep_invariant();
     reports_are_same();
 }
+
+/// In any state: where each entry of a sending that is open or was answered Committed has the calls of the script that end with the one sent,
+/// and begins behind an end that was shown, or is the request's first, no call inside it was shown as an end, and answers, granted draws and settings are
+/// the shown ones and those of the request, each such entry is as its request knows.
+pub fn parts_make_entries()
+    ensures { PartsMakeEntries }
+{}
 
 /// Wherever such a run has come to: each Begin carries the settings that the call behind it runs in, those of the request changed by each
 /// `set` before that call; and that call is sent right behind it.
