@@ -83,14 +83,14 @@ piece_calls course index (did ∷ dids) (piece ∷ pieces) all are =
     ∙ (ap (λ (rest : List Call). did.piece.call ∷ rest) (piece_calls course (index + 1) dids pieces one.1 two.1)
     ∙ ap (take (length (did ∷ dids))) (sym (drop_at course.request.calls index did.piece.call (script_call course index did one.0))))
 
-pieces_long : (dids : List ServedCall) (pieces : List Piece) → are_pieces dids pieces ≡ true → length pieces ≡ length dids
+pub pieces_long : (dids : List ServedCall) (pieces : List Piece) → are_pieces dids pieces ≡ true → length pieces ≡ length dids
 pieces_long [] [] are = refl
 pieces_long [] (piece ∷ pieces) are = absurd (let none : ⊥ = cc in none)
 pieces_long (did ∷ dids) [] are = absurd (let none : ⊥ = cc in none)
 pieces_long (did ∷ dids) (piece ∷ pieces) are = ap suc (pieces_long dids pieces (and_parts (is_piece_of did piece) (are_pieces dids pieces) are).1)
 
 -- the last one is of the last index
-last_index : (course : Course) (index : ℕ) (before : List ServedCall) (did : ServedCall) → scripts_from course index (before ++ did ∷ []) ≡ true → did.sent.call ≡ index + length before
+pub last_index : (course : Course) (index : ℕ) (before : List ServedCall) (did : ServedCall) → scripts_from course index (before ++ did ∷ []) ≡ true → did.sent.call ≡ index + length before
 last_index course index [] did all =
     let parts = and_parts (is_scripts course index did) true all in
     let at : did.sent.call ≡ index = eq_from did.sent.call index (and_parts (did.sent.call == index) _ (and_parts (owned_by course.owner did.sent) _ parts.0).1).0 in

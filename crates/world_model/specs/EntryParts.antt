@@ -44,12 +44,13 @@ answered_from [] shown = true
 answered_from pieces [] = true
 answered_from (piece ∷ pieces) (shown ∷ others) = same_answers piece.answers shown.answers && answered_from pieces others
 
--- no call of it but the last was shown as an end, and each has the shown answers
+-- no call of it but the last was shown as an end
 abbrev pub goes_on : Course → Sending → Entry → Bool
-goes_on course sending entry =
-    has_its_calls sending entry
-    && (list_all (λ call. not (ends_transaction call.answers)) (drop (first_of sending entry) (take sending.at course.report.calls))
-    && answered_from (all_but_last entry.pieces) (drop (first_of sending entry) course.report.calls))
+goes_on course sending entry = has_its_calls sending entry && list_all (λ call. not (ends_transaction call.answers)) (drop (first_of sending entry) (take sending.at course.report.calls))
+
+-- each call but the last has the shown answers
+abbrev pub inside_answered : Course → Sending → Entry → Bool
+inside_answered course sending entry = answered_from (all_but_last entry.pieces) (drop (first_of sending entry) course.report.calls)
 
 -- so has the last one, where it was shown
 abbrev pub ends_answered : Course → Sending → Entry → Bool

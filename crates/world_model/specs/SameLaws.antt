@@ -14,7 +14,7 @@ use Rattle.server_model.specs.Runs.{Server}
 use Rattle.server_model.specs.Seen.{Seen}
 use Rattle.world_model.specs.Begins.{settings_before}
 use Rattle.svc_values.specs.declared.draw.Draw.{Draw}
-use Rattle.world_model.specs.EntryParts.{begins_set, drew_so, ends_answered, goes_on, of_entries, starts_one}
+use Rattle.world_model.specs.EntryParts.{begins_set, drew_so, ends_answered, goes_on, inside_answered, of_entries, starts_one}
 use Rattle.world_model.specs.Invariant.{Invariant}
 use Rattle.world_model.specs.Links.{Link, link_at}
 use Rattle.world_model.specs.Reached.{IsRun, Reached}
@@ -165,5 +165,17 @@ EntriesMakeReportsSame =
 -- Each entry of a sending that is open or was answered Committed is as its request knows, where each of its parts is.
 abbrev pub PartsMakeEntries : Type 0
 PartsMakeEntries =
-    (granted : Draw → Bool) (t : Traced) → IsTrue (entries_follow_scripts t) → IsTrue (of_entries starts_one t) → IsTrue (of_entries goes_on t) → IsTrue (of_entries ends_answered t)
+    (granted : Draw → Bool) (t : Traced) → IsTrue (entries_follow_scripts t) → IsTrue (of_entries starts_one t) → IsTrue (of_entries goes_on t) → IsTrue (of_entries inside_answered t) → IsTrue (of_entries ends_answered t)
     → IsTrue (of_entries (drew_so granted) t) → IsTrue (of_entries begins_set t) → IsTrue (entries_same granted t)
+
+-- Wherever a run has come to, where no digests clash: no call of an entry of such a sending was shown as an end but the one that was sent.
+abbrev pub RunsEntriesGoOn : Type 0
+RunsEntriesGoOn =
+    (document : Document) (events : List Event) (notes : List Note) (items : List Served) (seen : Seen) (t : Traced)
+    → IsTrue (all_requests_right document) → Reached document events notes items seen t → IsTrue (none_clash t) → IsTrue (of_entries goes_on t)
+
+-- and at the end of a whole run
+abbrev pub WholeRunsEntriesGoOn : Type 0
+WholeRunsEntriesGoOn =
+    (document : Document) (notes : List Note) (items : List Served) (seen : Seen) (t : Traced)
+    → IsTrue (all_requests_right document) → IsRun document notes items seen t → IsTrue (none_clash t) → IsTrue (of_entries goes_on t)

@@ -7,7 +7,7 @@ ghost use Rattle.world_model.specs.CallEndings.{end_fittingly};
 ghost use Rattle.world_model.specs.FirstCalls.{transactions_begin};
 ghost use Rattle.world_model.specs.Redrawn.{RepeatsRedraw, WholeRepeatsRedraw};
 ghost use Rattle.world_model.specs.Same.{open_entries_known, run_script_calls};
-ghost use Rattle.world_model.specs.SameLaws.{FollowsInvariant, HoldsAtEnds, HoldsInRuns, RunsFollowScripts, RunsRan, RunsServe, RunsStoreScripts, WholeRunsFollowScripts, WholeRunsStoreScripts, RunsStarted, SettingsGoOn, ReportsAreSame, ReportsClashNowhere, RunsKnowAnswers, RunsKnowInsides, RunsVerify, WholeRunsKnowAnswers, WholeRunsKnowInsides, WholeRunsVerify, RunsRanLast, WholeRunsRanLast, EntriesMakeReportsSame, EntriesMakeSame, PartsMakeEntries};
+ghost use Rattle.world_model.specs.SameLaws.{FollowsInvariant, HoldsAtEnds, HoldsInRuns, RunsFollowScripts, RunsRan, RunsServe, RunsStoreScripts, WholeRunsFollowScripts, WholeRunsStoreScripts, RunsStarted, SettingsGoOn, ReportsAreSame, ReportsClashNowhere, RunsKnowAnswers, RunsKnowInsides, RunsVerify, WholeRunsKnowAnswers, WholeRunsKnowInsides, WholeRunsVerify, RunsRanLast, WholeRunsRanLast, EntriesMakeReportsSame, EntriesMakeSame, PartsMakeEntries, RunsEntriesGoOn, WholeRunsEntriesGoOn};
 ghost use Rattle.world_model.specs.Showing.{show_replies};
 
 /// Wherever a run of a document whose requests are right has come to, what the service's history has of a connection's session is
@@ -189,6 +189,17 @@ pub fn entries_make_same()
 pub fn parts_make_entries()
     ensures { PartsMakeEntries }
 {}
+
+/// Wherever such a run has come to, and at its end, where no digests clash: an entry of a sending that is open or was answered Committed has a
+/// call, and no more than its request has up to the one that was sent; and no call of it before that one was shown as an end.
+pub fn entries_go_on()
+    ensures reached { RunsEntriesGoOn }
+    ensures run { WholeRunsEntriesGoOn }
+{
+    crate::kept_laws::runs_keep_invariant();
+    insides_are_known();
+    committed_sendings_ran_last();
+}
 
 /// Wherever such a run has come to: each Begin carries the settings that the call behind it runs in, those of the request changed by each
 /// `set` before that call; and that call is sent right behind it.
