@@ -10,14 +10,15 @@ use Rattle.std.proofs.lemmas.List.Folds.{list_any-append}
 use Rattle.svc_values.specs.declared.answer.Answer.{Answer}
 use Rattle.svc_values.specs.declared.entry.Entry.{Entry}
 use Rattle.svc_values.specs.declared.entry.Ltxid.{Ltxid}
+use Rattle.svc_values.specs.declared.entry.Piece.{Piece}
 use Rattle.svc_values.specs.declared.entry.SessionId.{SessionId}
 use Rattle.svc_values.specs.Endings.{ends_committed, ends_transaction}
 use Rattle.svc_values.specs.Identifiers.{is_of_session, same_ltxid, session_of}
-use Rattle.svc_values.specs.Same.{same_answers}
-use Rattle.svc_values.specs.SameLaws.{same_ltxid_decides, same_session_decides}
+use Rattle.svc_values.specs.Same.{same_answers, same_piece}
+use Rattle.svc_values.specs.SameLaws.{same_ltxid_decides, same_piece_decides, same_session_decides}
 use Rattle.outage_schedule.specs.declared.request.ShownCall.{ShownCall}
 use Rattle.run_clauses.specs.EntryEvents.{entries_of}
-use Rattle.world_model.specs.EntryParts.{first_of, goes_on, has_its_calls, of_entries}
+use Rattle.world_model.specs.EntryParts.{answered_from, first_of, goes_on, has_its_calls, inside_answered, of_entries}
 use Rattle.world_model.specs.Invariant.{Invariant}
 use Rattle.world_model.specs.KeptLaws.{RunsKeepInvariant}
 use Rattle.world_model.specs.Links.{Link, link_at}
@@ -34,6 +35,7 @@ use Rattle.world_model.proofs.AskedNear.{any_all}
 use Rattle.world_model.proofs.AskedSendings.{each_flat}
 use Rattle.world_model.proofs.EntryLinks.{link_ran}
 use Rattle.world_model.proofs.LinkLives.{implied}
+use Rattle.world_model.proofs.LoneCalls.{none_of}
 use Rattle.world_model.proofs.LostKept.{both_all}
 use Rattle.world_model.proofs.OpenEntries.{HasRun, all_its, all_there, entry_ran, is_its, is_there, last_index, pieces_long}
 use Rattle.world_model.proofs.RanScripts.{owns, scripts_ran}
@@ -85,7 +87,48 @@ none_ended course index (did ∷ dids) row all = by (slice_get course.report.cal
         ap (λ (calls : List ShownCall). list_all (λ call. not (ends_transaction call.answers)) (take (suc (length dids)) calls)) (drop_got course.report.calls index shown (ap (slice_get course.report.calls) (sym at) ∙ is))
         ∙ and_from (not (ends_transaction shown.answers)) (list_all (λ call. not (ends_transaction call.answers)) (take (length dids) (drop (index + 1) course.report.calls))) (and_parts (same_answers did.piece.answers shown.answers) (not (ends_transaction shown.answers)) inside).1 rest
 
+-- what is behind the first piece, which is the first call's own where a call is behind it
+more_pieces : (first : ServedCall) (before : List ServedCall) (did : ServedCall) (piece : Piece) (pieces : List Piece) → are_pieces (first ∷ (before ++ did ∷ [])) (piece ∷ pieces) ≡ true → (same_piece first.piece piece ≡ true) × (are_pieces (before ++ did ∷ []) pieces ≡ true)
+more_pieces first [] did piece pieces are = and_parts (same_piece first.piece piece) (are_pieces (did ∷ []) pieces) are
+more_pieces first (next ∷ before) did piece pieces are = and_parts (same_piece first.piece piece) (are_pieces (next ∷ (before ++ did ∷ [])) pieces) are
+
+no_pieces : {A : Type 0} (before : List ServedCall) (did : ServedCall) → are_pieces (before ++ did ∷ []) [] ≡ true → A
+no_pieces [] did are = none_of did [] are
+no_pieces (first ∷ before) did are = none_of first (before ++ did ∷ []) are
+
+-- the answers inside a transaction, as they were shown
+inside_answers : (course : Course) (index : ℕ) (before : List ServedCall) (did : ServedCall) (pieces : List Piece) → scripts_from course index before ≡ true → list_all (is_inside course) before ≡ true → are_pieces (before ++ did ∷ []) pieces ≡ true
+    → answered_from (all_but_last pieces) (drop index course.report.calls) ≡ true
+inside_answers course index before did [] row all are = refl
+inside_answers course index before did (piece ∷ []) row all are = refl
+inside_answers course index [] did (piece ∷ next ∷ pieces) row all are = absurd (let none : ⊥ = cc in none)
+inside_answers course index (first ∷ before) did (piece ∷ next ∷ pieces) row all are =
+    by (slice_get course.report.calls first.sent.call) refl parts.0 (inside_answers course (index + 1) before did (next ∷ pieces) one.1 parts.1 two.1)
+  where
+    parts : (is_inside course first ≡ true) × (list_all (is_inside course) before ≡ true)
+    parts = and_parts (is_inside course first) (list_all (is_inside course) before) all
+
+    one : (is_scripts course index first ≡ true) × (scripts_from course (index + 1) before ≡ true)
+    one = and_parts (is_scripts course index first) (scripts_from course (index + 1) before) row
+
+    two : (same_piece first.piece piece ≡ true) × (are_pieces (before ++ did ∷ []) (next ∷ pieces) ≡ true)
+    two = more_pieces first before did piece (next ∷ pieces) are
+
+    at : first.sent.call ≡ index
+    at = eq_from first.sent.call index (and_parts (first.sent.call == index) _ (and_parts (owned_by course.owner first.sent) _ one.0).1).0
+
+    by : (found : Option ShownCall) → slice_get course.report.calls first.sent.call ≡ found → option_map_or (λ shown. same_answers first.piece.answers shown.answers && not (ends_transaction shown.answers)) found false ≡ true
+        → answered_from (all_but_last (next ∷ pieces)) (drop (index + 1) course.report.calls) ≡ true → answered_from (piece ∷ all_but_last (next ∷ pieces)) (drop index course.report.calls) ≡ true
+    by None is inside rest = absurd (let none : ⊥ = cc in none)
+    by (Some shown) is inside rest =
+        ap (answered_from (piece ∷ all_but_last (next ∷ pieces))) (drop_got course.report.calls index shown (ap (slice_get course.report.calls) (sym at) ∙ is))
+        ∙ and_from (same_answers piece.answers shown.answers) (answered_from (all_but_last (next ∷ pieces)) (drop (index + 1) course.report.calls))
+        (ap (λ (p : Piece). same_answers p.answers shown.answers) (sym ((same_piece_decides first.piece piece).0 two.0)) ∙ (and_parts (same_answers first.piece.answers shown.answers) (not (ends_transaction shown.answers)) inside).0) rest
+
 -- WHAT AN ENTRY RAN -------------------------------------------------------------------------------
+
+abbrev pub is_known_inside : Course → Sending → Entry → Bool
+is_known_inside course sending entry = goes_on course sending entry && inside_answered course sending entry
 
 -- the transaction that an entry has, with the call that was sent as its last one
 pub record EntryRan (t : Traced) (course : Course) (sending : Sending) (entry : Entry) : Type 0 where
@@ -165,14 +208,11 @@ module _ (t : Traced) (whole : Invariant t) (course : Course) (runs : list_all (
             link_so (link_at t.machine.links sending.connection) refl on
             (implied (option_map_or ends_committed sending.taken false) (option_map_or (ran_last course sending) (link_at t.machine.links sending.connection) false) (ap (λ (taken : Option (List Answer)). option_map_or ends_committed taken false) is ∙ ends) committed_ran)
 
-    -- no call inside it was shown as an end
-    pub entry_goes : on_held t course (ran_knowing course) ≡ true → goes_on course sending entry ≡ true
+    -- no call inside it was shown as an end, and each has the shown answers
+    pub entry_goes : on_held t course (ran_knowing course) ≡ true → is_known_inside course sending entry ≡ true
     entry_goes knows =
-        and_from (has_its_calls sending entry) (list_all (λ call. not (ends_transaction call.answers)) (drop (first_of sending entry) (take sending.at course.report.calls)))
-        (and_from ((first_of sending entry + length entry.pieces) == (sending.at + 1)) (nat_le (first_of sending entry) sending.at) (eq_to (first_of sending entry + length entry.pieces) (sending.at + 1) (omega (arith, begin, long, count, index)))
-        (le_to (first_of sending entry) sending.at (omega (arith, begin, index))))
-        (ap (λ (calls : List ShownCall). list_all (λ call. not (ends_transaction call.answers)) calls) (ap (λ (n : ℕ). drop n (take sending.at course.report.calls)) begin ∙ (ap (λ (n : ℕ). drop first (take n course.report.calls)) at ∙ drop-take first (length ran.before) course.report.calls))
-        ∙ none_ended course first ran.before (scripts_front ran.before first row) inside)
+        and_from (goes_on course sending entry) (inside_answered course sending entry) goes
+        (ap (λ (n : ℕ). answered_from (all_but_last entry.pieces) (drop n course.report.calls)) begin ∙ inside_answers course first ran.before ran.did entry.pieces (scripts_front ran.before first row) inside ran.pieces)
       where
         ran : EntryRan t course sending entry
         ran = ran_so
@@ -218,10 +258,20 @@ module _ (t : Traced) (whole : Invariant t) (course : Course) (runs : list_all (
             ∙ implied (list_any (owns course) (ran.before ++ ran.did ∷ [])) (list_all (is_inside course) (all_but_last (ran.before ++ ran.did ∷ []))) any
             (at_all (knows_inside course) (ran_by ran.link).over entry.ltxid.number (ran.before ++ ran.did ∷ []) (and_parts (list_all (knows_inside course) (ran_by ran.link).over) (knows_inside course (ran_by ran.link).pieces) link_knows).0 ran.over)
 
+        goes : goes_on course sending entry ≡ true
+        goes =
+            and_from (has_its_calls sending entry) (list_all (λ call. not (ends_transaction call.answers)) (drop (first_of sending entry) (take sending.at course.report.calls)))
+            (and_from ((first_of sending entry + length entry.pieces) == (sending.at + 1)) (nat_le (first_of sending entry) sending.at) (eq_to (first_of sending entry + length entry.pieces) (sending.at + 1) (omega (arith, begin, long, count, index)))
+            (le_to (first_of sending entry) sending.at (omega (arith, begin, index))))
+            (ap (λ (calls : List ShownCall). list_all (λ call. not (ends_transaction call.answers)) calls) (ap (λ (n : ℕ). drop n (take sending.at course.report.calls)) begin ∙ (ap (λ (n : ℕ). drop first (take n course.report.calls)) at ∙ drop-take first (length ran.before) course.report.calls))
+            ∙ none_ended course first ran.before (scripts_front ran.before first row) inside)
+
 -- ALL ---------------------------------------------------------------------------------------------
 
-pub entries_go : (t : Traced) → Invariant t → commits_ran t ≡ true → insides_known t ≡ true → of_entries goes_on t ≡ true
-entries_go t whole ran knows =
+-- what follows of each such entry
+pub entries_go : (test : Course → Sending → Entry → Bool) → ((course : Course) (sending : Sending) (entry : Entry) → is_known_inside course sending entry ≡ true → test course sending entry ≡ true)
+    → (t : Traced) → Invariant t → commits_ran t ≡ true → insides_known t ≡ true → of_entries test t ≡ true
+entries_go test each t whole ran knows =
     weaker_all facts (λ course. list_all (so course) (commit_sendings course)) (courses_of t) by_course
     (both_all (λ course. list_all (test_at t (runs_script_calls course)) (held_in course.steps)) (λ course. on_held t course (ran_knowing course) && (list_all (is_its t course) (commit_sendings course) && (list_all (is_on_link t) (commit_sendings course) && list_all (is_committed_ran t.machine.links course) (commit_sendings course)))) (courses_of t) (scripts_ran t whole)
     (both_all (λ course. on_held t course (ran_knowing course)) (λ course. list_all (is_its t course) (commit_sendings course) && (list_all (is_on_link t) (commit_sendings course) && list_all (is_committed_ran t.machine.links course) (commit_sendings course))) (courses_of t) knows
@@ -234,7 +284,7 @@ entries_go t whole ran knows =
         && (on_held t course (ran_knowing course) && (list_all (is_its t course) (commit_sendings course) && (list_all (is_on_link t) (commit_sendings course) && list_all (is_committed_ran t.machine.links course) (commit_sendings course))))
 
     so : Course → Sending → Bool
-    so course sending = implies (is_open_or_committed sending) (list_all (λ entry. implies (same_ltxid entry.ltxid sending.ltxid) (goes_on course sending entry)) t.entries)
+    so course sending = implies (is_open_or_committed sending) (list_all (λ entry. implies (same_ltxid entry.ltxid sending.ltxid) (test course sending entry)) t.entries)
 
     by_course : (course : Course) → facts course ≡ true → list_all (so course) (commit_sendings course) ≡ true
     by_course course all =
@@ -262,24 +312,36 @@ entries_go t whole ran knows =
             rest : (is_on_link t sending ≡ true) × (is_committed_ran t.machine.links course sending ≡ true)
             rest = and_parts (is_on_link t sending) (is_committed_ran t.machine.links course sending) parts.1
 
-            entry_so : is_open_or_committed sending ≡ true → (entry : Entry) → is_there t whole entry ≡ true → implies (same_ltxid entry.ltxid sending.ltxid) (goes_on course sending entry) ≡ true
+            entry_so : is_open_or_committed sending ≡ true → (entry : Entry) → is_there t whole entry ≡ true → implies (same_ltxid entry.ltxid sending.ltxid) (test course sending entry) ≡ true
             entry_so may entry is_in = of (same_ltxid entry.ltxid sending.ltxid) refl
               where
-                of : (test : Bool) → same_ltxid entry.ltxid sending.ltxid ≡ test → implies test (goes_on course sending entry) ≡ true
+                of : (same : Bool) → same_ltxid entry.ltxid sending.ltxid ≡ same → implies same (test course sending entry) ≡ true
                 of false is = refl
-                of true is = entry_goes t whole course one.0 sending parts.0 rest.0 rest.1 may entry is_in is two.0
+                of true is = each course sending entry (entry_goes t whole course one.0 sending parts.0 rest.0 rest.1 may entry is_in is two.0)
 
-            by : (may : Bool) → is_open_or_committed sending ≡ may → implies may (list_all (λ entry. implies (same_ltxid entry.ltxid sending.ltxid) (goes_on course sending entry)) t.entries) ≡ true
+            by : (may : Bool) → is_open_or_committed sending ≡ may → implies may (list_all (λ entry. implies (same_ltxid entry.ltxid sending.ltxid) (test course sending entry)) t.entries) ≡ true
             by false is = refl
-            by true is = weaker_all (is_there t whole) (λ entry. implies (same_ltxid entry.ltxid sending.ltxid) (goes_on course sending entry)) t.entries (entry_so is) (all_there t whole)
+            by true is = weaker_all (is_there t whole) (λ entry. implies (same_ltxid entry.ltxid sending.ltxid) (test course sending entry)) t.entries (entry_so is) (all_there t whole)
 
 -- RUNS --------------------------------------------------------------------------------------------
 
+goes_so : (course : Course) (sending : Sending) (entry : Entry) → is_known_inside course sending entry ≡ true → goes_on course sending entry ≡ true
+goes_so course sending entry is = (and_parts (goes_on course sending entry) (inside_answered course sending entry) is).0
+
+answered_so : (course : Course) (sending : Sending) (entry : Entry) → is_known_inside course sending entry ≡ true → inside_answered course sending entry ≡ true
+answered_so course sending entry is = (and_parts (goes_on course sending entry) (inside_answered course sending entry) is).1
+
 pub runs_go_on : RunsKeepInvariant → RunsKnowInsides → RunsRanLast → RunsEntriesGoOn
 runs_go_on keeps knows last document events notes items seen t right reached clash =
-    entries_go t (keeps document events notes items seen t right reached) (last document events notes items seen t right reached) (knows document events notes items seen t right reached clash)
+    let invariant = keeps document events notes items seen t right reached in
+    let ran = last document events notes items seen t right reached in
+    let inside = knows document events notes items seen t right reached clash in
+    (entries_go goes_on goes_so t invariant ran inside, entries_go inside_answered answered_so t invariant ran inside)
 
 pub whole_runs_go_on : RunsKeepInvariant → WholeRunsKnowInsides → WholeRunsRanLast → WholeRunsEntriesGoOn
 whole_runs_go_on keeps knows last document notes items seen t right run clash =
     let so = finishing_reached document run.place notes items seen t run.finishing in
-    entries_go t (keeps document so.0 notes items seen t right so.1) (last document notes items seen t right run) (knows document notes items seen t right run clash)
+    let invariant = keeps document so.0 notes items seen t right so.1 in
+    let ran = last document notes items seen t right run in
+    let inside = knows document notes items seen t right run clash in
+    (entries_go goes_on goes_so t invariant ran inside, entries_go inside_answered answered_so t invariant ran inside)

@@ -3,7 +3,7 @@ use Rattle.std.proofs.Common.{◌≡◌, refl, sym, ap, ◌∙◌, Bool, true, f
 use Rattle.std.specs.Prelude.{◌==◌, not, slice_get, find, option_map}
 use Rattle.std.specs.List.{list_all, list_any}
 use Rattle.std.specs.Option.{option_map_or}
-use Rattle.std.proofs.lemmas.Bool.{and_parts, and_from, or_cases, or_right, not-true}
+use Rattle.std.proofs.lemmas.Bool.{and_parts, and_from, or_cases, or_left, or_right, not-true}
 use Rattle.std.proofs.lemmas.List.{take-append-drop}
 use Rattle.std.proofs.lemmas.List.Folds.{list_all-append}
 use Rattle.svc_values.specs.declared.call.Call.{Call}
@@ -60,16 +60,26 @@ same_piece_call did piece is = by (or_cases (same_piece did.piece piece) (is_sto
     by (inl whole) = ap (λ (one : Piece). one.call) ((same_piece_decides did.piece piece).0 whole)
     by (inr stopped) = (same_call_decides did.piece.call piece.call).0 (and_parts (is_stopped_piece did) (same_call did.piece.call piece.call) stopped).1
 
+-- piece by piece
+pub parts_of : (did : ServedCall) (dids : List ServedCall) (piece : Piece) (pieces : List Piece) → are_pieces (did ∷ dids) (piece ∷ pieces) ≡ true → (is_piece_of did piece ≡ true) × (are_pieces dids pieces ≡ true)
+parts_of did [] piece [] are = (are, refl)
+parts_of did [] piece (next ∷ pieces) are = absurd (let none : ⊥ = cc in none)
+parts_of did (next ∷ dids) piece pieces are = let parts = and_parts (same_piece did.piece piece) (are_pieces (next ∷ dids) pieces) are in (or_left (same_piece did.piece piece) _ parts.0, parts.1)
+
+pub none_of : {A : Type 0} (did : ServedCall) (dids : List ServedCall) → are_pieces (did ∷ dids) [] ≡ true → A
+none_of did [] are = absurd (let none : ⊥ = cc in none)
+none_of did (next ∷ dids) are = absurd (let none : ⊥ = cc in none)
+
 lone_last : (before : List ServedCall) (did : ServedCall) (pieces : List Piece) → are_pieces (before ++ did ∷ []) pieces ≡ true → last_lone pieces ≡ true → is_lone_commit did.piece.call ≡ true
 lone_last before did [] are lone = absurd (let none : ⊥ = cc in none)
-lone_last [] did (piece ∷ []) are lone = ap is_lone_commit (same_piece_call did piece (and_parts (is_piece_of did piece) true are).0) ∙ lone
-lone_last [] did (piece ∷ next ∷ pieces) are lone = absurd (let never : false ≡ true = (and_parts (is_piece_of did piece) false are).1 in let none : ⊥ = cc in none)
-lone_last (first ∷ before) did (piece ∷ []) are lone = absurd (left before (and_parts (is_piece_of first piece) (are_pieces (before ++ did ∷ []) []) are).1)
+lone_last [] did (piece ∷ []) are lone = ap is_lone_commit (same_piece_call did piece are) ∙ lone
+lone_last [] did (piece ∷ next ∷ pieces) are lone = absurd (let none : ⊥ = cc in none)
+lone_last (first ∷ before) did (piece ∷ []) are lone = left before (parts_of first (before ++ did ∷ []) piece [] are).1
   where
-    left : (some : List ServedCall) → are_pieces (some ++ did ∷ []) [] ≡ true → ⊥
-    left [] are = let none : ⊥ = cc in none
-    left (one ∷ some) are = let none : ⊥ = cc in none
-lone_last (first ∷ before) did (piece ∷ next ∷ pieces) are lone = lone_last before did (next ∷ pieces) (and_parts (is_piece_of first piece) (are_pieces (before ++ did ∷ []) (next ∷ pieces)) are).1 lone
+    left : {A : Type 0} (some : List ServedCall) → are_pieces (some ++ did ∷ []) [] ≡ true → A
+    left [] are = none_of did [] are
+    left (one ∷ some) are = none_of one (some ++ did ∷ []) are
+lone_last (first ∷ before) did (piece ∷ next ∷ pieces) are lone = lone_last before did (next ∷ pieces) (parts_of first (before ++ did ∷ []) piece (next ∷ pieces) are).1 lone
 
 -- of an entry that is there, completed
 module _ (test : Entry → Bool) where

@@ -26,7 +26,7 @@ use Rattle.world_model.specs.Links.{Link, link_at}
 use Rattle.world_model.specs.Number.{ahead_rightly, cond_held, is_ahead, is_counted, is_near, last_served_made}
 use Rattle.world_model.specs.Once.{is_placed, are_placed}
 use Rattle.world_model.specs.Parts.{Sending, commit_sendings, held_number, is_commit_call, is_out, number_of, sendings_of}
-use Rattle.world_model.specs.Same.{ServedCall, are_pieces, calls_of, ends_with_sent, first_call, has_script_calls, is_open_stored, is_piece_of, is_ran, is_scripts, is_started, open_entries_known, ran_by, runs_script_calls, scripts_from, test_at}
+use Rattle.world_model.specs.Same.{ServedCall, are_pieces, calls_of, ends_with_sent, first_call, has_script_calls, is_open_stored, is_ran, is_scripts, is_started, open_entries_known, ran_by, runs_script_calls, scripts_from, test_at}
 use Rattle.world_model.specs.Sames.{is_of, owned_by, same_owner, same_owners, same_sent, same_up}
 use Rattle.world_model.specs.Traced.{Traced, Course, courses_of}
 use Rattle.world_model.specs.Words.{held_in}
@@ -45,7 +45,7 @@ use Rattle.world_model.proofs.LastRan.{OutRan, out_ran}
 use Rattle.world_model.proofs.LinkCounts.{extra_few}
 use Rattle.world_model.proofs.LinkLives.{implied}
 use Rattle.world_model.proofs.LinkStarts.{starts_known}
-use Rattle.world_model.proofs.LoneCalls.{same_piece_call}
+use Rattle.world_model.proofs.LoneCalls.{same_piece_call, none_of, parts_of}
 use Rattle.world_model.proofs.LostKept.{both_all}
 use Rattle.world_model.proofs.Numbered.{all_below}
 use Rattle.world_model.proofs.RanScripts.{owns, scripts_ran}
@@ -75,10 +75,10 @@ piece_calls : (course : Course) (index : ℕ) (dids : List ServedCall) (pieces :
     → map (λ (piece : Piece). piece.call) pieces ≡ take (length dids) (drop index course.request.calls)
 piece_calls course index [] [] all are = refl
 piece_calls course index [] (piece ∷ pieces) all are = absurd (let none : ⊥ = cc in none)
-piece_calls course index (did ∷ dids) [] all are = absurd (let none : ⊥ = cc in none)
+piece_calls course index (did ∷ dids) [] all are = none_of did dids are
 piece_calls course index (did ∷ dids) (piece ∷ pieces) all are =
     let one = and_parts (is_scripts course index did) (scripts_from course (index + 1) dids) all in
-    let two = and_parts (is_piece_of did piece) (are_pieces dids pieces) are in
+    let two = parts_of did dids piece pieces are in
     ap (λ (call : Call). call ∷ map (λ (p : Piece). p.call) pieces) (sym (same_piece_call did piece two.0))
     ∙ (ap (λ (rest : List Call). did.piece.call ∷ rest) (piece_calls course (index + 1) dids pieces one.1 two.1)
     ∙ ap (take (length (did ∷ dids))) (sym (drop_at course.request.calls index did.piece.call (script_call course index did one.0))))
@@ -86,8 +86,8 @@ piece_calls course index (did ∷ dids) (piece ∷ pieces) all are =
 pub pieces_long : (dids : List ServedCall) (pieces : List Piece) → are_pieces dids pieces ≡ true → length pieces ≡ length dids
 pieces_long [] [] are = refl
 pieces_long [] (piece ∷ pieces) are = absurd (let none : ⊥ = cc in none)
-pieces_long (did ∷ dids) [] are = absurd (let none : ⊥ = cc in none)
-pieces_long (did ∷ dids) (piece ∷ pieces) are = ap suc (pieces_long dids pieces (and_parts (is_piece_of did piece) (are_pieces dids pieces) are).1)
+pieces_long (did ∷ dids) [] are = none_of did dids are
+pieces_long (did ∷ dids) (piece ∷ pieces) are = ap suc (pieces_long dids pieces (parts_of did dids piece pieces are).1)
 
 -- the last one is of the last index
 pub last_index : (course : Course) (index : ℕ) (before : List ServedCall) (did : ServedCall) → scripts_from course index (before ++ did ∷ []) ≡ true → did.sent.call ≡ index + length before

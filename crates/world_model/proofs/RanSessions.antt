@@ -155,14 +155,19 @@ others_stand walk later other session thing ran resting apart moved stands =
 
 -- ITS OWN ITEM ------------------------------------------------------------------------------------
 
+own_piece : (did : ServedCall) → same_piece did.piece did.piece ≡ true
+own_piece did = (same_piece_decides did.piece did.piece).1 refl
+
 pieces_own : (dids : List ServedCall) → are_pieces dids (pieces_of dids) ≡ true
 pieces_own [] = refl
-pieces_own (did ∷ dids) = and_from (is_piece_of did did.piece) (are_pieces dids (pieces_of dids)) (or_left (same_piece did.piece did.piece) _ ((same_piece_decides did.piece did.piece).1 refl)) (pieces_own dids)
+pieces_own (did ∷ []) = or_left (same_piece did.piece did.piece) _ (own_piece did)
+pieces_own (did ∷ next ∷ dids) = and_from (same_piece did.piece did.piece) (are_pieces (next ∷ dids) (pieces_of (next ∷ dids))) (own_piece did) (pieces_own (next ∷ dids))
 
 pieces_more : (dids : List ServedCall) (did : ServedCall) (piece : Piece) → is_piece_of did piece ≡ true → are_pieces (dids ++ did ∷ []) (pieces_of dids ++ piece ∷ []) ≡ true
-pieces_more [] did piece is = and_from (is_piece_of did piece) true is refl
-pieces_more (first ∷ dids) did piece is =
-    and_from (is_piece_of first first.piece) (are_pieces (dids ++ did ∷ []) (pieces_of dids ++ piece ∷ [])) (or_left (same_piece first.piece first.piece) _ ((same_piece_decides first.piece first.piece).1 refl)) (pieces_more dids did piece is)
+pieces_more [] did piece is = is
+pieces_more (first ∷ []) did piece is = and_from (same_piece first.piece first.piece) (are_pieces (did ∷ []) (piece ∷ [])) (own_piece first) is
+pieces_more (first ∷ next ∷ dids) did piece is =
+    and_from (same_piece first.piece first.piece) (are_pieces ((next ∷ dids) ++ did ∷ []) (pieces_of (next ∷ dids) ++ piece ∷ [])) (own_piece first) (pieces_more (next ∷ dids) did piece is)
 
 ending_same : (last : Option Answer) → option_map_or is_ending last false ≡ (option_map_or (λ a. is_committed a || (is_conflict a || is_rolled_back a)) last false || option_map_or is_no_commit last false)
 ending_same None = refl

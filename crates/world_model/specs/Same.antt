@@ -83,8 +83,8 @@ ran_item ran sent _ = ran
 abbrev pub ran_by : Link → Ran
 ran_by link = fold (λ ran one. ran_item ran one.sent one.served.item) (record { settings = []; at_start = []; pieces = []; over = []; starts = [] }) link.served
 
--- The entry of this number of the session has the pieces of the transaction of this number. (Of a stopped call only the call is known; that
--- transaction is the last one, and may have no entry.)
+-- The entry of this number of the session has the pieces of the transaction of this number. (Of a stopped call only the call is known: it is the
+-- last one of its transaction, which is the last one, and may have no entry.)
 abbrev pub is_stopped_piece : ServedCall → Bool
 is_stopped_piece did = length did.piece.answers == 0
 
@@ -93,7 +93,8 @@ is_piece_of did piece = same_piece did.piece piece || (is_stopped_piece did && s
 
 abbrev pub are_pieces : List ServedCall → List Piece → Bool
 are_pieces [] [] = true
-are_pieces (did ∷ dids) (piece ∷ pieces) = is_piece_of did piece && are_pieces dids pieces
+are_pieces (did ∷ []) (piece ∷ []) = is_piece_of did piece
+are_pieces (did ∷ next ∷ dids) (piece ∷ pieces) = same_piece did.piece piece && are_pieces (next ∷ dids) pieces
 are_pieces _ _ = false
 
 abbrev pub is_session_of : Entry → Link → Bool

@@ -168,14 +168,15 @@ PartsMakeEntries =
     (granted : Draw → Bool) (t : Traced) → IsTrue (entries_follow_scripts t) → IsTrue (of_entries starts_one t) → IsTrue (of_entries goes_on t) → IsTrue (of_entries inside_answered t) → IsTrue (of_entries ends_answered t)
     → IsTrue (of_entries (drew_so granted) t) → IsTrue (of_entries begins_set t) → IsTrue (entries_same granted t)
 
--- Wherever a run has come to, where no digests clash: no call of an entry of such a sending was shown as an end but the one that was sent.
+-- Wherever a run has come to, where no digests clash: no call of an entry of such a sending was shown as an end before the one that was sent, and
+-- each such call has the shown answers.
 abbrev pub RunsEntriesGoOn : Type 0
 RunsEntriesGoOn =
     (document : Document) (events : List Event) (notes : List Note) (items : List Served) (seen : Seen) (t : Traced)
-    → IsTrue (all_requests_right document) → Reached document events notes items seen t → IsTrue (none_clash t) → IsTrue (of_entries goes_on t)
+    → IsTrue (all_requests_right document) → Reached document events notes items seen t → IsTrue (none_clash t) → IsTrue (of_entries goes_on t) × IsTrue (of_entries inside_answered t)
 
 -- and at the end of a whole run
 abbrev pub WholeRunsEntriesGoOn : Type 0
 WholeRunsEntriesGoOn =
     (document : Document) (notes : List Note) (items : List Served) (seen : Seen) (t : Traced)
-    → IsTrue (all_requests_right document) → IsRun document notes items seen t → IsTrue (none_clash t) → IsTrue (of_entries goes_on t)
+    → IsTrue (all_requests_right document) → IsRun document notes items seen t → IsTrue (none_clash t) → IsTrue (of_entries goes_on t) × IsTrue (of_entries inside_answered t)

@@ -191,7 +191,8 @@ pub fn parts_make_entries()
 {}
 
 /// Wherever such a run has come to, and at its end, where no digests clash: an entry of a sending that is open or was answered Committed has a
-/// call, and no more than its request has up to the one that was sent; and no call of it before that one was shown as an end.
+/// call, and no more than its request has up to the one that was sent; and each call of it before that one was answered as it was shown, and
+/// not shown as an end.
 pub fn entries_go_on()
     ensures reached { RunsEntriesGoOn }
     ensures run { WholeRunsEntriesGoOn }
