@@ -12,7 +12,7 @@ use Rattle.svc_values.specs.Identifiers.{same_ltxid}
 use Rattle.svc_values.specs.Same.{same_answers, same_calls, same_draws}
 use Rattle.svc_values.specs.SettingsList.{same_settings, with_sets}
 use Rattle.outage_schedule.specs.declared.request.ShownCall.{ShownCall}
-use Rattle.world_model.specs.EntryParts.{answered_from, begins_set, drew_from, drew_so, ends_answered, first_of, goes_on, has_its_calls, inside_answered, of_entries, starts_one}
+use Rattle.world_model.specs.EntryParts.{answered_from, drew_from, drew_so, ends_answered, first_of, goes_on, has_its_calls, inside_answered, of_entries, starts_one}
 use Rattle.world_model.specs.Once.{is_open_or_committed}
 use Rattle.world_model.specs.Parts.{Sending, commit_sendings, implies}
 use Rattle.world_model.specs.Same.{agree_from, agrees, begins_at, calls_of, ends_with_sent, entries_follow_scripts, entries_same, is_entry_of, is_same_sending}
@@ -95,32 +95,32 @@ module _ (granted : Draw → Bool) (course : Course) (sending : Sending) (entry 
   abbrev pub all_parts : Bool
   all_parts =
       ends_with_sent course sending entry
-      && (starts_one course sending entry && (goes_on course sending entry && (inside_answered course sending entry && (ends_answered course sending entry && (drew_so granted course sending entry && begins_set course sending entry)))))
+      && (starts_one course sending entry && (goes_on course sending entry && (inside_answered course sending entry && (ends_answered course sending entry && drew_so granted course sending entry))))
 
   pub entry_joined : all_parts ≡ true → is_entry_of granted course sending entry ≡ true
   entry_joined all =
       subst (λ (from : ℕ). (same_calls (calls_of entry) (drop from (take (sending.at + 1) course.request.calls)) && (same_settings entry.settings (with_sets course.request.settings (take from course.request.calls)) && agree_from granted entry.pieces (drop from shown))) ≡ true)
       (sym begins)
-      (and_from (same_calls (calls_of entry) (drop first (take (sending.at + 1) course.request.calls))) (same_settings entry.settings (with_sets course.request.settings (take first course.request.calls)) && agree_from granted entry.pieces (drop first shown)) one.0
-      (and_from (begins_set course sending entry) (agree_from granted entry.pieces (drop first shown)) five.1 (agree_all granted entry.pieces (drop first shown) inside.0 last five.0)))
+      (and_from (same_calls (calls_of entry) (drop first (take (sending.at + 1) course.request.calls))) (same_settings entry.settings (with_sets course.request.settings (take first course.request.calls)) && agree_from granted entry.pieces (drop first shown)) sent.0
+      (and_from (same_settings entry.settings (with_sets course.request.settings (take first course.request.calls))) (agree_from granted entry.pieces (drop first shown)) sent.1 (agree_all granted entry.pieces (drop first shown) inside.0 last four.1)))
     where
-      one : (ends_with_sent course sending entry ≡ true) × ((starts_one course sending entry && (goes_on course sending entry && (inside_answered course sending entry && (ends_answered course sending entry && (drew_so granted course sending entry && begins_set course sending entry))))) ≡ true)
+      one : (ends_with_sent course sending entry ≡ true) × ((starts_one course sending entry && (goes_on course sending entry && (inside_answered course sending entry && (ends_answered course sending entry && drew_so granted course sending entry)))) ≡ true)
       one = and_parts (ends_with_sent course sending entry) _ all
 
-      two : (starts_one course sending entry ≡ true) × ((goes_on course sending entry && (inside_answered course sending entry && (ends_answered course sending entry && (drew_so granted course sending entry && begins_set course sending entry)))) ≡ true)
+      sent : (same_calls (calls_of entry) (drop first (take (sending.at + 1) course.request.calls)) ≡ true) × (same_settings entry.settings (with_sets course.request.settings (take first course.request.calls)) ≡ true)
+      sent = and_parts (same_calls (calls_of entry) (drop first (take (sending.at + 1) course.request.calls))) _ one.0
+
+      two : (starts_one course sending entry ≡ true) × ((goes_on course sending entry && (inside_answered course sending entry && (ends_answered course sending entry && drew_so granted course sending entry))) ≡ true)
       two = and_parts (starts_one course sending entry) _ one.1
 
-      three : (goes_on course sending entry ≡ true) × ((inside_answered course sending entry && (ends_answered course sending entry && (drew_so granted course sending entry && begins_set course sending entry))) ≡ true)
+      three : (goes_on course sending entry ≡ true) × ((inside_answered course sending entry && (ends_answered course sending entry && drew_so granted course sending entry)) ≡ true)
       three = and_parts (goes_on course sending entry) _ two.1
 
-      inside : (inside_answered course sending entry ≡ true) × ((ends_answered course sending entry && (drew_so granted course sending entry && begins_set course sending entry)) ≡ true)
+      inside : (inside_answered course sending entry ≡ true) × ((ends_answered course sending entry && drew_so granted course sending entry) ≡ true)
       inside = and_parts (inside_answered course sending entry) _ three.1
 
-      four : (ends_answered course sending entry ≡ true) × ((drew_so granted course sending entry && begins_set course sending entry) ≡ true)
-      four = and_parts (ends_answered course sending entry) _ inside.1
-
-      five : (drew_so granted course sending entry ≡ true) × (begins_set course sending entry ≡ true)
-      five = and_parts (drew_so granted course sending entry) (begins_set course sending entry) four.1
+      four : (ends_answered course sending entry ≡ true) × (drew_so granted course sending entry ≡ true)
+      four = and_parts (ends_answered course sending entry) (drew_so granted course sending entry) inside.1
 
       outer : (has_its_calls sending entry ≡ true) × (list_all (λ call. not (ends_transaction call.answers)) (drop first (take sending.at shown)) ≡ true)
       outer = and_parts (has_its_calls sending entry) _ three.0
@@ -148,17 +148,16 @@ module _ (granted : Draw → Bool) (course : Course) (sending : Sending) (entry 
 
 -- ALL ---------------------------------------------------------------------------------------------
 
-pub entries_joined : (granted : Draw → Bool) (t : Traced) → entries_follow_scripts t ≡ true → of_entries starts_one t ≡ true → of_entries goes_on t ≡ true → of_entries inside_answered t ≡ true → of_entries ends_answered t ≡ true → of_entries (drew_so granted) t ≡ true → of_entries begins_set t ≡ true
+pub entries_joined : (granted : Draw → Bool) (t : Traced) → entries_follow_scripts t ≡ true → of_entries starts_one t ≡ true → of_entries goes_on t ≡ true → of_entries inside_answered t ≡ true → of_entries ends_answered t ≡ true → of_entries (drew_so granted) t ≡ true
     → entries_same granted t ≡ true
-entries_joined granted t scripts starts goes inside ends drew set =
+entries_joined granted t scripts starts goes inside ends drew =
     weaker_all (λ course. list_all (of_sending t (all_parts granted) course) (commit_sendings course)) (λ course. list_all (is_same_sending granted t course) (commit_sendings course)) (courses_of t)
     (λ course all. weaker_all (of_sending t (all_parts granted) course) (is_same_sending granted t course) (commit_sendings course) (one course) all)
     (of_both t ends_with_sent
-    (λ course sending entry. starts_one course sending entry && (goes_on course sending entry && (inside_answered course sending entry && (ends_answered course sending entry && (drew_so granted course sending entry && begins_set course sending entry))))) scripts
-    (of_both t starts_one (λ course sending entry. goes_on course sending entry && (inside_answered course sending entry && (ends_answered course sending entry && (drew_so granted course sending entry && begins_set course sending entry)))) starts
-    (of_both t goes_on (λ course sending entry. inside_answered course sending entry && (ends_answered course sending entry && (drew_so granted course sending entry && begins_set course sending entry))) goes
-    (of_both t inside_answered (λ course sending entry. ends_answered course sending entry && (drew_so granted course sending entry && begins_set course sending entry)) inside
-    (of_both t ends_answered (λ course sending entry. drew_so granted course sending entry && begins_set course sending entry) ends (of_both t (drew_so granted) begins_set drew set))))))
+    (λ course sending entry. starts_one course sending entry && (goes_on course sending entry && (inside_answered course sending entry && (ends_answered course sending entry && drew_so granted course sending entry)))) scripts
+    (of_both t starts_one (λ course sending entry. goes_on course sending entry && (inside_answered course sending entry && (ends_answered course sending entry && drew_so granted course sending entry))) starts
+    (of_both t goes_on (λ course sending entry. inside_answered course sending entry && (ends_answered course sending entry && drew_so granted course sending entry)) goes
+    (of_both t inside_answered (λ course sending entry. ends_answered course sending entry && drew_so granted course sending entry) inside (of_both t ends_answered (drew_so granted) ends drew)))))
   where
     one : (course : Course) (sending : Sending) → of_sending t (all_parts granted) course sending ≡ true → is_same_sending granted t course sending ≡ true
     one course sending is = by (is_open_or_committed sending) is

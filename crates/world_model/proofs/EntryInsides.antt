@@ -24,7 +24,7 @@ use Rattle.world_model.specs.KeptLaws.{RunsKeepInvariant}
 use Rattle.world_model.specs.Links.{Link, link_at}
 use Rattle.world_model.specs.Once.{is_on_link, is_open_or_committed}
 use Rattle.world_model.specs.Parts.{Sending, commit_sendings, implies}
-use Rattle.world_model.specs.Same.{ServedCall, are_pieces, first_call, has_script_calls, is_ran, is_scripts, ran_by, runs_script_calls, scripts_from, test_at}
+use Rattle.world_model.specs.Same.{ServedCall, are_pieces, first_call, has_script_calls, is_ran, is_scripts, is_started, ran_by, runs_script_calls, scripts_from, test_at}
 use Rattle.world_model.specs.SameLaws.{RunsEntriesGoOn, RunsKnowInsides, RunsRanLast, WholeRunsEntriesGoOn, WholeRunsKnowInsides, WholeRunsRanLast}
 use Rattle.world_model.specs.Sames.{owned_by}
 use Rattle.world_model.specs.Traced.{Traced, Course, courses_of}
@@ -183,7 +183,7 @@ module _ (t : Traced) (whole : Invariant t) (course : Course) (runs : list_all (
               over = over;
               pieces =
                   sym (ap (λ (some : Option (List ServedCall)). option_map_or (λ dids. are_pieces dids entry.pieces) some false) over)
-                  ∙ link_ran t whole.orderly.basic.apart entry sending.connection link there (named link.session refl own_session) (and_parts (nat_lt entry.ltxid.number (entries_of t.entries (session_of entry.ltxid))) (is_ran t entry) is_in).1;
+                  ∙ link_ran t whole.orderly.basic.apart entry sending.connection link there (named link.session refl own_session) (and_parts (is_ran t entry) (is_started t entry) (and_parts (nat_lt entry.ltxid.number (entries_of t.entries (session_of entry.ltxid))) (is_ran t entry && is_started t entry) is_in).1).0;
               script = at_all (has_script_calls course) (ran_by link).over entry.ltxid.number (front.front ++ did ∷ []) (and_parts (list_all (has_script_calls course) (ran_by link).over) (has_script_calls course (ran_by link).pieces) known).0 over;
               own = parts.0;
               index = eq_from did.sent.call sending.at parts.1;

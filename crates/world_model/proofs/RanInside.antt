@@ -325,7 +325,7 @@ module _ (course : Course) where
 
     pub link_knows : ran_knowing course link ≡ true
     link_knows =
-        let nothing : Ran = record { settings = []; at_start = []; pieces = []; over = [] } in
+        let nothing : Ran = record { settings = []; at_start = []; pieces = []; over = []; starts = [] } in
         let inner = all_inner link.served nothing (refl, refl) in
         let came = all_came (did_stands last) link.served nothing items_stand (refl, refl) in
         let both = and_parts (list_all (has_script_calls course) (ran_by link).over) (has_script_calls course (ran_by link).pieces) scripts in

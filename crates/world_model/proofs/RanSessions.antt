@@ -31,7 +31,6 @@ use Rattle.world_model.proofs.AllLists.{weaker_all}
 use Rattle.world_model.proofs.RanFrames.{Deals, DealsBegin, DealsEnd, DealsCall, DealsStop, DealsQuietly, rests_behind, is_call, is_quiet_item, is_quiet_thing}
 use Rattle.world_model.proofs.RanWalks.{IsSameWalk, Stores, Takes, Keeps, Calls, Stops, IsStored, IsNothing, Moved, committed_ends}
 use Rattle.world_model.proofs.RanSettings.{IsBeside, set_beside, set_settings}
-use Rattle.world_model.proofs.Recalling.{get_further, get_last}
 use Rattle.world_model.proofs.RanLists.{IsMore, has_ran, is_its, last_ran, more_ran, number_other, number_own, other_ran}
 use Rattle.world_model.proofs.Tests.{session_self, same_session_is}
 

@@ -101,7 +101,7 @@ item_more ran sent (item.CrashedCall mark called) = record { more = (ran.pieces 
 item_more ran sent one = no_more ran (ran_item ran sent one) refl
 
 abbrev ran_of : List Handled → Ran
-ran_of served = fold (λ ran one. ran_item ran one.sent one.served.item) (record { settings = []; at_start = []; pieces = []; over = [] }) served
+ran_of served = fold (λ ran one. ran_item ran one.sent one.served.item) (record { settings = []; at_start = []; pieces = []; over = []; starts = [] }) served
 
 found_more : (test : List ServedCall → Bool) (over more : List (List ServedCall)) (number : ℕ) → option_map_or test (slice_get over number) false ≡ true → option_map_or test (slice_get (over ++ more) number) false ≡ true
 found_more test over more number here = by (slice_get over number) refl here
@@ -115,7 +115,7 @@ more_last course sending was now it served here =
     let so = item_more (ran_of was.served) it.sent it.served.item in
     let over : (ran_by now).over ≡ (ran_by was).over ++ so.more =
     ap (λ (all : List Handled). (ran_of all).over) served
-    ∙ (ap (λ (ran : Ran). ran.over) (fold-append (λ (ran : Ran) (one : Handled). ran_item ran one.sent one.served.item) (record { settings = []; at_start = []; pieces = []; over = [] }) was.served (it ∷ [])) ∙ so.are) in
+    ∙ (ap (λ (ran : Ran). ran.over) (fold-append (λ (ran : Ran) (one : Handled). ran_item ran one.sent one.served.item) (record { settings = []; at_start = []; pieces = []; over = []; starts = [] }) was.served (it ∷ [])) ∙ so.are) in
     ap (λ (all : List (List ServedCall)). option_map_or last_is (slice_get all sending.ltxid.number) false) over ∙ found_more last_is (ran_by was).over so.more sending.ltxid.number here
   where
     last_is : List ServedCall → Bool

@@ -1,4 +1,5 @@
--- An entry of a sending that is open or was answered Committed, part by part: where its transaction begins, and its answers, granted draws and settings.
+-- An entry of a sending that is open or was answered Committed, part by part: where its transaction begins, and its answers and granted draws.
+-- (Its calls, and the settings before them: Same.)
 use Rattle.std.specs.Prelude.{ℕ, ◌+◌, ◌-◌, ◌==◌, ◌&&◌, ◌||◌, Bool, true, false, not, nat_le, List, [], ◌∷◌, length, filter, take, drop, slice_get, None}
 use Rattle.std.specs.List.{list_all, last_or}
 use Rattle.std.specs.Option.{option_map_or}
@@ -8,7 +9,6 @@ use Rattle.svc_values.specs.declared.entry.Piece.{Piece}
 use Rattle.svc_values.specs.Endings.{ends_transaction}
 use Rattle.svc_values.specs.Identifiers.{same_ltxid}
 use Rattle.svc_values.specs.Same.{same_answers, same_draws}
-use Rattle.svc_values.specs.SettingsList.{same_settings, with_sets}
 use Rattle.outage_schedule.specs.declared.request.ShownCall.{ShownCall}
 use Rattle.world_model.specs.Once.{is_open_or_committed}
 use Rattle.world_model.specs.Parts.{Sending, commit_sendings, implies}
@@ -65,7 +65,3 @@ drew_from granted (piece ∷ pieces) (shown ∷ others) = same_draws (filter gra
 
 abbrev pub drew_so : (Draw → Bool) → Course → Sending → Entry → Bool
 drew_so granted course sending entry = drew_from granted entry.pieces (drop (first_of sending entry) course.report.calls)
-
--- the settings are the request's, changed by each `set` before the transaction
-abbrev pub begins_set : Course → Sending → Entry → Bool
-begins_set course sending entry = same_settings entry.settings (with_sets course.request.settings (take (first_of sending entry) course.request.calls))

@@ -14,7 +14,7 @@ use Rattle.server_model.specs.Runs.{Server}
 use Rattle.server_model.specs.Seen.{Seen}
 use Rattle.world_model.specs.Begins.{settings_before}
 use Rattle.svc_values.specs.declared.draw.Draw.{Draw}
-use Rattle.world_model.specs.EntryParts.{begins_set, drew_so, ends_answered, goes_on, inside_answered, of_entries, starts_one}
+use Rattle.world_model.specs.EntryParts.{drew_so, ends_answered, goes_on, inside_answered, of_entries, starts_one}
 use Rattle.world_model.specs.Invariant.{Invariant}
 use Rattle.world_model.specs.Links.{Link, link_at}
 use Rattle.world_model.specs.Reached.{IsRun, Reached}
@@ -166,7 +166,7 @@ EntriesMakeReportsSame =
 abbrev pub PartsMakeEntries : Type 0
 PartsMakeEntries =
     (granted : Draw → Bool) (t : Traced) → IsTrue (entries_follow_scripts t) → IsTrue (of_entries starts_one t) → IsTrue (of_entries goes_on t) → IsTrue (of_entries inside_answered t) → IsTrue (of_entries ends_answered t)
-    → IsTrue (of_entries (drew_so granted) t) → IsTrue (of_entries begins_set t) → IsTrue (entries_same granted t)
+    → IsTrue (of_entries (drew_so granted) t) → IsTrue (entries_same granted t)
 
 -- Wherever a run has come to, where no digests clash: no call of an entry of such a sending was shown as an end before the one that was sent, and
 -- each such call has the shown answers.

@@ -183,9 +183,9 @@ pub fn entries_make_same()
     reports_are_same();
 }
 
-/// In any state: where each entry of a sending that is open or was answered Committed has the calls of the script that end with the one sent,
-/// and begins behind an end that was shown, or is the request's first, no call inside it was shown as an end, and answers, granted draws and settings are
-/// the shown ones and those of the request, each such entry is as its request knows.
+/// In any state: where each entry of a sending that is open or was answered Committed has the calls of the script that end with the one sent and
+/// the settings before them, and begins behind an end that was shown, or is the request's first, no call inside it was shown as an end, and its
+/// answers and granted draws are the shown ones, each such entry is as its request knows.
 pub fn parts_make_entries()
     ensures { PartsMakeEntries }
 {}
