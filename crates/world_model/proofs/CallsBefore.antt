@@ -12,7 +12,7 @@ use Rattle.svc_values.specs.declared.draw.Draw.{Draw}
 use Rattle.svc_values.specs.declared.frame.Up.{Up}
 use Rattle.svc_values.specs.declared.frame.Up.TheVariants as up
 use Rattle.svc_values.specs.Calls.{is_lone_commit}
-use Rattle.svc_values.specs.Endings.{ends_committed, ends_transaction}
+use Rattle.svc_values.specs.Endings.{ends_transaction}
 use Rattle.svc_values.specs.Same.{same_answers, same_bool, same_call, same_draws}
 use Rattle.svc_values.specs.SameLaws.{same_answers_decide, same_bool_decides, same_call_decides}
 use Rattle.outage_schedule.specs.declared.item.Item.{Item}
@@ -29,7 +29,7 @@ use Rattle.world_model.specs.Sames.{is_of, owned_by, same_up}
 use Rattle.world_model.specs.Script.{recorded_from}
 use Rattle.world_model.specs.Serving.{is_item_of}
 use Rattle.world_model.specs.Showing.{shows_taken, show_replies}
-use Rattle.world_model.specs.Shown.{is_call, is_marked, calls_on, in_row, first_of, is_scripts, is_row, is_current, has_unmarked, first_unmarked, marked_from, unmarked_first, is_shown_item, item_shows, link_shows, has_completed, is_from, all_from, rows_on}
+use Rattle.world_model.specs.Shown.{is_call, is_marked, calls_on, in_row, first_of, is_scripts, is_row, is_current, has_unmarked, first_unmarked, marked_from, unmarked_first, is_shown_item, item_shows, link_shows, has_completed, is_from, all_from, rows_on, shows_commit}
 use Rattle.world_model.specs.Traced.{Traced, Course, courses_of}
 use Rattle.world_model.specs.Wire.{is_right, stage_of, New, handled_from, one_is_out}
 use Rattle.world_model.specs.Words.{held_in}
@@ -41,6 +41,7 @@ use Rattle.world_model.proofs.CallRows.{IsBetween, IsFrom, between, got_before, 
 use Rattle.world_model.proofs.CallsApart.{WasSent, at_held}
 use Rattle.world_model.proofs.LinkLives.{implied}
 use Rattle.world_model.proofs.OpenCalls.{OpenCall, any_from, call_marked, kept_calls, lives_before, marked_plain, open_call, unmarked_above}
+use Rattle.world_model.proofs.ShownFrom.{commit_ends}
 use Rattle.world_model.proofs.ShownPlaces.{ended_rolled, never_decided, open_goes_on, rolled_ends, rolled_not_committed}
 use Rattle.world_model.proofs.StageCalls.{marks_first}
 use Rattle.world_model.proofs.StoredCommits.{leaves_open}
@@ -99,7 +100,7 @@ rolled_item call shown it is fit rolled = absurd (let none : ⊥ = cc in none)
 
 -- one that was shown as rolled back is a rollback
 rolled_call : (t : Traced) → end_fittingly t ≡ true → (completed : Bool) (course : Course) (index : ℕ) (call : Call) (shown : ShownCall) → is_from completed t course index (Some call) shown ≡ true → ends_rolled_back shown.answers ≡ true → is_rollback call ≡ true
-rolled_call t fit completed course index call shown is rolled = by (or_cases (list_any (link_shows t course index call shown) (held_in course.steps)) (is_lone_commit call && (ends_committed shown.answers && completed)) is)
+rolled_call t fit completed course index call shown is rolled = by (or_cases (list_any (link_shows t course index call shown) (held_in course.steps)) (is_lone_commit call && (shows_commit shown && completed)) is)
   where
     on : (number : ℕ) (found : Option Link) → link_at t.machine.links number ≡ found → option_map_or (λ link. list_any (item_shows course index call shown) link.served) found false ≡ true → is_rollback call ≡ true
     on number None there any = absurd (let none : ⊥ = cc in none)
@@ -109,11 +110,11 @@ rolled_call t fit completed course index call shown is rolled = by (or_cases (li
         let two = and_parts (found.0.sent.call == index) (is_shown_item call shown found.0.served.item) one.1 in
         rolled_item call shown found.0.served.item two.1 found.1.1 rolled
 
-    by : (list_any (link_shows t course index call shown) (held_in course.steps) ≡ true) ⊎ ((is_lone_commit call && (ends_committed shown.answers && completed)) ≡ true) → is_rollback call ≡ true
+    by : (list_any (link_shows t course index call shown) (held_in course.steps) ≡ true) ⊎ ((is_lone_commit call && (shows_commit shown && completed)) ≡ true) → is_rollback call ≡ true
     by (inl any) = let found = any_one (link_shows t course index call shown) (held_in course.steps) any in on found.0 (link_at t.machine.links found.0) refl found.1
     by (inr lone) =
-        let one = and_parts (is_lone_commit call) (ends_committed shown.answers && completed) lone in
-        rolled_not_committed shown.answers rolled (and_parts (ends_committed shown.answers) completed one.1).0
+        let one = and_parts (is_lone_commit call) (shows_commit shown && completed) lone in
+        rolled_not_committed shown.answers rolled (commit_ends shown (and_parts (shows_commit shown) completed one.1).0)
 
 -- ROWS --------------------------------------------------------------------------------------------
 

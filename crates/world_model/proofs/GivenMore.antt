@@ -7,12 +7,11 @@ use Rattle.std.proofs.lemmas.Bool.{and_parts, and_from, or_right, or_cases}
 use Rattle.std.proofs.lemmas.List.Folds.{list_any-append}
 use Rattle.svc_values.specs.declared.call.Call.{Call}
 use Rattle.svc_values.specs.Calls.{is_lone_commit}
-use Rattle.svc_values.specs.Endings.{ends_committed}
 use Rattle.outage_schedule.specs.declared.request.ShownCall.{ShownCall}
 use Rattle.world_model.specs.Frames.{Owner, Handled}
 use Rattle.world_model.specs.Links.{Link, link_at}
 use Rattle.world_model.specs.Sames.{owned_by}
-use Rattle.world_model.specs.Shown.{is_shown_item, link_shows, is_from, all_from}
+use Rattle.world_model.specs.Shown.{is_shown_item, link_shows, is_from, all_from, shows_commit}
 use Rattle.world_model.specs.Traced.{Traced, Course}
 use Rattle.world_model.specs.Words.{held_in}
 use Rattle.world_model.proofs.CoursesGrow.{or_left}
@@ -47,18 +46,18 @@ module _ (old new : Traced) (longer : (number : ℕ) (link : Link) → link_at o
     one_more index None shown is = is
     one_more index (Some call) shown is =
         ⊎_elim
-        (λ item. or_left (list_any (link_shows new d index call shown) (held_in d.steps)) (is_lone_commit call && (ends_committed shown.answers && after))
+        (λ item. or_left (list_any (link_shows new d index call shown) (held_in d.steps)) (is_lone_commit call && (shows_commit shown && after))
         (subst (λ (numbers : List ℕ). list_any (link_shows new d index call shown) numbers ≡ true) (sym held_are)
         (list_any-append (link_shows new d index call shown) (held_in c.steps) held
         ∙ or_left (list_any (link_shows new d index call shown) (held_in c.steps)) (list_any (link_shows new d index call shown) held)
         (any_more (link_shows old c index call shown) (link_shows new d index call shown) (held_in c.steps)
         (λ number here. subst (λ (o : Owner). shows_by o new.machine.links index call shown number ≡ true) (sym owner) (still_shows c.owner index call shown number here)) item))))
         (λ lone.
-        let one = and_parts (is_lone_commit call) (ends_committed shown.answers && before) lone in
-        let two = and_parts (ends_committed shown.answers) before one.1 in
-        or_right (list_any (link_shows new d index call shown) (held_in d.steps)) (is_lone_commit call && (ends_committed shown.answers && after))
-        (and_from (is_lone_commit call) (ends_committed shown.answers && after) one.0 (and_from (ends_committed shown.answers) after two.0 (told two.1))))
-        (or_cases (list_any (link_shows old c index call shown) (held_in c.steps)) (is_lone_commit call && (ends_committed shown.answers && before)) is)
+        let one = and_parts (is_lone_commit call) (shows_commit shown && before) lone in
+        let two = and_parts (shows_commit shown) before one.1 in
+        or_right (list_any (link_shows new d index call shown) (held_in d.steps)) (is_lone_commit call && (shows_commit shown && after))
+        (and_from (is_lone_commit call) (shows_commit shown && after) one.0 (and_from (shows_commit shown) after two.0 (told two.1))))
+        (or_cases (list_any (link_shows old c index call shown) (held_in c.steps)) (is_lone_commit call && (shows_commit shown && before)) is)
 
     pub all_more : (index : ℕ) (shown : List ShownCall) → all_from before old c index shown ≡ true → all_from after new d index shown ≡ true
     all_more index [] all = refl
@@ -91,6 +90,6 @@ all_weaker before after t d told index (one ∷ shown) all =
     by : (call : Option Call) → is_from before t d index call one ≡ true → is_from after t d index call one ≡ true
     by None is = is
     by (Some call) is =
-        ⊎_elim (λ item. or_left (list_any (link_shows t d index call one) (held_in d.steps)) (is_lone_commit call && (ends_committed one.answers && after)) item)
-        (λ other. or_right (list_any (link_shows t d index call one) (held_in d.steps)) (is_lone_commit call && (ends_committed one.answers && after)) (lone (is_lone_commit call) (ends_committed one.answers) other))
-        (or_cases (list_any (link_shows t d index call one) (held_in d.steps)) (is_lone_commit call && (ends_committed one.answers && before)) is)
+        ⊎_elim (λ item. or_left (list_any (link_shows t d index call one) (held_in d.steps)) (is_lone_commit call && (shows_commit one && after)) item)
+        (λ other. or_right (list_any (link_shows t d index call one) (held_in d.steps)) (is_lone_commit call && (shows_commit one && after)) (lone (is_lone_commit call) (shows_commit one) other))
+        (or_cases (list_any (link_shows t d index call one) (held_in d.steps)) (is_lone_commit call && (shows_commit one && before)) is)

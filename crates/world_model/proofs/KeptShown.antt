@@ -6,15 +6,21 @@ use Rattle.std.specs.Option.{option_or, option_map_or}
 use Rattle.std.proofs.lemmas.Bool.{and_parts, and_from, or_right}
 use Rattle.std.proofs.lemmas.List.{append-nil, map-append, length-map}
 use Rattle.std.proofs.lemmas.List.Folds.{list_any-append}
+use Rattle.svc_values.specs.declared.answer.Answer.TheVariants as answer
 use Rattle.svc_values.specs.declared.call.Call.{Call}
+use Rattle.svc_values.specs.declared.draw.Draw.{Draw}
+use Rattle.svc_values.specs.declared.frame.Down.TheVariants as down
 use Rattle.svc_values.specs.Calls.{is_lone_commit}
-use Rattle.svc_values.specs.Endings.{ends_committed}
+use Rattle.svc_values.specs.Same.{same_answers}
+use Rattle.svc_values.specs.SameLaws.{same_answers_decide}
 use Rattle.outage_schedule.specs.declared.document.Request.{Request}
 use Rattle.outage_schedule.specs.declared.request.Outcome.{Outcome}
 use Rattle.outage_schedule.specs.declared.request.ShownCall.{ShownCall}
 use Rattle.client_model.specs.declared.act.Shown.{Shown}
+use Rattle.client_model.specs.declared.input.Input.{Input}
 use Rattle.client_model.specs.States.{Asking}
-use Rattle.client_model.specs.Terms.{Asked}
+use Rattle.client_model.specs.Talk.{takes, talk_step}
+use Rattle.client_model.specs.Terms.{Phase, Asked}
 use Rattle.run_clauses.specs.Reports.{shown_call, told_outcome}
 use Rattle.run_clauses.specs.Tried.{holds}
 use Rattle.world_model.specs.Clients.{Doing, Client, Step, begun, past_of}
@@ -28,7 +34,7 @@ use Rattle.world_model.specs.Parts.{Sending, sendings_of}
 use Rattle.world_model.specs.Reached.{traced_start}
 use Rattle.world_model.specs.Sames.{owned_by}
 use Rattle.world_model.specs.Settings.{Setting, setting_of}
-use Rattle.world_model.specs.Shown.{calls_on, is_current, is_row, in_row, first_of, is_scripts, is_shown_item, link_shows, has_completed, is_from, all_from, are_from}
+use Rattle.world_model.specs.Shown.{calls_on, is_current, is_row, in_row, first_of, is_scripts, is_shown_item, link_shows, has_completed, is_from, all_from, are_from, shows_commit}
 use Rattle.world_model.specs.Traced.{Traced, Course, course_now, course_over, courses_of_clients, courses_of}
 use Rattle.world_model.specs.Words.{brought, held_in}
 use Rattle.world_model.proofs.AllLists.{weaker_all}
@@ -57,6 +63,7 @@ use Rattle.world_model.proofs.ShownNow.{IsShownOn, Completed, ShownNow, FromItem
 use Rattle.world_model.proofs.StepFacts.{account_now, first_step, first_doing, before_talks, request_after}
 use Rattle.world_model.proofs.Strangers.{same_owner_is}
 use Rattle.world_model.proofs.Tests.{eq_from}
+use Rattle.world_model.proofs.TalkShows.{completed_gives}
 use Rattle.world_model.proofs.TriedApart.{commits, is_under}
 use Rattle.world_model.proofs.TriedSendings.{sent_of_tried, tried_of_sent}
 
@@ -159,7 +166,7 @@ module _ (old new : Traced) (whole : Invariant old) (rows : list_all (course_row
           ∙ (list_any-append (λ other. other == at) (held_in step.before.steps) (cons_option (brought step.input) [])
           ∙ or_left (list_any (λ other. other == at) (held_in step.before.steps)) (list_any (λ other. other == at) (cons_option (brought step.input) [])) (was_held at has)) in
           subst (λ (c : Option Call). is_from (completed_sent d) new d (length shown_before) c (shown_call shown) ≡ true) (sym (ap (λ (all : List Call). slice_get all (length shown_before)) request_same ∙ found.script))
-          (or_left (list_any (link_shows new d (length shown_before) found.call (shown_call shown)) (held_in d.steps)) (is_lone_commit found.call && (ends_committed shown.answers && completed_sent d))
+          (or_left (list_any (link_shows new d (length shown_before) found.call (shown_call shown)) (held_in d.steps)) (is_lone_commit found.call && (shows_commit (shown_call shown) && completed_sent d))
           (any_at (link_shows new d (length shown_before) found.call (shown_call shown)) (held_in d.steps) at held
           (subst (λ (o : Owner). shows_by o new.machine.links (length shown_before) found.call (shown_call shown) at ≡ true) (sym owner) here)))
 
@@ -174,16 +181,26 @@ module _ (old new : Traced) (whole : Invariant old) (rows : list_all (course_row
           ∙ or_right (list_any (told_by list) before_course.report.outcomes) (list_any (told_by list) (x ∷ []))
           (or_left (told_by list x) false (completed_new old whole number n step asking completed.alive completed.input phase))))
 
+      -- an outcome shows a commit without a value
+      shown_plainly : (shown : Shown) (asking : Asking) → step.before.talk.phase ≡ Asked asking → (first_step old.setting m inv.script.talks number n step).done.act.shown ≡ Some shown → Completed old.setting m inv.script.talks number n step asking shown
+          → shows_commit (shown_call shown) ≡ true
+      shown_plainly shown asking phase is completed =
+          let told : (takes old.setting.terms step.before.talk step.before.talk.phase (down.OutcomeIs true true) completed.alive m.tick).1.shown ≡ Some shown =
+          subst (λ (i : Input). (talk_step old.setting.terms step.before.talk i m.tick).1.shown ≡ Some shown) completed.input is in
+          let none : shown.draws ≡ [] =
+          completed_gives old.setting.terms step.before.talk asking completed.alive m.tick shown (subst (λ (p : Phase). (takes old.setting.terms step.before.talk p (down.OutcomeIs true true) completed.alive m.tick).1.shown ≡ Some shown) phase told) in
+          and_from (same_answers shown.answers (answer.Committed ∷ [])) (length shown.draws == 0) ((same_answers_decide shown.answers (answer.Committed ∷ [])).1 completed.commits) (ap (λ (draws : List Draw). length draws == 0) none)
+
       is_now : (shown : Shown) → (first_step old.setting m inv.script.talks number n step).done.act.shown ≡ Some shown → ShownNow old.setting m inv.script.talks number n step shown
           → is_from (completed_sent d) new d (length shown_before) (slice_get d.request.calls (length shown_before)) (shown_call shown) ≡ true
       is_now shown is (FromItem at has found) = from_item shown at has found
       is_now shown is (FromOutcome asking phase completed) =
           subst (λ (c : Option Call). is_from (completed_sent d) new d (length shown_before) c (shown_call shown) ≡ true) (sym (ap (λ (all : List Call). slice_get all (length shown_before)) request_same ∙ completed.script))
-          (or_right (list_any (link_shows new d (length shown_before) completed.call (shown_call shown)) (held_in d.steps)) (is_lone_commit completed.call && (ends_committed shown.answers && completed_sent d))
-          (and_from (is_lone_commit completed.call) (ends_committed shown.answers && completed_sent d)
+          (or_right (list_any (link_shows new d (length shown_before) completed.call (shown_call shown)) (held_in d.steps)) (is_lone_commit completed.call && (shows_commit (shown_call shown) && completed_sent d))
+          (and_from (is_lone_commit completed.call) (shows_commit (shown_call shown) && completed_sent d)
           (lone_now old whole number n step asking completed.alive completed.input phase completed.call
           (ap (slice_get step.before.request.calls) (length-map shown_before shown_call) ∙ completed.script))
-          (and_from (ends_committed shown.answers) (completed_sent d) (ap ends_committed completed.commits) (completed_now shown asking phase completed))))
+          (and_from (shows_commit (shown_call shown)) (completed_sent d) (shown_plainly shown asking phase is completed) (completed_now shown asking phase completed))))
 
       steps_given : given_test new d ≡ true
       steps_given = by (shown_step old.setting m inv.script.talks number n step)

@@ -52,7 +52,7 @@ use Rattle.world_model.specs.SameLaws.{RunsServe}
 use Rattle.world_model.specs.Sames.{owned_by}
 use Rattle.world_model.specs.Script.{carries_draws, has_shown_draws}
 use Rattle.world_model.specs.SessionHistory.{served_in, told_of}
-use Rattle.world_model.specs.Shown.{all_from, calls_on, has_completed, is_call, is_current, is_from, is_row, is_scripts, is_shown_item, item_shows, link_shows, rows_on}
+use Rattle.world_model.specs.Shown.{all_from, calls_on, has_completed, is_call, is_current, is_from, is_row, is_scripts, is_shown_item, item_shows, link_shows, rows_on, shows_commit}
 use Rattle.world_model.specs.Traced.{Traced, Course, courses_of}
 use Rattle.world_model.specs.Wire.{handled_from, is_right, is_sent_front, stage_of}
 use Rattle.world_model.specs.Words.{held_in}
@@ -64,7 +64,7 @@ use Rattle.world_model.proofs.NumbersTurn.{by_index}
 use Rattle.world_model.proofs.RanCalls.{follows, follows_alike, is_mine}
 use Rattle.world_model.proofs.RunStarts.{finishing_reached, reached_coupled, reached_start}
 use Rattle.world_model.proofs.ServedCalls.{Among, IsCall, all_split, any_split, call_is, contains_split, handled_split, served_at}
-use Rattle.world_model.proofs.ShownFrom.{from_at}
+use Rattle.world_model.proofs.ShownFrom.{commit_ends, from_at}
 use Rattle.world_model.proofs.Tests.{eq_from}
 use Rattle.world_model.proofs.ToldSettings.{history_settings, set_told, told_mapped}
 use Rattle.world_model.proofs.ServedSettings.{call_settings}
@@ -147,7 +147,7 @@ module _ (keeps : RunsKeepInvariant) (serve : RunsServe) (runs_legal : RunsLegal
   first_time : (course : Course) → list_all (λ number. option_map_or (λ link. is_row course (is_current course number) (calls_on course link)) (link_at t.machine.links number) false) (held_in course.steps) ≡ true → list_all (begins_on course) t.machine.links ≡ true
       → (index : ℕ) (call : Call) (shown : ShownCall) → is_from (has_completed course) t course index (Some call) shown ≡ true → ends_committed shown.answers ≡ false → FirstTime course index call shown
   first_time course rows begun index call shown from other =
-      by (or_cases (list_any (link_shows t course index call shown) (held_in course.steps)) (is_lone_commit call && (ends_committed shown.answers && has_completed course)) from)
+      by (or_cases (list_any (link_shows t course index call shown) (held_in course.steps)) (is_lone_commit call && (shows_commit shown && has_completed course)) from)
     where
       at_item : (number : ℕ) (link : Link) → link_at t.machine.links number ≡ Some link → is_row course (is_current course number) (calls_on course link) ≡ true → (among : Among (item_shows course index call shown) link.served)
           → owned_by course.owner among.one.sent ≡ true → among.one.sent.call ≡ index → (i : Item) → among.one.served.item ≡ i → is_shown_item call shown i ≡ true → FirstTime course index call shown
@@ -175,7 +175,7 @@ module _ (keeps : RunsKeepInvariant) (serve : RunsServe) (runs_legal : RunsLegal
           let more = and_parts (among.one.sent.call == index) (is_shown_item call shown among.one.served.item) parts.1 in
           at_item number link there row among parts.0 (eq_from among.one.sent.call index more.0) among.one.served.item refl more.1
 
-      by : (list_any (link_shows t course index call shown) (held_in course.steps) ≡ true) ⊎ ((is_lone_commit call && (ends_committed shown.answers && has_completed course)) ≡ true) → FirstTime course index call shown
+      by : (list_any (link_shows t course index call shown) (held_in course.steps) ≡ true) ⊎ ((is_lone_commit call && (shows_commit shown && has_completed course)) ≡ true) → FirstTime course index call shown
       by (inl any) =
           let found = any_split (link_shows t course index call shown) (held_in course.steps) any in
           at_link_found found.one (link_at t.machine.links found.one) refl
@@ -183,7 +183,7 @@ module _ (keeps : RunsKeepInvariant) (serve : RunsServe) (runs_legal : RunsLegal
           (subst (λ (all : List ℕ). list_all (λ number. option_map_or (λ link. is_row course (is_current course number) (calls_on course link)) (link_at t.machine.links number) false) all ≡ true) found.is rows))
           found.passes
       by (inr lone) =
-          let committed : ends_committed shown.answers ≡ true = (and_parts (ends_committed shown.answers) (has_completed course) (and_parts (is_lone_commit call) (ends_committed shown.answers && has_completed course) lone).1).0 in
+          let committed : ends_committed shown.answers ≡ true = commit_ends shown (and_parts (shows_commit shown) (has_completed course) (and_parts (is_lone_commit call) (shows_commit shown && has_completed course) lone).1).0 in
           absurd (let clash : true ≡ false = sym committed ∙ other in let none : ⊥ = cc in none)
 
   -- no call with the mark is answered Committed

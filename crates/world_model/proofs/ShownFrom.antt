@@ -1,10 +1,18 @@
 -- Each of the calls that were shown is from somewhere, by its index.
-use Rattle.std.proofs.Common.{◌≡◌, subst, arith, sym, Bool, true, ℕ, suc, zero, ◌+◌, List, [], ◌∷◌, Some}
-use Rattle.std.specs.Prelude.{slice_get}
+use Rattle.std.proofs.Common.{◌≡◌, ap, subst, arith, sym, Bool, true, ℕ, suc, zero, ◌+◌, List, [], ◌∷◌, Some}
+use Rattle.std.specs.Prelude.{◌==◌, length, slice_get}
 use Rattle.std.proofs.lemmas.Bool.{and_parts}
+use Rattle.svc_values.specs.declared.answer.Answer.TheVariants as answer
+use Rattle.svc_values.specs.Endings.{ends_committed}
+use Rattle.svc_values.specs.Same.{same_answers}
+use Rattle.svc_values.specs.SameLaws.{same_answers_decide}
 use Rattle.outage_schedule.specs.declared.request.ShownCall.{ShownCall}
-use Rattle.world_model.specs.Shown.{all_from, is_from}
+use Rattle.world_model.specs.Shown.{all_from, is_from, shows_commit}
 use Rattle.world_model.specs.Traced.{Traced, Course}
+
+-- what an outcome shows ends with Committed
+pub commit_ends : (shown : ShownCall) → shows_commit shown ≡ true → ends_committed shown.answers ≡ true
+commit_ends shown is = ap ends_committed ((same_answers_decide shown.answers (answer.Committed ∷ [])).0 (and_parts (same_answers shown.answers (answer.Committed ∷ [])) (length shown.draws == 0) is).0)
 
 -- a shown call of a list whose calls are all from somewhere
 pub from_at : (completed : Bool) (t : Traced) (course : Course) (start : ℕ) (list : List ShownCall) (index place : ℕ) (shown : ShownCall) → place ≡ start + index → all_from completed t course start list ≡ true → slice_get list index ≡ Some shown

@@ -3,11 +3,11 @@
 use Rattle.std.specs.Prelude.{ℕ, ◌+◌, ◌==◌, ◌&&◌, ◌||◌, Bool, true, false, if◌then◌else◌, IsTrue, List, [], ◌∷◌, length, filter, take, slice_get, Option, Some, None}
 use Rattle.std.specs.List.{list_all, list_any}
 use Rattle.std.specs.Option.{option_map_or}
+use Rattle.svc_values.specs.declared.answer.Answer.TheVariants as answer
 use Rattle.svc_values.specs.declared.call.Call.{Call}
 use Rattle.svc_values.specs.declared.frame.Up.{Up}
 use Rattle.svc_values.specs.declared.frame.Up.TheVariants as up
 use Rattle.svc_values.specs.Calls.{is_lone_commit}
-use Rattle.svc_values.specs.Endings.{ends_committed}
 use Rattle.svc_values.specs.Same.{same_answers, same_bool, same_call, same_draws}
 use Rattle.outage_schedule.specs.declared.item.Item.{Item}
 use Rattle.outage_schedule.specs.declared.item.Item.TheVariants as item
@@ -39,13 +39,17 @@ item_shows course index call shown one = owned_by course.owner one.sent && ((one
 abbrev pub link_shows : Traced → Course → ℕ → Call → ShownCall → ℕ → Bool
 link_shows t course index call shown number = option_map_or (λ link. list_any (item_shows course index call shown) link.served) (link_at t.machine.links number) false
 
--- or a lone commit, and an outcome was taken that says committed and completed, of an identifier under which the request tried
+-- or a lone commit, shown as committed and without a value, and an outcome was taken that says committed and completed, of an identifier under which
+-- the request tried
+abbrev pub shows_commit : ShownCall → Bool
+shows_commit shown = same_answers shown.answers (answer.Committed ∷ []) && (length shown.draws == 0)
+
 abbrev pub has_completed : Course → Bool
 has_completed course = list_any (λ outcome. outcome.committed && (outcome.completed && list_any (λ ids. holds ids outcome.ltxid) course.report.tried)) course.report.outcomes
 
 abbrev pub is_from : Bool → Traced → Course → ℕ → Option Call → ShownCall → Bool
 is_from completed t course index None shown = false
-is_from completed t course index (Some call) shown = list_any (link_shows t course index call shown) (held_in course.steps) || (is_lone_commit call && (ends_committed shown.answers && completed))
+is_from completed t course index (Some call) shown = list_any (link_shows t course index call shown) (held_in course.steps) || (is_lone_commit call && (shows_commit shown && completed))
 
 abbrev pub all_from : Bool → Traced → Course → ℕ → List ShownCall → Bool
 all_from completed t course index [] = true
