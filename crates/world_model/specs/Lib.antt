@@ -60,6 +60,7 @@ pub mod StoredLaws
 pub mod OnceLaws
 pub mod StoredOnce
 pub mod CallEndings
+pub mod CommitAnswers
 pub mod ValueLaws
 pub mod Verified
 pub mod EntryParts

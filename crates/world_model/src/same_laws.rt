@@ -4,6 +4,7 @@
 ghost use Rattle.world_model.specs.Begins.{carry_settings, sessions_stand, transactions_start};
 ghost use Rattle.world_model.specs.BegunWith.{RunsBeginWith, RunsLead};
 ghost use Rattle.world_model.specs.CallEndings.{end_fittingly};
+ghost use Rattle.world_model.specs.CommitAnswers.{store_alone};
 ghost use Rattle.world_model.specs.FirstCalls.{transactions_begin};
 ghost use Rattle.world_model.specs.Redrawn.{RepeatsRedraw, WholeRepeatsRedraw};
 ghost use Rattle.world_model.specs.Same.{open_entries_known, run_script_calls};
@@ -45,6 +46,15 @@ pub fn calls_end_fittingly()
 {
     runs_serve();
     crate::laws::runs_are_orderly();
+}
+
+/// Wherever such a run has come to, and at its end: each entry that the run added and that a commit with no statement before it stored has for this
+/// call the answer Committed alone, and no draws, also where a crash stopped the call before its answer.
+pub fn lone_commits_are_stored()
+    ensures reached { HoldsInRuns store_alone }
+    ensures run { HoldsAtEnds store_alone }
+{
+    server_model::laws::runs_serial();
 }
 
 /// Wherever such a run has come to, and at its end: each reply to a call without the mark that its request took, on whatever connection, has the
