@@ -1,4 +1,5 @@
--- A statement is answered neither Committed nor RolledBack. So a call's answers end with RolledBack exactly where it is a rollback, and with Committed only where it has a commit.
+-- A statement is answered neither Committed, nor RolledBack, nor CommitInReplay. So what a work call means ends neither with RolledBack nor with
+-- CommitInReplay, and with Committed only where it has a commit.
 use Rattle.std.proofs.Common.{◌≡◌, refl, sym, ap, subst, ◌∙◌, Bool, true, false, ℕ, ◌&&◌, List, [], ◌∷◌, ◌++◌, Option, Some, None, if◌then◌else◌}
 use Rattle.std.specs.Prelude.{ℤ, ◌+ℤ◌, Ok, Err, nat_lt, not, length, option_to_list, slice_set}
 use Rattle.std.specs.List.{list_all, last_or}
@@ -14,7 +15,7 @@ use Rattle.svc_values.specs.declared.statement.Statement.{Statement}
 use Rattle.svc_values.specs.declared.tables.PlainRow.{PlainRow}
 use Rattle.svc_values.specs.declared.value.Value.{Value}
 use Rattle.svc_values.specs.declared.value.Value.TheVariants as value
-use Rattle.svc_values.specs.Endings.{is_committed, is_rolled_back, ends_committed}
+use Rattle.svc_values.specs.Endings.{is_committed, is_rolled_back, ends_committed, ends_with}
 use Rattle.svc_values.specs.SettingsList.{NamedValues}
 use Rattle.svc_values.specs.Tables.{with_writes}
 use Rattle.svc_values.specs.Tests.{selected}
@@ -30,12 +31,13 @@ use Rattle.stmt_meaning.specs.Meaning.{seen_at, OneDone, done_at, mean1, AllDone
 use Rattle.stmt_meaning.specs.Operands.{Reading}
 use Rattle.stmt_meaning.specs.Plans.{plan_of, place_of}
 use Rattle.world_model.specs.CallEndings.{ends_rolled_back}
+use Rattle.world_model.specs.Same.{is_no_commit}
 use Rattle.world_model.proofs.AllLists.{append_all, weaker_all}
 use Rattle.world_model.proofs.Tests.{not_both}
 
--- neither Committed nor RolledBack
+-- neither Committed, nor RolledBack, nor CommitInReplay
 abbrev is_plain : Answer → Bool
-is_plain a = not (is_committed a) && not (is_rolled_back a)
+is_plain a = not (is_committed a) && (not (is_rolled_back a) && not (is_no_commit a))
 
 -- ONE STATEMENT -----------------------------------------------------------------------------------
 
@@ -117,23 +119,30 @@ ends_none test found [] none all = none
 ends_none test found (a ∷ answers) none all = let parts = and_parts (not (test a)) (list_all (λ one. not (test one)) answers) all in ends_none test (Some a) answers (not-true (test a) parts.0) parts.1
 
 never_committed : (answers : List Answer) → list_all is_plain answers ≡ true → list_all (λ a. not (is_committed a)) answers ≡ true
-never_committed answers all = weaker_all is_plain (λ a. not (is_committed a)) answers (λ a is. (and_parts (not (is_committed a)) (not (is_rolled_back a)) is).0) all
+never_committed answers all = weaker_all is_plain (λ a. not (is_committed a)) answers (λ a is. (and_parts (not (is_committed a)) (not (is_rolled_back a) && not (is_no_commit a)) is).0) all
 
 never_rolled : (answers : List Answer) → list_all is_plain answers ≡ true → list_all (λ a. not (is_rolled_back a)) answers ≡ true
-never_rolled answers all = weaker_all is_plain (λ a. not (is_rolled_back a)) answers (λ a is. (and_parts (not (is_committed a)) (not (is_rolled_back a)) is).1) all
+never_rolled answers all = weaker_all is_plain (λ a. not (is_rolled_back a)) answers (λ a is. (and_parts (not (is_rolled_back a)) (not (is_no_commit a)) (and_parts (not (is_committed a)) (not (is_rolled_back a) && not (is_no_commit a)) is).1).0) all
+
+never_refused : (answers : List Answer) → list_all is_plain answers ≡ true → list_all (λ a. not (is_no_commit a)) answers ≡ true
+never_refused answers all =
+    weaker_all is_plain (λ a. not (is_no_commit a)) answers (λ a is. (and_parts (not (is_rolled_back a)) (not (is_no_commit a)) (and_parts (not (is_committed a)) (not (is_rolled_back a) && not (is_no_commit a)) is).1).1) all
 
 -- what a work call means
 pub record WorksPlainly (commit : Bool) (answers : List Answer) : Type 0 where
   pub rolled : ends_rolled_back answers ≡ false
+  pub refused : ends_with is_no_commit answers ≡ false
   pub committed : ends_committed answers ≡ true → commit ≡ true
 
 commit_plainly : (commit : Bool) (answers : List Answer) → list_all is_plain answers ≡ true → WorksPlainly commit (answers ++ commit_answer commit)
 commit_plainly true answers all = record {
   rolled = ends_none is_rolled_back None (answers ++ answer.Committed ∷ []) refl (append_all (λ a. not (is_rolled_back a)) answers (answer.Committed ∷ []) (never_rolled answers all) refl);
+  refused = ends_none is_no_commit None (answers ++ answer.Committed ∷ []) refl (append_all (λ a. not (is_no_commit a)) answers (answer.Committed ∷ []) (never_refused answers all) refl);
   committed = λ is. refl;
 }
 commit_plainly false answers all = record {
   rolled = ends_none is_rolled_back None (answers ++ []) refl (append_all (λ a. not (is_rolled_back a)) answers [] (never_rolled answers all) refl);
+  refused = ends_none is_no_commit None (answers ++ []) refl (append_all (λ a. not (is_no_commit a)) answers [] (never_refused answers all) refl);
   committed = λ is.
       let none : ends_committed (answers ++ []) ≡ false = ends_none is_committed None (answers ++ []) refl (append_all (λ a. not (is_committed a)) answers [] (never_committed answers all) refl) in
       absurd (not_both (ends_committed (answers ++ [])) is none);
@@ -142,6 +151,7 @@ commit_plainly false answers all = record {
 refused_plainly : (commit : Bool) (answers : List Answer) → list_all is_plain answers ≡ true → WorksPlainly commit answers
 refused_plainly commit answers all = record {
   rolled = ends_none is_rolled_back None answers refl (never_rolled answers all);
+  refused = ends_none is_no_commit None answers refl (never_refused answers all);
   committed = λ is. absurd (not_both (ends_committed answers) is (ends_none is_committed None answers refl (never_committed answers all)));
 }
 

@@ -4,7 +4,7 @@
 ghost use Rattle.world_model.specs.Begins.{carry_settings, sessions_stand, transactions_start};
 ghost use Rattle.world_model.specs.BegunWith.{RunsBeginWith, RunsLead};
 ghost use Rattle.world_model.specs.CallEndings.{end_fittingly};
-ghost use Rattle.world_model.specs.CommitAnswers.{store_alone};
+ghost use Rattle.world_model.specs.CommitAnswers.{commit_fittingly, store_alone};
 ghost use Rattle.world_model.specs.FirstCalls.{transactions_begin};
 ghost use Rattle.world_model.specs.Redrawn.{RepeatsRedraw, WholeRepeatsRedraw};
 ghost use Rattle.world_model.specs.Same.{open_entries_known, run_script_calls};
@@ -43,6 +43,16 @@ pub fn runs_started()
 pub fn calls_end_fittingly()
     ensures reached { HoldsInRuns end_fittingly }
     ensures run { HoldsAtEnds end_fittingly }
+{
+    runs_serve();
+    crate::laws::runs_are_orderly();
+}
+
+/// Wherever such a run has come to, and at its end: the answers to a call that a connection served end with CommitInReplay only where it was sent
+/// with the mark; and a commit with no statement before it has exactly one answer.
+pub fn commits_are_answered()
+    ensures reached { HoldsInRuns commit_fittingly }
+    ensures run { HoldsAtEnds commit_fittingly }
 {
     runs_serve();
     crate::laws::runs_are_orderly();
