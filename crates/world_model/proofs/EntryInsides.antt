@@ -45,7 +45,7 @@ use Rattle.world_model.proofs.Tests.{eq_from, eq_to, le_to}
 -- LISTS -------------------------------------------------------------------------------------------
 
 -- all but the last one
-front_is : {A : Type 0} (xs : List A) (x : A) → all_but_last (xs ++ x ∷ []) ≡ xs
+pub front_is : {A : Type 0} (xs : List A) (x : A) → all_but_last (xs ++ x ∷ []) ≡ xs
 front_is [] x = refl
 front_is (y ∷ []) x = refl
 front_is (y ∷ z ∷ xs) x = ap (λ rest. y ∷ rest) (front_is (z ∷ xs) x)
@@ -59,7 +59,7 @@ has_last [] x is = absurd (let none : ⊥ = cc in none)
 has_last (y ∷ []) x is = let same : y ≡ x = cc in record { front = []; is = ap (λ z. z ∷ []) same }
 has_last (y ∷ z ∷ xs) x is = let rest = has_last (z ∷ xs) x is in record { front = y ∷ rest.front; is = ap (λ more. y ∷ more) rest.is }
 
-drop_got : (shown : List ShownCall) (index : ℕ) (call : ShownCall) → slice_get shown index ≡ Some call → drop index shown ≡ call ∷ drop (index + 1) shown
+pub drop_got : (shown : List ShownCall) (index : ℕ) (call : ShownCall) → slice_get shown index ≡ Some call → drop index shown ≡ call ∷ drop (index + 1) shown
 drop_got [] index call is = absurd (let none : ⊥ = cc in none)
 drop_got (first ∷ shown) zero call is = let same : first ≡ call = cc in ap (λ (c : ShownCall). c ∷ shown) same
 drop_got (first ∷ shown) (suc index) call is =
@@ -88,11 +88,11 @@ none_ended course index (did ∷ dids) row all = by (slice_get course.report.cal
         ∙ and_from (not (ends_transaction shown.answers)) (list_all (λ call. not (ends_transaction call.answers)) (take (length dids) (drop (index + 1) course.report.calls))) (and_parts (same_answers did.piece.answers shown.answers) (not (ends_transaction shown.answers)) inside).1 rest
 
 -- what is behind the first piece, which is the first call's own where a call is behind it
-more_pieces : (first : ServedCall) (before : List ServedCall) (did : ServedCall) (piece : Piece) (pieces : List Piece) → are_pieces (first ∷ (before ++ did ∷ [])) (piece ∷ pieces) ≡ true → (same_piece first.piece piece ≡ true) × (are_pieces (before ++ did ∷ []) pieces ≡ true)
+pub more_pieces : (first : ServedCall) (before : List ServedCall) (did : ServedCall) (piece : Piece) (pieces : List Piece) → are_pieces (first ∷ (before ++ did ∷ [])) (piece ∷ pieces) ≡ true → (same_piece first.piece piece ≡ true) × (are_pieces (before ++ did ∷ []) pieces ≡ true)
 more_pieces first [] did piece pieces are = and_parts (same_piece first.piece piece) (are_pieces (did ∷ []) pieces) are
 more_pieces first (next ∷ before) did piece pieces are = and_parts (same_piece first.piece piece) (are_pieces (next ∷ (before ++ did ∷ [])) pieces) are
 
-no_pieces : {A : Type 0} (before : List ServedCall) (did : ServedCall) → are_pieces (before ++ did ∷ []) [] ≡ true → A
+pub no_pieces : {A : Type 0} (before : List ServedCall) (did : ServedCall) → are_pieces (before ++ did ∷ []) [] ≡ true → A
 no_pieces [] did are = none_of did [] are
 no_pieces (first ∷ before) did are = none_of first (before ++ did ∷ []) are
 
@@ -144,7 +144,7 @@ pub record EntryRan (t : Traced) (course : Course) (sending : Sending) (entry : 
 
 module _ (t : Traced) (whole : Invariant t) (course : Course) (runs : list_all (test_at t (runs_script_calls course)) (held_in course.steps) ≡ true) (sending : Sending) (its : is_its t course sending ≡ true) where
   -- it is on a connection that the request held
-  on_its : list_any (λ number. number == sending.connection) (held_in course.steps) ≡ true
+  pub on_its : list_any (λ number. number == sending.connection) (held_in course.steps) ≡ true
   on_its = (and_parts _ (list_any (λ number. number == sending.connection) (held_in course.steps)) (and_parts _ _ its).1).1
 
   module _ (on : is_on_link t sending ≡ true) (committed_ran : is_committed_ran t.machine.links course sending ≡ true) (may : is_open_or_committed sending ≡ true) (entry : Entry) (is_in : is_there t whole entry ≡ true) (same : same_ltxid entry.ltxid sending.ltxid ≡ true) where

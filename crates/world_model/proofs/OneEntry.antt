@@ -23,7 +23,7 @@ use Rattle.world_model.proofs.Tests.{same_session_is}
 use Rattle.world_model.proofs.TriedApart.{under_at}
 
 -- an identifier that has its entry is not blocked
-entry_free : (t : Traced) → Invariant t → (x : Ltxid) → has_entry t.entries x ≡ true → holds t.blocked x ≡ false
+pub entry_free : (t : Traced) → Invariant t → (x : Ltxid) → has_entry t.entries x ≡ true → holds t.blocked x ≡ false
 entry_free t inv x there =
     let found = any_all (λ (entry : Entry). same_ltxid x entry.ltxid) (λ (entry : Entry). not (holds t.blocked entry.ltxid)) t.entries there inv.orderly.number.unblocked in
     ap (holds t.blocked) ((same_ltxid_decides x found.0.ltxid).0 found.1.0) ∙ not-true (holds t.blocked found.0.ltxid) found.1.1

@@ -62,7 +62,7 @@ drop_at (first ∷ calls) zero call is = let same : first ≡ call = cc in ap (�
 drop_at (first ∷ calls) (suc index) call is =
     let next : suc (index + 1) ≡ suc index + 1 = omega arith in drop_at calls index call is ∙ ap (λ (n : ℕ). call ∷ drop n (first ∷ calls)) next
 
-script_call : (course : Course) (index : ℕ) (did : ServedCall) → is_scripts course index did ≡ true → slice_get course.request.calls index ≡ Some did.piece.call
+pub script_call : (course : Course) (index : ℕ) (did : ServedCall) → is_scripts course index did ≡ true → slice_get course.request.calls index ≡ Some did.piece.call
 script_call course index did is =
     by (slice_get course.request.calls index) (and_parts (did.sent.call == index) (option_map_or (same_call did.piece.call) (slice_get course.request.calls index) false) (and_parts (owned_by course.owner did.sent) _ is).1).1
   where

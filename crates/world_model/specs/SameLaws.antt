@@ -180,3 +180,40 @@ abbrev pub WholeRunsEntriesGoOn : Type 0
 WholeRunsEntriesGoOn =
     (document : Document) (notes : List Note) (items : List Served) (seen : Seen) (t : Traced)
     → IsTrue (all_requests_right document) → IsRun document notes items seen t → IsTrue (none_clash t) → IsTrue (of_entries goes_on t) × IsTrue (of_entries inside_answered t)
+
+-- Then each piece of such an entry drew the granted values with which its call was shown, and the last one has the answers with which its call was shown,
+-- if it was.
+abbrev pub RunsEntriesDraw : Type 0
+RunsEntriesDraw =
+    (document : Document) (events : List Event) (notes : List Note) (items : List Served) (seen : Seen) (t : Traced)
+    → IsTrue (all_requests_right document) → Reached document events notes items seen t → IsTrue (none_clash t) → IsTrue (of_entries (drew_so (granted_by document)) t) × IsTrue (of_entries ends_answered t)
+
+-- and at the end of a whole run
+abbrev pub WholeRunsEntriesDraw : Type 0
+WholeRunsEntriesDraw =
+    (document : Document) (notes : List Note) (items : List Served) (seen : Seen) (t : Traced)
+    → IsTrue (all_requests_right document) → IsRun document notes items seen t → IsTrue (none_clash t) → IsTrue (of_entries (drew_so (granted_by document)) t) × IsTrue (of_entries ends_answered t)
+
+-- Then the transaction of such an entry is its request's first, or begins behind a call that was shown as the end of one.
+abbrev pub RunsEntriesStart : Type 0
+RunsEntriesStart =
+    (document : Document) (events : List Event) (notes : List Note) (items : List Served) (seen : Seen) (t : Traced)
+    → IsTrue (all_requests_right document) → Reached document events notes items seen t → IsTrue (none_clash t) → IsTrue (of_entries starts_one t)
+
+-- and at the end of a whole run
+abbrev pub WholeRunsEntriesStart : Type 0
+WholeRunsEntriesStart =
+    (document : Document) (notes : List Note) (items : List Served) (seen : Seen) (t : Traced)
+    → IsTrue (all_requests_right document) → IsRun document notes items seen t → IsTrue (none_clash t) → IsTrue (of_entries starts_one t)
+
+-- So each such entry is as its request knows.
+abbrev pub RunsKnowEntries : Type 0
+RunsKnowEntries =
+    (document : Document) (events : List Event) (notes : List Note) (items : List Served) (seen : Seen) (t : Traced)
+    → IsTrue (all_requests_right document) → Reached document events notes items seen t → IsTrue (none_clash t) → IsTrue (entries_same (granted_by document) t)
+
+-- and at the end of a whole run
+abbrev pub WholeRunsKnowEntries : Type 0
+WholeRunsKnowEntries =
+    (document : Document) (notes : List Note) (items : List Served) (seen : Seen) (t : Traced)
+    → IsTrue (all_requests_right document) → IsRun document notes items seen t → IsTrue (none_clash t) → IsTrue (entries_same (granted_by document) t)

@@ -8,7 +8,7 @@ ghost use Rattle.world_model.specs.CommitAnswers.{commit_fittingly, store_alone}
 ghost use Rattle.world_model.specs.FirstCalls.{transactions_begin};
 ghost use Rattle.world_model.specs.Redrawn.{RepeatsRedraw, WholeRepeatsRedraw};
 ghost use Rattle.world_model.specs.Same.{open_entries_known, run_script_calls};
-ghost use Rattle.world_model.specs.SameLaws.{FollowsInvariant, HoldsAtEnds, HoldsInRuns, RunsFollowScripts, RunsRan, RunsServe, RunsStoreScripts, WholeRunsFollowScripts, WholeRunsStoreScripts, RunsStarted, SettingsGoOn, ReportsAreSame, ReportsClashNowhere, RunsKnowAnswers, RunsKnowInsides, RunsVerify, WholeRunsKnowAnswers, WholeRunsKnowInsides, WholeRunsVerify, RunsRanLast, WholeRunsRanLast, EntriesMakeReportsSame, EntriesMakeSame, PartsMakeEntries, RunsEntriesGoOn, WholeRunsEntriesGoOn};
+ghost use Rattle.world_model.specs.SameLaws.{FollowsInvariant, HoldsAtEnds, HoldsInRuns, RunsFollowScripts, RunsRan, RunsServe, RunsStoreScripts, WholeRunsFollowScripts, WholeRunsStoreScripts, RunsStarted, SettingsGoOn, ReportsAreSame, ReportsClashNowhere, RunsKnowAnswers, RunsKnowInsides, RunsVerify, WholeRunsKnowAnswers, WholeRunsKnowInsides, WholeRunsVerify, RunsRanLast, WholeRunsRanLast, EntriesMakeReportsSame, EntriesMakeSame, PartsMakeEntries, RunsEntriesDraw, RunsEntriesGoOn, RunsEntriesStart, RunsKnowEntries, WholeRunsEntriesDraw, WholeRunsEntriesGoOn, WholeRunsEntriesStart, WholeRunsKnowEntries};
 ghost use Rattle.world_model.specs.Showing.{show_replies};
 
 /// Wherever a run of a document whose requests are right has come to, what the service's history has of a connection's session is
@@ -241,4 +241,48 @@ pub fn repeated_calls_redraw()
     runs_serve();
     server_model::laws::runs_legal();
     requests_begin_with_settings();
+}
+
+/// Then each piece of such an entry drew, of the values that are kept for a repeated call, those that were shown with its call; and the answers to its
+/// last call are those that were shown, where it was: by the reply on its own connection, since no call is stored twice, or by an outcome.
+pub fn entries_draw_as_shown()
+    ensures reached { RunsEntriesDraw }
+    ensures run { WholeRunsEntriesDraw }
+{
+    crate::kept_laws::runs_keep_invariant();
+    calls_are_verified();
+    answers_are_known();
+    repeated_calls_redraw();
+    replies_are_shown();
+    calls_end_fittingly();
+    lone_commits_are_stored();
+    committed_sendings_ran_last();
+}
+
+/// Then the transaction of such an entry is its request's first, or it begins behind a call that was shown as the end of one. Where its connection
+/// ended one before it, the request went on behind that, so it was shown as it was answered; and no call was shown with CommitInReplay.
+pub fn entries_begin_behind_ends()
+    ensures reached { RunsEntriesStart }
+    ensures run { WholeRunsEntriesStart }
+{
+    crate::kept_laws::runs_keep_invariant();
+    calls_are_verified();
+    answers_are_known();
+    repeated_calls_redraw();
+    transactions_begin_rightly();
+    commits_are_answered();
+    committed_sendings_ran_last();
+}
+
+/// So, wherever such a run has come to, and at its end, where no digests clash: each entry of a sending that is open or was answered Committed has the
+/// calls, answers, granted draws and settings that its request knows.
+pub fn entries_are_as_known()
+    ensures reached { RunsKnowEntries }
+    ensures run { WholeRunsKnowEntries }
+{
+    entries_follow_scripts();
+    entries_go_on();
+    entries_draw_as_shown();
+    entries_begin_behind_ends();
+    parts_make_entries();
 }
