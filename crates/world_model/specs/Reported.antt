@@ -4,6 +4,8 @@ use Rattle.outage_schedule.specs.declared.document.Document.{Document}
 use Rattle.outage_schedule.specs.declared.report.Report.{Report}
 use Rattle.run_clauses.specs.Before.{journal_before}
 use Rattle.run_clauses.specs.Fresh.{fresh}
+use Rattle.run_clauses.specs.NoClash.{no_clash}
+use Rattle.run_clauses.specs.Same.{same}
 use Rattle.run_clauses.specs.ServiceBase.{service_base}
 use Rattle.server_model.specs.Runs.{Server, Runs}
 use Rattle.server_model.specs.Seen.{Seen}
@@ -38,3 +40,10 @@ RunsAreFreshNew = (document : Document) (report : Report) (seen : Seen) (t : Tra
 abbrev pub RunsAreFresh : Type 0
 RunsAreFresh =
     (document : Document) (report : Report) (seen : Seen) (t : Traced) (server : Server) → IsTrue (all_requests_right document) → IsReported document report seen t server → IsTrue (fresh report)
+
+-- Each transaction of a request stands in the journal with the calls, answers, granted draws and settings that its client knows, where the requests of the document
+-- are right and no two answers that clients compared have one digest by chance.
+abbrev pub RunsAreSame : Type 0
+RunsAreSame =
+    (document : Document) (report : Report) (seen : Seen) (t : Traced) (server : Server)
+    → IsTrue (all_requests_right document) → IsReported document report seen t server → IsTrue (no_clash document report) → IsTrue (same document report)

@@ -1,5 +1,5 @@
 //! What holds of a whole run that a report tells. Each law is the clause of a function with nothing to run.
-ghost use Rattle.world_model.specs.Reported.{RunsAreFresh, RunsAreFreshNew, RunsAreLegal};
+ghost use Rattle.world_model.specs.Reported.{RunsAreFresh, RunsAreFreshNew, RunsAreLegal, RunsAreSame};
 
 /// What a run served is legal, as a walk over its items judges that knows them, the entries and the alerts alone.
 pub fn runs_are_legal()
@@ -23,4 +23,15 @@ pub fn runs_are_fresh()
     crate::kept_laws::runs_keep_invariant();
     crate::value_laws::stored_values_are_fresh();
     crate::value_laws::calls_are_stored_once();
+}
+
+/// Each transaction of a request stands in the journal of a run as its client knows it: its entries have the script's calls, the shown answers, the
+/// granted draws that were shown, and the settings of the request, changed by each `set` before it. This is so in documents whose requests are
+/// right, where no two answers that clients compared have one digest by chance.
+pub fn runs_are_same()
+    ensures { RunsAreSame }
+{
+    crate::same_laws::reports_clash_nowhere();
+    crate::same_laws::entries_are_as_known();
+    crate::same_laws::entries_make_same();
 }
