@@ -191,6 +191,7 @@ module _ (document : Document) (ran : Ran Within) (before : Before) (report : Re
     fresh_new = laws.fresh_new document report has.seen has.traced gained.server reported;
     fresh = laws.fresh document report has.seen has.traced gained.server calls reported;
     once_so = laws.once document report has.seen has.traced gained.server calls reported;
+    same_so = laws.same document report has.seen has.traced gained.server calls reported;
     stored_so = stored_so laws calls;
     caused_so = laws.caused document report has.seen has.traced gained.server calls tries reported;
     journal = off.journal;

@@ -6,7 +6,9 @@ use Rattle.outage_schedule.specs.declared.document.Document.{Document}
 use Rattle.outage_schedule.specs.declared.report.Report.{Report}
 use Rattle.run_clauses.specs.Before.{journal_before, tables_of}
 use Rattle.run_clauses.specs.Fresh.{fresh}
+use Rattle.run_clauses.specs.NoClash.{no_clash}
 use Rattle.run_clauses.specs.Once.{once}
+use Rattle.run_clauses.specs.Same.{same}
 use Rattle.run_clauses.specs.Serial.{IsSerial, printed_tables}
 use Rattle.run_clauses.specs.Stored.{stored}
 use Rattle.shown_clauses.specs.Caused.{caused}
@@ -44,6 +46,9 @@ pub record Headline (document : Document) (report : Report) : Type 0 where
   -- each transaction stands in the journal at most once: exactly once where it was shown as committed, and not at all where it was shown as
   -- dropped
   pub once_so : IsTrue (once document report)
+  -- with the calls of its script, the answers and kept values that its client was shown, and the settings of its request, where no two answers that
+  -- were compared have one digest by chance
+  pub same_so : IsTrue (no_clash document report) → IsTrue (same document report)
   -- each outcome that was told is the stored one, by the table and the horizon of then; blocks and entries never share an identifier
   pub stored_so : IsTrue (stored document report)
   -- each request failed for the cause that its steps show, and no other failed

@@ -2,7 +2,7 @@
 use Rattle.server_model.specs.Laws.{RunsSerial}
 use Rattle.shown_laws.specs.CausedRuns.{RunsAreCaused}
 use Rattle.world_model.specs.OnceLaws.{ReportsAreOnce}
-use Rattle.world_model.specs.Reported.{RunsAreLegal, RunsAreFreshNew, RunsAreFresh}
+use Rattle.world_model.specs.Reported.{RunsAreLegal, RunsAreFreshNew, RunsAreFresh, RunsAreSame}
 use Rattle.world_model.specs.RunLaws.{RunsAreFollowed}
 use Rattle.world_model.specs.StoredLaws.{OutcomesAreStored, AnswersAreRight, HorizonsAreTold, BlocksStayApart, BlocksAreAnswered, BlocksComeInOrder}
 
@@ -13,6 +13,7 @@ pub record RunsHold : Type 0 where
   pub fresh_new : RunsAreFreshNew
   pub fresh : RunsAreFresh
   pub once : ReportsAreOnce
+  pub same : RunsAreSame
   pub outcomes : OutcomesAreStored
   pub answers : AnswersAreRight
   pub horizons : HorizonsAreTold

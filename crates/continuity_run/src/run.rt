@@ -25,7 +25,7 @@ use world_model::laws::{
     finish_falls, finish_goes_on, finish_is_short, runs_are_followed, runs_are_orderly,
 };
 use world_model::once_end_laws::reports_are_once;
-use world_model::run_laws::{runs_are_fresh, runs_are_fresh_new, runs_are_legal};
+use world_model::run_laws::{runs_are_fresh, runs_are_fresh_new, runs_are_legal, runs_are_same};
 use world_model::stored_laws::{
     answers_are_right, blocks_are_answered, blocks_stay_apart, horizons_are_told,
     outcomes_are_stored,
@@ -101,6 +101,7 @@ fn runs_hold()
     runs_are_fresh_new();
     runs_are_fresh();
     reports_are_once();
+    runs_are_same();
     outcomes_are_stored();
     answers_are_right();
     horizons_are_told();

@@ -8,6 +8,7 @@ returns c = record {
   fresh_new = c.runs_are_fresh_new.ensures;
   fresh = c.runs_are_fresh.ensures;
   once = c.reports_are_once.ensures;
+  same = c.runs_are_same.ensures;
   outcomes = c.outcomes_are_stored.ensures;
   answers = c.answers_are_right.ensures;
   horizons = c.horizons_are_told.ensures;
