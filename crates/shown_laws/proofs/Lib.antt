@@ -1,6 +1,7 @@
 pub mod ActsTold
 pub mod AwaitedFrame
 pub mod CausedRuns
+pub mod BeforeSession
 pub mod ChainTold
 pub mod ClientsMove
 pub mod ClientsTold
@@ -27,12 +28,17 @@ pub mod LostTold
 pub mod NoClose
 pub mod Offered
 pub mod RecordedCalls
+pub mod PartsCut
+pub mod PartsHold
+pub mod PartsSplit
+pub mod PartsTold
 pub mod RepliesTold
 pub mod ReplyTaken
 pub mod RunsGrow
 pub mod SeenLists
 pub mod SessionsApart
 pub mod Single
+pub mod SessionsReached
 pub mod Standing
 pub mod StepsHeard
 pub mod StepsTold

@@ -4,6 +4,7 @@ pub mod Closing
 pub mod ConnectionLaws
 pub mod Connections
 pub mod Growth
+pub mod PartsTold
 pub mod Telling
 pub mod Tellings
 pub mod TurnLaws
