@@ -5,6 +5,7 @@ pub mod ConnectionLaws
 pub mod Connections
 pub mod Growth
 pub mod PartsTold
+pub mod ShowingsTold
 pub mod Telling
 pub mod Tellings
 pub mod TurnLaws

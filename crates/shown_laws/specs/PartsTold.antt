@@ -6,6 +6,7 @@ use Rattle.outage_schedule.specs.declared.item.Served.{Served}
 use Rattle.outage_schedule.specs.declared.note.Note.{Note}
 use Rattle.server_model.specs.Seen.{Seen}
 use Rattle.shown_clauses.specs.Parts.{Part, acquires, parts_of, has_its_sessions}
+use Rattle.shown_clauses.specs.Showings.{has_its_outcomes, has_its_showings}
 use Rattle.shown_clauses.specs.Steps.{Step, steps_of}
 use Rattle.shown_clauses.specs.Submissions.{Submission}
 use Rattle.world_model.specs.Clients.{Past, Client, client_at}
@@ -74,3 +75,11 @@ HoldsOfParts test =
 -- The sessions of its report are those that the steps of a request acquired, in order.
 abbrev pub SessionsAreAcquired : Type 0
 SessionsAreAcquired = HoldsOfParts has_its_sessions
+
+-- The outcomes of its report are those that they took, in order.
+abbrev pub OutcomesAreTaken : Type 0
+OutcomesAreTaken = HoldsOfParts has_its_outcomes
+
+-- The calls of its report are those that the replies which they took showed, in order and with the same answers and draws.
+abbrev pub CallsAreShown : Type 0
+CallsAreShown = HoldsOfParts has_its_showings

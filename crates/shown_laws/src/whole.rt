@@ -1,10 +1,27 @@
 //! What the lines of `Whole` say of the parts of a client's steps, in every run. Each law is the clause of a function with nothing to run.
-ghost use Rattle.shown_laws.specs.PartsTold.{SessionsAreAcquired};
+ghost use Rattle.shown_laws.specs.PartsTold.{SessionsAreAcquired, OutcomesAreTaken, CallsAreShown};
 
 /// The steps of a client are cut by the sessions of its reports, and each part has the steps of its request from the first session on: those
 /// that it acquired are the sessions of the report, in order.
 pub fn sessions_are_acquired()
     ensures { SessionsAreAcquired }
+{
+    world_model::kept_laws::runs_keep_invariant();
+    crate::laws::steps_are_told();
+}
+
+/// The outcomes of a report are those that the steps of its request took, each with the identifier that was asked, in order.
+pub fn outcomes_are_taken()
+    ensures { OutcomesAreTaken }
+{
+    world_model::kept_laws::runs_keep_invariant();
+    crate::laws::steps_are_told();
+}
+
+/// The calls of a report are those that its steps were shown, in order and with the same answers and draws: by a reply to a call without the
+/// mark, or by an outcome that says committed and completed.
+pub fn calls_are_shown()
+    ensures { CallsAreShown }
 {
     world_model::kept_laws::runs_keep_invariant();
     crate::laws::steps_are_told();
