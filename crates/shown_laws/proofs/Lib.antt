@@ -51,6 +51,7 @@ pub mod TakenHeard
 pub mod TermsTold
 pub mod StepsAdd
 pub mod TakenAs
+pub mod TakesTold
 pub mod ToldOnce
 pub mod TurnsEvents
 pub mod TurnsKept

@@ -9,6 +9,7 @@ use Rattle.shown_clauses.specs.Parts.{Part, acquires, parts_of, has_its_sessions
 use Rattle.shown_clauses.specs.Showings.{has_its_outcomes, has_its_showings}
 use Rattle.shown_clauses.specs.Steps.{Step, steps_of}
 use Rattle.shown_clauses.specs.Submissions.{Submission}
+use Rattle.shown_clauses.specs.Whole.{are_taken}
 use Rattle.world_model.specs.Clients.{Past, Client, client_at}
 use Rattle.world_model.specs.Finishing.{Place}
 use Rattle.world_model.specs.Reached.{IsFinishing}
@@ -83,3 +84,9 @@ OutcomesAreTaken = HoldsOfParts has_its_outcomes
 -- The calls of its report are those that the replies which they took showed, in order and with the same answers and draws.
 abbrev pub CallsAreShown : Type 0
 CallsAreShown = HoldsOfParts has_its_showings
+
+-- Each step that is noted to take a reply has one, in the finish of a run.
+abbrev pub RepliesAreTaken : Type 0
+RepliesAreTaken =
+    (document : Document) (place : Place) (notes : List Note) (items : List Served) (seen : Seen) (t : Traced)
+    → IsTrue (all_requests_right document) → IsFinishing document place notes items seen t → IsTrue (are_taken (steps_told notes items))

@@ -1,5 +1,5 @@
 //! What the lines of `Whole` say of the parts of a client's steps, in every run. Each law is the clause of a function with nothing to run.
-ghost use Rattle.shown_laws.specs.PartsTold.{SessionsAreAcquired, OutcomesAreTaken, CallsAreShown};
+ghost use Rattle.shown_laws.specs.PartsTold.{SessionsAreAcquired, OutcomesAreTaken, CallsAreShown, RepliesAreTaken};
 
 /// The steps of a client are cut by the sessions of its reports, and each part has the steps of its request from the first session on: those
 /// that it acquired are the sessions of the report, in order.
@@ -25,4 +25,12 @@ pub fn calls_are_shown()
 {
     world_model::kept_laws::runs_keep_invariant();
     crate::laws::steps_are_told();
+}
+
+/// Each step that is noted to take a reply takes one that is told: what came first on its connection and was not taken yet.
+pub fn replies_are_taken()
+    ensures { RepliesAreTaken }
+{
+    world_model::kept_laws::runs_keep_invariant();
+    crate::laws::connections_are_told();
 }
