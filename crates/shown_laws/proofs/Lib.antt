@@ -30,6 +30,8 @@ pub mod LostTold
 pub mod NoClose
 pub mod Offered
 pub mod RecordedCalls
+pub mod OwnSessions
+pub mod OwnShown
 pub mod PartsCut
 pub mod PartsHold
 pub mod PartsSplit
@@ -43,6 +45,7 @@ pub mod SessionsApart
 pub mod Single
 pub mod SessionsReached
 pub mod ShowingsHold
+pub mod ShownOnSessions
 pub mod Standing
 pub mod StepsHeard
 pub mod StepsTold

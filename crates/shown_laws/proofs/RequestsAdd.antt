@@ -48,7 +48,7 @@ module _ (terms : Terms) (due : Bool) (doing : Doing) (talks : Talks terms due d
   same_heard : account_of terms doing.request.calls (steps_of terms (first_talk doing.request) (inputs_of doing.steps)) ≡ heard
   same_heard = ap (account_of terms doing.request.calls) (sym talks.converses.acts)
 
-  fits : (gone : Bool) × Fits terms doing.request.calls heard gone doing.talk.phase
+  pub fits : (gone : Bool) × Fits terms doing.request.calls heard gone doing.talk.phase
   fits =
       let last = last_fits terms doing.request.settings doing.request.calls (inputs_of doing.steps) unheard false (first_talk doing.request) (λ none. first_talks terms doing.request.settings doing.request.calls) refl talks.converses.may in (
         last.0,
@@ -96,7 +96,7 @@ doing_known t own doing _ _ (BeginsNow request now next is) talks =
       asked = λ state asks. let none : Queued None ≡ Asked state = sym waits ∙ asks in absurd (let never : ⊥ = cc in never);
     }
 
-all_steps : (t : Traced) (own : Client) (doing : Doing) (steps began : List Step) → Begins t own doing steps began → doing.steps ≡ steps ++ began
+pub all_steps : (t : Traced) (own : Client) (doing : Doing) (steps began : List Step) → Begins t own doing steps began → doing.steps ≡ steps ++ began
 all_steps t own doing _ _ (WasThere now) = sym (append-nil doing.steps)
 all_steps t own doing _ _ (BeginsNow request now next is) = ap (λ (one : Doing). one.steps) is
 
@@ -159,7 +159,7 @@ shown_append : (xs more : List Shown) (ys items : List Served) → AreShownBy xs
 shown_append _ more _ items NoneShown rest = rest
 shown_append _ more _ items (OneShown shown served others after is so) rest = OneShown shown served (others ++ more) (after ++ items) is (shown_append others more after items so rest)
 
-as_list : {A : Type 0} (found : Option A) → cons_option found [] ≡ option_to_list found
+pub as_list : {A : Type 0} (found : Option A) → cons_option found [] ≡ option_to_list found
 as_list None = refl
 as_list (Some one) = refl
 

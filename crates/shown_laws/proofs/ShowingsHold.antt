@@ -35,7 +35,7 @@ use Rattle.shown_laws.proofs.PartsSplit.{part_gives}
 use Rattle.shown_laws.proofs.RequestsAdd.{IsAccounted, request_accounted}
 
 -- quiet steps show nothing, and take no outcome
-quiet_shows : (step : StepTold) → IsQuiet step → showing_at step ≡ None
+pub quiet_shows : (step : StepTold) → IsQuiet step → showing_at step ≡ None
 quiet_shows step is = ap (option_and_then (λ one. showing_of (is_showing one) one)) is.takes_none
 
 quiet_tells : (step : StepTold) → IsQuiet step → outcome_at step ≡ None

@@ -106,7 +106,7 @@ adds_silent terms calls a done step none shows silent = adds_behind terms calls 
 
 -- A REPLY -----------------------------------------------------------------------------------------
 
-abbrev shown_item : Served → Item → Option Served
+abbrev pub shown_item : Served → Item → Option Served
 shown_item served one = showing_of (option_map_or (λ answers. true) (shown_answers one) false) served
 
 -- what the request shows, and what outcome it took, by what it took

@@ -1,12 +1,13 @@
 -- The parts in which the steps of a client are cut are its requests', each from its first session on.
 use Rattle.std.specs.Prelude.{◌≡◌, ℕ, Bool, true, false, IsTrue, List, [], ◌∷◌, ◌++◌, map, Some, None, is_some}
-use Rattle.std.specs.List.{list_all}
+use Rattle.std.specs.List.{list_all, list_any}
 use Rattle.outage_schedule.specs.declared.document.Document.{Document}
 use Rattle.outage_schedule.specs.declared.item.Served.{Served}
 use Rattle.outage_schedule.specs.declared.note.Note.{Note}
 use Rattle.server_model.specs.Seen.{Seen}
+use Rattle.svc_values.specs.Identifiers.{same_session}
 use Rattle.shown_clauses.specs.Parts.{Part, acquires, parts_of, has_its_sessions}
-use Rattle.shown_clauses.specs.Showings.{has_its_outcomes, has_its_showings}
+use Rattle.shown_clauses.specs.Showings.{showings, has_its_outcomes, has_its_showings}
 use Rattle.shown_clauses.specs.Steps.{Step, steps_of}
 use Rattle.shown_clauses.specs.Submissions.{Submission}
 use Rattle.shown_clauses.specs.Whole.{are_taken}
@@ -84,6 +85,13 @@ OutcomesAreTaken = HoldsOfParts has_its_outcomes
 -- The calls of its report are those that the replies which they took showed, in order and with the same answers and draws.
 abbrev pub CallsAreShown : Type 0
 CallsAreShown = HoldsOfParts has_its_showings
+
+-- each reply that showed a call is of a session of the report
+abbrev pub shown_by_own : Part → Bool
+shown_by_own part = list_all (λ one. list_any (same_session one.session) part.submission.copy.sessions) (showings part.steps)
+
+abbrev pub ShownByOwnSessions : Type 0
+ShownByOwnSessions = HoldsOfParts shown_by_own
 
 -- Each step that is noted to take a reply has one, in the finish of a run.
 abbrev pub RepliesAreTaken : Type 0

@@ -1,5 +1,5 @@
 //! What the lines of `Whole` say of the parts of a client's steps, in every run. Each law is the clause of a function with nothing to run.
-ghost use Rattle.shown_laws.specs.PartsTold.{SessionsAreAcquired, OutcomesAreTaken, CallsAreShown, RepliesAreTaken};
+ghost use Rattle.shown_laws.specs.PartsTold.{SessionsAreAcquired, OutcomesAreTaken, CallsAreShown, RepliesAreTaken, ShownByOwnSessions};
 
 /// The steps of a client are cut by the sessions of its reports, and each part has the steps of its request from the first session on: those
 /// that it acquired are the sessions of the report, in order.
@@ -33,4 +33,12 @@ pub fn replies_are_taken()
 {
     world_model::kept_laws::runs_keep_invariant();
     crate::laws::connections_are_told();
+}
+
+/// Each reply that showed a call of a report is of a session of that report.
+pub fn showings_are_own()
+    ensures { ShownByOwnSessions }
+{
+    world_model::kept_laws::runs_keep_invariant();
+    crate::laws::steps_are_told();
 }
