@@ -40,6 +40,7 @@ pub mod RepliesTold
 pub mod ReplyTaken
 pub mod RequestsAdd
 pub mod RunsGrow
+pub mod ScriptCalls
 pub mod SeenLists
 pub mod SessionsApart
 pub mod Single
