@@ -4,6 +4,7 @@ pub mod CausedRuns
 pub mod AccountRead
 pub mod ActsShown
 pub mod BeforeSession
+pub mod CallsFit
 pub mod ChainTold
 pub mod ClientsMove
 pub mod ClientsTold
@@ -39,9 +40,14 @@ pub mod PartsTold
 pub mod RepliesTold
 pub mod ReplyTaken
 pub mod RequestsAdd
+pub mod OwnTurns
+pub mod RowTurns
 pub mod RunsGrow
 pub mod ScriptCalls
 pub mod SeenLists
+pub mod ServedFront
+pub mod ServedSent
+pub mod ServedStays
 pub mod SessionsApart
 pub mod Single
 pub mod SessionsReached
@@ -57,8 +63,14 @@ pub mod StepsAdd
 pub mod TakenAs
 pub mod TakesTold
 pub mod ToldOnce
+pub mod TurnBriefs
+pub mod TurnOwner
+pub mod TurnSent
 pub mod TurnsEvents
+pub mod TurnsHappen
+pub mod TurnsInRuns
 pub mod TurnsKept
+pub mod TurnsOver
 pub mod TurnsRuns
 pub mod TurnsServed
 pub mod TurnsTold
@@ -66,3 +78,4 @@ pub mod Unclosed
 pub mod UnclosedGoes
 pub mod UnclosedRuns
 pub mod UnclosedTakes
+pub mod WireFronts

@@ -6,6 +6,13 @@ pub mod Connections
 pub mod Growth
 pub mod PartsTold
 pub mod ShowingsTold
+pub mod OwnTurns
+pub mod ServedSent
 pub mod Telling
 pub mod Tellings
 pub mod TurnLaws
+pub mod TurnOwner
+pub mod TurnRows
+pub mod TurnSent
+pub mod TurnsOver
+pub mod TurnsServed

@@ -1,0 +1,6 @@
+use Rattle.shown_laws.proofs.OwnTurns.{own_right}
+use Rattle.shown_laws.proofs.WireFronts.{on_wire}
+use Rattle.shown_laws.proofs.turns.own_turns_are_right.Goals as goal
+
+pub returns : goal.returns
+returns c = record { right = own_right; wire = on_wire }

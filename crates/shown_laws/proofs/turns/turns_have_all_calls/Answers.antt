@@ -1,0 +1,5 @@
+use Rattle.shown_laws.proofs.TurnOwner.{has_all_calls}
+use Rattle.shown_laws.proofs.turns.turns_have_all_calls.Goals as goal
+
+pub returns : goal.returns
+returns c = has_all_calls

@@ -1,0 +1,5 @@
+use Rattle.shown_laws.proofs.TurnSent.{one_owner}
+use Rattle.shown_laws.proofs.turns.turns_have_one_owner.Goals as goal
+
+pub returns : goal.returns
+returns c = one_owner

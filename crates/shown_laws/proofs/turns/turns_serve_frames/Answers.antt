@@ -1,0 +1,6 @@
+use Rattle.shown_laws.proofs.ServedFront.{serves_a_front}
+use Rattle.shown_laws.proofs.ServedSent.{serves_its_frames}
+use Rattle.shown_laws.proofs.turns.turns_serve_frames.Goals as goal
+
+pub returns : goal.returns
+returns c = record { own = serves_its_frames; front = serves_a_front }

@@ -1,0 +1,45 @@
+//! What the notes and the served items of a run tell of turns: what each session served since its last Begin, and that the calls fit the script of
+//! the request. Each law is the clause of a function with nothing to run.
+ghost use Rattle.shown_laws.specs.OwnTurns.{OwnTurnsAreRight, TurnsAreOnWire};
+ghost use Rattle.shown_laws.specs.ServedSent.{ServesAFront, ServesItsFrames};
+ghost use Rattle.shown_laws.specs.TurnOwner.{TurnsHaveAllCalls};
+ghost use Rattle.shown_laws.specs.TurnRows.{RowsMakeTurnsRight, ServesMarksFirst};
+ghost use Rattle.shown_laws.specs.TurnSent.{TurnsHaveOneOwner};
+ghost use Rattle.shown_laws.specs.TurnsOver.{RunsTellOver, FinishesTellOver};
+
+/// A turn is right that served calls which a request sent in a row of its script: those with the mark are the calls since the last that was shown as
+/// decided, up to the first without it.
+pub fn rows_make_turns_right()
+    ensures right { RowsMakeTurnsRight }
+    ensures marks { ServesMarksFirst }
+{}
+
+/// Each turn that another Begin followed has the calls that the session of a connection had served since the Begin before it.
+pub fn turns_before_are_told()
+    ensures reached { RunsTellOver }
+    ensures finishing { FinishesTellOver }
+{
+    world_model::kept_laws::runs_keep_invariant();
+}
+
+/// The calls that were sent on a connection since a Begin are of one request, those with the mark first.
+pub fn turns_have_one_owner()
+    ensures { TurnsHaveOneOwner }
+{}
+
+/// The calls that a session served since a Begin are those of the frames that it served, in order, where no call with the mark met a block.
+pub fn turns_serve_frames()
+    ensures own { ServesItsFrames }
+    ensures front { ServesAFront }
+{}
+
+/// Where each request begins once on a connection, the calls since the last Begin are all that its request sent there.
+pub fn turns_have_all_calls()
+    ensures { TurnsHaveAllCalls }
+{}
+
+/// A turn of a connection is right for the request whose calls it served, where what that request sent there is a row of its script.
+pub fn own_turns_are_right()
+    ensures right { OwnTurnsAreRight }
+    ensures wire { TurnsAreOnWire }
+{}
