@@ -1,4 +1,4 @@
--- What an account tells of calls that were shown, of outcomes and of the last frame can be read off the steps, whatever the terms.
+-- What an account tells of calls that were shown and of outcomes can be read off the steps.
 use Rattle.std.proofs.Common.{◌≡◌, refl, sym, ap, ◌∙◌, append-nil, Bool, true, false, ℕ, length, List, [], ◌∷◌, ◌++◌, Option, Some, None}
 use Rattle.std.specs.Prelude.{fold, slice_get}
 use Rattle.svc_values.specs.declared.answer.Answer.{Answer}
@@ -13,10 +13,6 @@ use Rattle.client_model.specs.Terms.{Terms}
 use Rattle.client_model.specs.declared.act.Shown.{Shown}
 use Rattle.client_model.specs.declared.input.Input.{Input}
 use Rattle.client_model.specs.declared.input.Input.TheVariants.{Waiting, Lent, Opened, TryFailed, Took, Gone}
-
--- the last frame behind these
-abbrev pub last_after : Option Up → List Up → Option Up
-last_after last frames = fold (λ before frame. Some frame) last frames
 
 -- the outcome that an input tells
 abbrev pub told_of_asked : Bool → Bool → Option Up → List Outcome
@@ -67,50 +63,44 @@ module _ (terms : Terms) (calls : List Call) where
   sent_outcomes now [] a = refl
   sent_outcomes now (frame ∷ frames) a = sent_outcomes now frames (sends terms now a frame) ∙ one_outcomes now a frame
 
-  sent_last : (now : ℕ) (frames : List Up) (a : Account) → (fold (sends terms now) a frames).last ≡ last_after a.last frames
-  sent_last now [] a = refl
-  sent_last now (frame ∷ frames) a = sent_last now frames (sends terms now a frame)
-
   -- HEARING ---------------------------------------------------------------------------------------
 
   pub record Hears (a b : Account) (outcomes : List Outcome) : Type 0 where
     pub shown : b.shown ≡ a.shown
-    pub last : b.last ≡ a.last
     pub outcomes_are : b.outcomes ≡ a.outcomes ++ outcomes
 
   hears_asked : (a : Account) (committed completed : Bool) (last : Option Up) → Hears a (hears_outcome a committed completed last) (told_of_asked committed completed last)
-  hears_asked a committed completed None = record { shown = refl; last = refl; outcomes_are = sym (append-nil a.outcomes) }
-  hears_asked a committed completed (Some (up.Outcome asked)) = record { shown = refl; last = refl; outcomes_are = refl }
-  hears_asked a committed completed (Some _) = record { shown = refl; last = refl; outcomes_are = sym (append-nil a.outcomes) }
+  hears_asked a committed completed None = record { shown = refl; outcomes_are = sym (append-nil a.outcomes) }
+  hears_asked a committed completed (Some (up.Outcome asked)) = record { shown = refl; outcomes_are = refl }
+  hears_asked a committed completed (Some _) = record { shown = refl; outcomes_are = sym (append-nil a.outcomes) }
 
   hears_answer : (a : Account) (answers : List Answer) (ltxid : Ltxid) (shown : Option Shown) → Hears a (hears_reply terms a answers ltxid shown) []
-  hears_answer a answers ltxid None = record { shown = refl; last = refl; outcomes_are = sym (append-nil a.outcomes) }
-  hears_answer a answers ltxid (Some shown) = record { shown = refl; last = refl; outcomes_are = sym (append-nil a.outcomes) }
+  hears_answer a answers ltxid None = record { shown = refl; outcomes_are = sym (append-nil a.outcomes) }
+  hears_answer a answers ltxid (Some shown) = record { shown = refl; outcomes_are = sym (append-nil a.outcomes) }
 
   hears_input : (a : Account) (input : Input) (now : ℕ) (shown : Option Shown) → Hears a (hears terms a input now shown) (new_outcomes input a.last)
   hears_input a (Took (down.OutcomeIs committed completed) alive) now shown = hears_asked a committed completed a.last
   hears_input a (Took (down.Reply answers draws ltxid) alive) now shown = hears_answer a answers ltxid shown
-  hears_input a Waiting now shown = record { shown = refl; last = refl; outcomes_are = sym (append-nil a.outcomes) }
-  hears_input a TryFailed now shown = record { shown = refl; last = refl; outcomes_are = sym (append-nil a.outcomes) }
-  hears_input a (Opened connection) now shown = record { shown = refl; last = refl; outcomes_are = sym (append-nil a.outcomes) }
-  hears_input a (Lent connection ltxid) now shown = record { shown = refl; last = refl; outcomes_are = sym (append-nil a.outcomes) }
-  hears_input a (Took (down.Hello ltxid) alive) now shown = record { shown = refl; last = refl; outcomes_are = sym (append-nil a.outcomes) }
-  hears_input a (Gone event) now shown = record { shown = refl; last = refl; outcomes_are = sym (append-nil a.outcomes) }
-  hears_input a _ now shown = record { shown = refl; last = refl; outcomes_are = sym (append-nil a.outcomes) }
+  hears_input a Waiting now shown = record { shown = refl; outcomes_are = sym (append-nil a.outcomes) }
+  hears_input a TryFailed now shown = record { shown = refl; outcomes_are = sym (append-nil a.outcomes) }
+  hears_input a (Opened connection) now shown = record { shown = refl; outcomes_are = sym (append-nil a.outcomes) }
+  hears_input a (Lent connection ltxid) now shown = record { shown = refl; outcomes_are = sym (append-nil a.outcomes) }
+  hears_input a (Took (down.Hello ltxid) alive) now shown = record { shown = refl; outcomes_are = sym (append-nil a.outcomes) }
+  hears_input a (Gone event) now shown = record { shown = refl; outcomes_are = sym (append-nil a.outcomes) }
+  hears_input a _ now shown = record { shown = refl; outcomes_are = sym (append-nil a.outcomes) }
 
   -- SHOWING ---------------------------------------------------------------------------------------
 
   pub record Shows (a b : Account) (shown : List Shown) : Type 0 where
     pub shown_are : b.shown ≡ a.shown ++ shown
-    pub last : b.last ≡ a.last
     pub outcomes : b.outcomes ≡ a.outcomes
 
   found_shows : (a : Account) (shown : Shown) (found : Option Call) → Shows a (shows_found terms a shown found) (shown_found shown found)
-  found_shows a shown None = record { shown_are = sym (append-nil a.shown); last = refl; outcomes = refl }
-  found_shows a shown (Some call) = record { shown_are = refl; last = refl; outcomes = refl }
+  found_shows a shown None = record { shown_are = sym (append-nil a.shown); outcomes = refl }
+  found_shows a shown (Some call) = record { shown_are = refl; outcomes = refl }
 
   shows_it : (a : Account) (shown : Option Shown) → Shows a (shows terms calls a shown) (new_shown calls a.shown shown)
-  shows_it a None = record { shown_are = sym (append-nil a.shown); last = refl; outcomes = refl }
+  shows_it a None = record { shown_are = sym (append-nil a.shown); outcomes = refl }
   shows_it a (Some shown) = found_shows a shown (slice_get calls (length a.shown))
 
   -- ONE STEP --------------------------------------------------------------------------------------
@@ -118,13 +108,11 @@ module _ (terms : Terms) (calls : List Call) where
   pub record Reads (a b : Account) (done : Done) : Type 0 where
     pub shown : b.shown ≡ a.shown ++ new_shown calls a.shown done.act.shown
     pub outcomes : b.outcomes ≡ a.outcomes ++ new_outcomes done.input a.last
-    pub last : b.last ≡ last_after a.last done.act.send
 
   pub step_reads : (a : Account) (done : Done) → Reads a (after_step terms calls a done) done
   step_reads a done = record {
     shown = sent_shown done.now done.act.send before ∙ (showing.shown_are ∙ ap (λ (l : List Shown). l ++ new_shown calls l done.act.shown) hearing.shown);
     outcomes = sent_outcomes done.now done.act.send before ∙ (showing.outcomes ∙ hearing.outcomes_are);
-    last = sent_last done.now done.act.send before ∙ ap (λ (l : Option Up). last_after l done.act.send) (showing.last ∙ hearing.last);
   }
     where
       heard : Account
@@ -138,19 +126,3 @@ module _ (terms : Terms) (calls : List Call) where
 
       showing : Shows heard before (new_shown calls heard.shown done.act.shown)
       showing = shows_it heard done.act.shown
-
--- WHATEVER THE TERMS ------------------------------------------------------------------------------
-
-pub record Alike (a b : Account) : Type 0 where
-  pub shown : a.shown ≡ b.shown
-  pub last : a.last ≡ b.last
-
-pub alike_steps : (one other : Terms) (calls : List Call) (dones : List Done) (a b : Account) → Alike a b → Alike (fold (after_step one calls) a dones) (fold (after_step other calls) b dones)
-alike_steps one other calls [] a b same = same
-alike_steps one other calls (done ∷ dones) a b same =
-    let first = step_reads one calls a done in
-    let second = step_reads other calls b done in
-    alike_steps one other calls dones (after_step one calls a done) (after_step other calls b done) (record {
-      shown = first.shown ∙ (ap (λ (l : List Shown). l ++ new_shown calls l done.act.shown) same.shown ∙ sym second.shown);
-      last = first.last ∙ (ap (λ (l : Option Up). last_after l done.act.send) same.last ∙ sym second.last);
-    })

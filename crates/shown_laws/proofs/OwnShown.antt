@@ -21,6 +21,7 @@ use Rattle.shown_clauses.specs.Submissions.{Submission}
 use Rattle.world_model.specs.Clients.{Step, Doing}
 use Rattle.world_model.specs.Hold.{goes_by}
 use Rattle.world_model.specs.Links.{Link, link_at}
+use Rattle.world_model.specs.Settings.{Setting}
 use Rattle.world_model.specs.Words.{dones_of}
 use Rattle.shown_laws.specs.ClientSteps.{now_at}
 use Rattle.shown_laws.specs.PartsTold.{shown_by_own, ShownByOwnSessions}
@@ -49,7 +50,7 @@ none_reached calls terms = record { held = λ x has. absurd (let none : ⊥ = cc
 
 -- A STEP ------------------------------------------------------------------------------------------
 
-module _ (client place : ℕ) (request : Request) (steps : List Step) (one : Telling) (tells : TellsStep client place request steps one) (before : ReachesSo tells.doing.request.calls steps) where
+module _ (setting : Setting) (client place : ℕ) (request : Request) (steps : List Step) (one : Telling) (tells : TellsStep setting client place request steps one) (before : ReachesSo tells.doing.request.calls steps) where
   abbrev calls : List Call
   calls = tells.doing.request.calls
 
@@ -94,33 +95,33 @@ pub record IsShownByOwn (calls : List Call) (steps : List Step) (told : List Ste
   pub reach : ReachesSo calls steps
   pub own : list_all (is_own (sessions_reached steps)) (showings told) ≡ true
 
-one_more : (client place : ℕ) (request : Request) (tellings : List Telling) (steps : List Step) (one : Telling) → TellsStep client place request steps one → IsShownByOwn request.calls steps (steps_in_tellings tellings)
+one_more : (setting : Setting) (client place : ℕ) (request : Request) (tellings : List Telling) (steps : List Step) (one : Telling) → TellsStep setting client place request steps one → IsShownByOwn request.calls steps (steps_in_tellings tellings)
     → IsShownByOwn request.calls (steps ++ one.acts) (steps_in_tellings (tellings ++ one ∷ []))
-one_more client place request tellings steps one tells was = record {
-  reach = subst (λ (r : Request). ReachesSo r.calls (steps ++ one.acts)) tells.same (after_reaches client place request steps one tells reach);
+one_more setting client place request tellings steps one tells was = record {
+  reach = subst (λ (r : Request). ReachesSo r.calls (steps ++ one.acts)) tells.same (after_reaches setting client place request steps one tells reach);
   own = subst (λ (l : List Served). list_all (is_own (sessions_reached (steps ++ one.acts))) l ≡ true)
       (sym (ap showings (map-append (λ (x : Telling). x.step) tellings (one ∷ [])) ∙ (filter_map-append showing_at (steps_in_tellings tellings) (one.step ∷ []) ∙ ap (λ (l : List Served). showings (steps_in_tellings tellings) ++ l) (as_list (showing_at one.step)))))
       (list_all-append (is_own (sessions_reached (steps ++ one.acts))) (showings (steps_in_tellings tellings)) (option_to_list (showing_at one.step))
       ∙ and_from (list_all (is_own (sessions_reached (steps ++ one.acts))) (showings (steps_in_tellings tellings))) (list_all (is_own (sessions_reached (steps ++ one.acts))) (option_to_list (showing_at one.step)))
       (subst (λ (l : List SessionId). list_all (is_own l) (showings (steps_in_tellings tellings)) ≡ true) (sym (reached_append steps one.acts)) (own_more (sessions_reached steps) (sessions_reached one.acts) (showings (steps_in_tellings tellings)) was.own))
-      (after_own client place request steps one tells reach));
+      (after_own setting client place request steps one tells reach));
 }
   where
     reach : ReachesSo tells.doing.request.calls steps
     reach = subst (λ (r : Request). ReachesSo r.calls steps) (sym tells.same) was.reach
 
-request_own : (client place : ℕ) (request : Request) (tellings : List Telling) (steps : List Step) → TellsRequest client place request tellings steps → IsShownByOwn request.calls steps (steps_in_tellings tellings)
-request_own client place request _ _ NoneYet = record { reach = none_reached request.calls; own = refl }
-request_own client place request _ _ (OneMore tellings steps one before tells) = one_more client place request tellings steps one tells (request_own client place request tellings steps before)
+request_own : (setting : Setting) (client place : ℕ) (request : Request) (tellings : List Telling) (steps : List Step) → TellsRequest setting client place request tellings steps → IsShownByOwn request.calls steps (steps_in_tellings tellings)
+request_own setting client place request _ _ NoneYet = record { reach = none_reached request.calls; own = refl }
+request_own setting client place request _ _ (OneMore tellings steps one before tells) = one_more setting client place request tellings steps one tells (request_own setting client place request tellings steps before)
 
 -- PARTS -------------------------------------------------------------------------------------------
 
 own_right : HoldsOfTold shown_by_own
-own_right terms client place one tellings part told =
+own_right setting client place one tellings part told =
     subst (λ (l : List SessionId). list_all (is_own l) (showings part.steps) ≡ true)
     (sym (as_reported one.steps) ∙ (ap (λ (copy : RequestReport). copy.sessions) told.through.reported ∙ sym (ap (λ (s : Submission). s.copy.sessions) told.is)))
     (subst (λ (l : List Served). list_all (is_own (sessions_reached one.steps)) l ≡ true) (sym (part_gives showing_at quiet_shows (steps_in_tellings tellings) part told.parts))
-    (request_own client place one.request tellings one.steps told.tells).own)
+    (request_own setting client place one.request tellings one.steps told.tells).own)
 
 pub own_shown : FinishesStand → FinishesTellSteps → ShownByOwnSessions
 own_shown stands tell = finishes_hold stands tell shown_by_own own_right

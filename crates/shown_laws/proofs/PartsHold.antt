@@ -7,7 +7,6 @@ use Rattle.std.proofs.lemmas.Bool.{and_from}
 use Rattle.svc_values.specs.declared.entry.SessionId.{SessionId}
 use Rattle.svc_values.specs.Identifiers.{same_session}
 use Rattle.svc_values.specs.SameLaws.{same_session_decides}
-use Rattle.client_model.specs.Terms.{Terms}
 use Rattle.outage_schedule.specs.declared.document.Document.{Document}
 use Rattle.outage_schedule.specs.declared.item.Served.{Served}
 use Rattle.outage_schedule.specs.declared.note.Note.{Note}
@@ -21,6 +20,7 @@ use Rattle.world_model.specs.Finishing.{Place}
 use Rattle.world_model.specs.Invariant.{Invariant}
 use Rattle.world_model.specs.Reached.{IsFinishing}
 use Rattle.world_model.specs.Ready.{all_requests_right}
+use Rattle.world_model.specs.Settings.{Setting}
 use Rattle.world_model.specs.Traced.{Traced}
 use Rattle.shown_laws.specs.PartsTold.{IsPartOf, submission_of, ArePartsOf, NoParts, OnePart, HoldsOfParts, SessionsAreAcquired}
 use Rattle.shown_laws.specs.Telling.{steps_told}
@@ -32,21 +32,21 @@ use Rattle.shown_laws.proofs.PartsTold.{parts_told, sessions_listed}
 -- ONE PART ----------------------------------------------------------------------------------------
 
 -- of a request that is over, with what was told of its steps, and its part
-pub record IsTold (terms : Terms) (client place : ℕ) (one : Past) (tellings : List Telling) (part : Part) : Type 0 where
-  pub through : IsThrough terms one
-  pub tells : TellsRequest client place one.request tellings one.steps
+pub record IsTold (setting : Setting) (client place : ℕ) (one : Past) (tellings : List Telling) (part : Part) : Type 0 where
+  pub through : IsThrough setting.terms one
+  pub tells : TellsRequest setting client place one.request tellings one.steps
   pub is : part.submission ≡ submission_of one
   pub parts : IsPartOf (steps_in_tellings tellings) part
 
 abbrev pub HoldsOfTold : (Part → Bool) → Type 0
-HoldsOfTold test = (terms : Terms) (client place : ℕ) (one : Past) (tellings : List Telling) (part : Part) → IsTold terms client place one tellings part → test part ≡ true
+HoldsOfTold test = (setting : Setting) (client place : ℕ) (one : Past) (tellings : List Telling) (part : Part) → IsTold setting client place one tellings part → test part ≡ true
 
-parts_hold : (test : Part → Bool) → HoldsOfTold test → (terms : Terms) (client place : ℕ) (past : List Past) (told : List (List Telling)) (parts : List Part) → AreThrough terms past → TellsPast client place past told → ArePartsOf past told parts
+parts_hold : (test : Part → Bool) → HoldsOfTold test → (setting : Setting) (client place : ℕ) (past : List Past) (told : List (List Telling)) (parts : List Part) → AreThrough setting.terms past → TellsPast setting client place past told → ArePartsOf past told parts
     → list_all test parts ≡ true
-parts_hold test holds terms client place _ _ _ through tells NoParts = refl
-parts_hold test holds terms client _ _ _ _ through (OnePast place _ _ _ _ here after) (OnePart one past tellings more part parts is its rest) =
-    and_from (test part) (list_all test parts) (holds terms client place one tellings part (record { through = through.0; tells = here; is = is; parts = its }))
-    (parts_hold test holds terms client (place + 1) past more parts through.1 after rest)
+parts_hold test holds setting client place _ _ _ through tells NoParts = refl
+parts_hold test holds setting client _ _ _ _ through (OnePast place _ _ _ _ here after) (OnePart one past tellings more part parts is its rest) =
+    and_from (test part) (list_all test parts) (holds setting client place one tellings part (record { through = through.0; tells = here; is = is; parts = its }))
+    (parts_hold test holds setting client (place + 1) past more parts through.1 after rest)
 
 -- CLIENTS -----------------------------------------------------------------------------------------
 
@@ -56,11 +56,11 @@ FinishesStand = (document : Document) (place : Place) (notes : List Note) (items
 
 pub finishes_hold : FinishesStand → FinishesTellSteps → (test : Part → Bool) → HoldsOfTold test → HoldsOfParts test
 finishes_hold stands tell test holds document place notes items seen t client own right finishing here rests =
-    parts_hold test holds t.setting.terms client 0 own.past tells.past (parts_of (map submission_of own.past) (steps_of client (steps_told notes items))) through tells.tells_past
-    (parts_told t.setting.terms client own (steps_of client (steps_told notes items)) through rests tells)
+    parts_hold test holds t.setting client 0 own.past tells.past (parts_of (map submission_of own.past) (steps_of client (steps_told notes items))) through tells.tells_past
+    (parts_told t.setting client own (steps_of client (steps_told notes items)) through rests tells)
   where
-    tells : TellsClient client own (steps_of client (steps_told notes items))
-    tells = tell document place notes items seen t right finishing client own here
+    tells : TellsClient t.setting client own (steps_of client (steps_told notes items))
+    tells = (tell document place notes items seen t right finishing).each client own here
 
     through : AreThrough t.setting.terms own.past
     through = (talks_at t.setting.terms t.machine.clients client own (stands document place notes items seen t right finishing).orderly.script.talks here).0
@@ -72,10 +72,10 @@ sessions_self [] = refl
 sessions_self (one ∷ sessions) = and_from (same_session one one) (pointwise same_session sessions sessions) ((same_session_decides one one).1 refl) (sessions_self sessions)
 
 sessions_right : HoldsOfTold has_its_sessions
-sessions_right terms client place one tellings part told =
+sessions_right setting client place one tellings part told =
     subst (λ (found : List SessionId). pointwise same_session part.submission.copy.sessions found ≡ true)
     (ap (λ (s : Submission). s.copy.sessions) told.is
-    ∙ sym (part_gives (λ step. step.session) (λ step is. is.has_none) (steps_in_tellings tellings) part told.parts ∙ sessions_listed terms client place one tellings told.through told.tells))
+    ∙ sym (part_gives (λ step. step.session) (λ step is. is.has_none) (steps_in_tellings tellings) part told.parts ∙ sessions_listed setting client place one tellings told.through told.tells))
     (sessions_self part.submission.copy.sessions)
 
 pub sessions_acquired : FinishesStand → FinishesTellSteps → SessionsAreAcquired

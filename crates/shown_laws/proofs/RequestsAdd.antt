@@ -7,7 +7,6 @@ use Rattle.std.proofs.lemmas.List.Elements.{filter_map-append}
 use Rattle.std.proofs.lemmas.List.Sums.{fold-append}
 use Rattle.svc_values.specs.declared.call.Call.{Call}
 use Rattle.svc_values.specs.declared.entry.Ltxid.{Ltxid}
-use Rattle.svc_values.specs.declared.frame.Up.{Up}
 use Rattle.client_model.proofs.Offered.{Fits, IsTalk, Holds, first_talks, last_fits, last_talks, next_left}
 use Rattle.client_model.specs.declared.track.Track.{Track}
 use Rattle.client_model.specs.Account.{Account, Outcome as Heard, unheard, after_step, account_of}
@@ -22,11 +21,11 @@ use Rattle.shown_clauses.specs.Showings.{showing_at, outcome_at, showings}
 use Rattle.shown_clauses.specs.Steps.{Step as StepTold}
 use Rattle.world_model.specs.Clients.{Step, Doing, Client}
 use Rattle.world_model.specs.Conversing.{IsTalking, Talks, inputs_of, first_talk}
+use Rattle.world_model.specs.Settings.{Setting}
 use Rattle.world_model.specs.Traced.{Traced}
 use Rattle.world_model.specs.Words.{dones_of}
 use Rattle.shown_laws.specs.ShowingsTold.{AreShownBy, NoneShown, OneShown}
 use Rattle.shown_laws.specs.Tellings.{Telling, steps_in_tellings, Begins, WasThere, BeginsNow, TellsStep, TellsRequest, NoneYet, OneMore}
-use Rattle.shown_laws.proofs.AccountRead.{Alike, alike_steps}
 use Rattle.shown_laws.proofs.BeforeSession.{talks_at}
 use Rattle.shown_laws.proofs.StepsAdd.{may_show, NextCall, Known, Adds, kind_adds}
 
@@ -78,11 +77,6 @@ module _ (terms : Terms) (due : Bool) (doing : Doing) (talks : Talks terms due d
       by (Running state) is its shows = next_of_track state.track state.ltxid None (ap may_show is) its.0
       by _ is its shows = absurd (let none : ⊥ = cc in none)
 
--- by whatever terms its steps are accounted
-known_by : (calls : List Call) (talk : Talk) (a b : Account) → Alike a b → Known calls b.shown b.last talk → Known calls a.shown a.last talk
-known_by calls talk a b same known =
-    subst (λ (shown : List Shown). Known calls shown a.last talk) (sym same.shown) (subst (λ (last : Option Up). Known calls b.shown last talk) (sym same.last) known)
-
 -- STEPS OF A REQUEST ------------------------------------------------------------------------------
 
 -- the request that the client is at, where it begins or was there before
@@ -123,35 +117,38 @@ adds_from a b c step silent adds = record {
 }
 
 -- what the account gains by a step that is told
-own_adds : (terms : Terms) (client place : ℕ) (request : Request) (steps : List Step) (one : Telling) (tells : TellsStep client place request steps one)
-    → Adds (account_of terms tells.doing.request.calls (dones_of steps)) (account_of terms tells.doing.request.calls (dones_of (steps ++ one.acts))) one.step
-own_adds terms client place request steps one tells =
-    subst (λ (b : Account). Adds (account_of terms calls (dones_of steps)) b one.step) (sym behind)
-    (adds_from (account_of terms calls (dones_of steps)) before (fold (after_step terms calls) before (dones_of tells.acts)) one.step (began_silent terms calls tells.t tells.own tells.doing steps tells.began tells.begins)
-    (kind_adds tells.t client place tells.doing one.step terms calls before known tells.acts tells.kind))
+own_adds : (setting : Setting) (client place : ℕ) (request : Request) (steps : List Step) (one : Telling) (tells : TellsStep setting client place request steps one)
+    → Adds (account_of setting.terms tells.doing.request.calls (dones_of steps)) (account_of setting.terms tells.doing.request.calls (dones_of (steps ++ one.acts))) one.step
+own_adds setting client place request steps one tells =
+    subst (λ (b : Account). Adds (account_of setting.terms calls (dones_of steps)) b one.step) (sym behind)
+    (adds_from (account_of setting.terms calls (dones_of steps)) before (fold (after_step setting.terms calls) before (dones_of tells.acts)) one.step (began_silent setting.terms calls tells.t tells.own tells.doing steps tells.began tells.begins)
+    (kind_adds tells.t client place tells.doing one.step setting.terms calls before known tells.acts tells.kind))
   where
     calls : List Call
     calls = tells.doing.request.calls
 
     before : Account
-    before = account_of terms calls (dones_of (steps ++ tells.began))
+    before = account_of setting.terms calls (dones_of (steps ++ tells.began))
 
-    behind : account_of terms calls (dones_of (steps ++ one.acts)) ≡ fold (after_step terms calls) before (dones_of tells.acts)
+    behind : account_of setting.terms calls (dones_of (steps ++ one.acts)) ≡ fold (after_step setting.terms calls) before (dones_of tells.acts)
     behind =
-        ap (λ (l : List Step). account_of terms calls (dones_of l)) (ap (λ (l : List Step). steps ++ l) tells.all ∙ sym (append_assoc steps tells.began tells.acts))
-        ∙ (ap (account_of terms calls) (map-append (λ (step : Step). step.done) (steps ++ tells.began) tells.acts)
-        ∙ fold-append (after_step terms calls) unheard (dones_of (steps ++ tells.began)) (dones_of tells.acts))
+        ap (λ (l : List Step). account_of setting.terms calls (dones_of l)) (ap (λ (l : List Step). steps ++ l) tells.all ∙ sym (append_assoc steps tells.began tells.acts))
+        ∙ (ap (account_of setting.terms calls) (map-append (λ (step : Step). step.done) (steps ++ tells.began) tells.acts)
+        ∙ fold-append (after_step setting.terms calls) unheard (dones_of (steps ++ tells.began)) (dones_of tells.acts))
+
+    KnownBehind : Setting → List Step → Type 0
+    KnownBehind made all = Known calls (account_of made.terms calls (dones_of all)).shown (account_of made.terms calls (dones_of all)).last tells.doing.talk
 
     known : Known calls before.shown before.last tells.doing.talk
-    known = known_by calls tells.doing.talk before (account_of tells.t.setting.terms calls (dones_of tells.doing.steps))
-        (subst (λ (l : List Step). Alike (account_of terms calls (dones_of l)) (account_of tells.t.setting.terms calls (dones_of tells.doing.steps))) (all_steps tells.t tells.own tells.doing steps tells.began tells.begins)
-        (alike_steps terms tells.t.setting.terms calls (dones_of tells.doing.steps) unheard unheard (record { shown = refl; last = refl })))
-        (doing_known tells.t tells.own tells.doing steps tells.began tells.begins (talks_at tells.t.setting.terms tells.t.machine.clients client tells.own tells.inv.orderly.script.talks tells.here).1)
+    known =
+        subst (λ (made : Setting). KnownBehind made (steps ++ tells.began)) tells.of_run
+        (subst (KnownBehind tells.t.setting) (all_steps tells.t tells.own tells.doing steps tells.began tells.begins)
+        (doing_known tells.t tells.own tells.doing steps tells.began tells.begins (talks_at tells.t.setting.terms tells.t.machine.clients client tells.own tells.inv.orderly.script.talks tells.here).1))
 
-step_adds : (terms : Terms) (client place : ℕ) (request : Request) (steps : List Step) (one : Telling) → TellsStep client place request steps one
-    → Adds (account_of terms request.calls (dones_of steps)) (account_of terms request.calls (dones_of (steps ++ one.acts))) one.step
-step_adds terms client place request steps one tells =
-    subst (λ (r : Request). Adds (account_of terms r.calls (dones_of steps)) (account_of terms r.calls (dones_of (steps ++ one.acts))) one.step) tells.same (own_adds terms client place request steps one tells)
+step_adds : (setting : Setting) (client place : ℕ) (request : Request) (steps : List Step) (one : Telling) → TellsStep setting client place request steps one
+    → Adds (account_of setting.terms request.calls (dones_of steps)) (account_of setting.terms request.calls (dones_of (steps ++ one.acts))) one.step
+step_adds setting client place request steps one tells =
+    subst (λ (r : Request). Adds (account_of setting.terms r.calls (dones_of steps)) (account_of setting.terms r.calls (dones_of (steps ++ one.acts))) one.step) tells.same (own_adds setting client place request steps one tells)
 
 -- ALL STEPS ---------------------------------------------------------------------------------------
 
@@ -180,10 +177,10 @@ accounted_more a b steps one is adds = record {
       ∙ sym (filter_map-append outcome_at steps (one ∷ [])))));
 }
 
-pub request_accounted : (terms : Terms) (client place : ℕ) (request : Request) (tellings : List Telling) (steps : List Step) → TellsRequest client place request tellings steps
-    → IsAccounted (account_of terms request.calls (dones_of steps)) (steps_in_tellings tellings)
-request_accounted terms client place request _ _ NoneYet = record { shown = NoneShown; outcomes = refl }
-request_accounted terms client place request _ _ (OneMore tellings steps one before tells) =
-    subst (IsAccounted (account_of terms request.calls (dones_of (steps ++ one.acts)))) (sym (map-append (λ (x : Telling). x.step) tellings (one ∷ [])))
-    (accounted_more (account_of terms request.calls (dones_of steps)) (account_of terms request.calls (dones_of (steps ++ one.acts))) (steps_in_tellings tellings) one.step
-    (request_accounted terms client place request tellings steps before) (step_adds terms client place request steps one tells))
+pub request_accounted : (setting : Setting) (client place : ℕ) (request : Request) (tellings : List Telling) (steps : List Step) → TellsRequest setting client place request tellings steps
+    → IsAccounted (account_of setting.terms request.calls (dones_of steps)) (steps_in_tellings tellings)
+request_accounted setting client place request _ _ NoneYet = record { shown = NoneShown; outcomes = refl }
+request_accounted setting client place request _ _ (OneMore tellings steps one before tells) =
+    subst (IsAccounted (account_of setting.terms request.calls (dones_of (steps ++ one.acts)))) (sym (map-append (λ (x : Telling). x.step) tellings (one ∷ [])))
+    (accounted_more (account_of setting.terms request.calls (dones_of steps)) (account_of setting.terms request.calls (dones_of (steps ++ one.acts))) (steps_in_tellings tellings) one.step
+    (request_accounted setting client place request tellings steps before) (step_adds setting client place request steps one tells))

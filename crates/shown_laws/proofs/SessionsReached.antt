@@ -24,6 +24,7 @@ use Rattle.shown_clauses.specs.Steps.{Step as StepTold}
 use Rattle.world_model.specs.Clients.{Step, Doing, Client}
 use Rattle.world_model.specs.Links.{Link}
 use Rattle.world_model.specs.Serving.{identifier, reply_of}
+use Rattle.world_model.specs.Settings.{Setting}
 use Rattle.world_model.specs.Traced.{Traced}
 use Rattle.world_model.specs.Wire.{same_replies}
 use Rattle.world_model.specs.Words.{dones_of}
@@ -91,15 +92,15 @@ as_list None = refl
 as_list (Some session) = refl
 
 pub kind_session : (t : Traced) (client place : ℕ) (doing : Doing) (step : StepTold) (acts : List Step) → TellsKind t client place doing step acts → TellsSession step acts
-kind_session t client place doing step _ (Rested did bare) = bare_tells step [] bare (ap is_lent did) refl
-kind_session t client place doing step _ (FoundNone did bare) = bare_tells step [] bare (ap is_lent did) refl
-kind_session t client place doing step _ (Waited did bare) = bare_tells step _ bare (ap is_lent did) refl
-kind_session t client place doing step _ (WasLent connection link ltxid did there held taken its session lost) =
+kind_session t client place doing step _ (Rested did early bare) = bare_tells step [] bare (ap is_lent did) refl
+kind_session t client place doing step _ (FoundNone did frame bare) = bare_tells step [] bare (ap is_lent did) refl
+kind_session t client place doing step _ (Waited did begun bare) = bare_tells step _ bare (ap is_lent did) refl
+kind_session t client place doing step _ (WasLent connection link ltxid did begun there held taken its session lost) =
     record { same = sym (ap option_to_list session); has = ap (λ (note : GoNote). is_lent note || is_hello step.taken) did ∙ sym (ap is_some session) }
-kind_session t client place doing step _ (HasOpened connection did next bare) = bare_tells step _ bare (ap is_lent did) refl
-kind_session t client place doing step _ (HasFailed did bare) = bare_tells step _ bare (ap is_lent did) refl
+kind_session t client place doing step _ (HasOpened connection did next begun bare) = bare_tells step _ bare (ap is_lent did) refl
+kind_session t client place doing step _ (HasFailed did begun bare) = bare_tells step _ bare (ap is_lent did) refl
 kind_session t client place doing step _ (HasLost connection link did has there ended bare) = bare_tells step _ bare (ap is_lent did) refl
-kind_session t client place doing step _ (HasTaken connection sent link frame served more did has there taken reply session lost gone) =
+kind_session t client place doing step _ (HasTaken connection sent link frame served more did sends has there taken reply session lost gone) =
     record {
       same = ap (λ (rest : List SessionId). cons_option (reached (Took frame link.is_open)) rest) (none_behind t doing link frame more gone)
           ∙ (as_list (reached (Took frame link.is_open)) ∙ ap option_to_list (hello_told frame link.is_open served.session reply.commits served.item reply.says ∙ sym session));
@@ -107,8 +108,8 @@ kind_session t client place doing step _ (HasTaken connection sent link frame se
     }
 
 -- The Start of a request tells none.
-pub step_session : (client place : ℕ) (request : Request) (steps : List Step) (one : Telling) → TellsStep client place request steps one → TellsSession one.step one.acts
-step_session client place request steps one tells = record {
+pub step_session : (setting : Setting) (client place : ℕ) (request : Request) (steps : List Step) (one : Telling) → TellsStep setting client place request steps one → TellsSession one.step one.acts
+step_session setting client place request steps one tells = record {
   same = ap sessions_reached tells.all ∙ (reached_append tells.began tells.acts ∙ (ap (λ (l : List SessionId). l ++ sessions_reached tells.acts) (begins_none tells.own tells.doing steps tells.began tells.begins) ∙ its.same));
   has = its.has;
 }
@@ -126,12 +127,12 @@ cons_list : (found : Option SessionId) (more : List SessionId) → more ++ optio
 cons_list None more = refl
 cons_list (Some session) more = refl
 
-pub request_sessions : (client place : ℕ) (request : Request) (tellings : List Telling) (steps : List Step) → TellsRequest client place request tellings steps
+pub request_sessions : (setting : Setting) (client place : ℕ) (request : Request) (tellings : List Telling) (steps : List Step) → TellsRequest setting client place request tellings steps
     → (sessions_told (steps_in_tellings tellings) ≡ sessions_reached steps) × OfEach HasIts (steps_in_tellings tellings)
-request_sessions client place request _ _ NoneYet = (refl, tt)
-request_sessions client place request _ _ (OneMore tellings steps one before tells) =
-    let its = step_session client place request steps one tells in
-    let rest = request_sessions client place request tellings steps before in
+request_sessions setting client place request _ _ NoneYet = (refl, tt)
+request_sessions setting client place request _ _ (OneMore tellings steps one before tells) =
+    let its = step_session setting client place request steps one tells in
+    let rest = request_sessions setting client place request tellings steps before in
     let more : steps_in_tellings (tellings ++ one ∷ []) ≡ steps_in_tellings tellings ++ one.step ∷ [] = map-append (λ (x : Telling). x.step) tellings (one ∷ []) in (
       ap sessions_told more
           ∙ (filter_map-append (λ (step : StepTold). step.session) (steps_in_tellings tellings) (one.step ∷ [])

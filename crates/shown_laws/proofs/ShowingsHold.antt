@@ -11,7 +11,6 @@ use Rattle.svc_values.specs.Identifiers.{same_ltxid}
 use Rattle.svc_values.specs.Same.{same_answers, same_bool, same_draws}
 use Rattle.svc_values.specs.SameLaws.{same_answers_decide, same_bool_decides, same_draws_decide, same_ltxid_decides}
 use Rattle.client_model.specs.Account.{Account, account_of}
-use Rattle.client_model.specs.Terms.{Terms}
 use Rattle.client_model.specs.declared.act.Shown.{Shown}
 use Rattle.outage_schedule.specs.declared.item.Item.{Item}
 use Rattle.outage_schedule.specs.declared.item.Served.{Served}
@@ -25,6 +24,7 @@ use Rattle.shown_clauses.specs.Showings.{outcome_at, outcome_told, same_outcome,
 use Rattle.shown_clauses.specs.Steps.{Step as StepTold}
 use Rattle.shown_clauses.specs.Submissions.{Submission}
 use Rattle.world_model.specs.Clients.{Past}
+use Rattle.world_model.specs.Settings.{Setting}
 use Rattle.world_model.specs.Words.{dones_of}
 use Rattle.shown_laws.specs.PartsTold.{IsQuiet, OutcomesAreTaken, CallsAreShown}
 use Rattle.shown_laws.specs.ShowingsTold.{ShownBy, ByReply, ByOutcome, AreShownBy, NoneShown, OneShown}
@@ -41,12 +41,12 @@ quiet_shows step is = ap (option_and_then (λ one. showing_of (is_showing one) o
 quiet_tells : (step : StepTold) → IsQuiet step → outcome_at step ≡ None
 quiet_tells step is = ap (option_and_then (λ one. outcome_told one.item)) is.takes_none
 
-module _ (terms : Terms) (client place : ℕ) (one : Past) (tellings : List Telling) (part : Part) (told : IsTold terms client place one tellings part) where
+module _ (setting : Setting) (client place : ℕ) (one : Past) (tellings : List Telling) (part : Part) (told : IsTold setting client place one tellings part) where
   abbrev heard : Account
-  heard = account_of terms one.request.calls (dones_of one.steps)
+  heard = account_of setting.terms one.request.calls (dones_of one.steps)
 
   accounted : IsAccounted heard (steps_in_tellings tellings)
-  accounted = request_accounted terms client place one.request tellings one.steps told.tells
+  accounted = request_accounted setting client place one.request tellings one.steps told.tells
 
   copied : part.submission.copy ≡ one.report
   copied = ap (λ (s : Submission). s.copy) told.is
@@ -76,8 +76,8 @@ outcomes_self [] = refl
 outcomes_self (one ∷ outcomes) = and_from (same_outcome one one) (pointwise same_outcome outcomes outcomes) (outcome_self one) (outcomes_self outcomes)
 
 outcomes_right : HoldsOfTold has_its_outcomes
-outcomes_right terms client place one tellings part told =
-    subst (λ (found : List Outcome). pointwise same_outcome part.submission.copy.outcomes found ≡ true) (outcomes_listed terms client place one tellings part told) (outcomes_self part.submission.copy.outcomes)
+outcomes_right setting client place one tellings part told =
+    subst (λ (found : List Outcome). pointwise same_outcome part.submission.copy.outcomes found ≡ true) (outcomes_listed setting client place one tellings part told) (outcomes_self part.submission.copy.outcomes)
 
 pub outcomes_taken : FinishesStand → FinishesTellSteps → OutcomesAreTaken
 outcomes_taken stands tell = finishes_hold stands tell has_its_outcomes outcomes_right
@@ -105,20 +105,20 @@ by_items (call ∷ calls) (ids ∷ tried) _ _ (OneShown shown served more items 
     (by_item call ids shown served is) (by_items calls tried more items rest)
 
 showings_right : HoldsOfTold has_its_showings
-showings_right terms client place one tellings part told =
+showings_right setting client place one tellings part told =
     and_from (length part.submission.copy.calls == length (showings part.steps)) (list_all (λ one. is_shown_by one one.showing.item) (shown_calls part))
     (eq_to (length part.submission.copy.calls) (length (showings part.steps)) (ap length listed ∙ as_many shown (showings part.steps) by))
     (subst (λ (calls : List ShownCall). list_all (λ one. is_shown_by one one.showing.item) (shown_with part.submission.request.calls (tried_by_call part.submission.copy) calls (showings part.steps)) ≡ true) (sym listed)
     (by_items part.submission.request.calls (tried_by_call part.submission.copy) shown (showings part.steps) by))
   where
     shown : List Shown
-    shown = (account_of terms one.request.calls (dones_of one.steps)).shown
+    shown = (account_of setting.terms one.request.calls (dones_of one.steps)).shown
 
     listed : part.submission.copy.calls ≡ map shown_call shown
-    listed = calls_listed terms client place one tellings part told
+    listed = calls_listed setting client place one tellings part told
 
     by : AreShownBy shown (showings part.steps)
-    by = shown_by_part terms client place one tellings part told
+    by = shown_by_part setting client place one tellings part told
 
 pub calls_shown : FinishesStand → FinishesTellSteps → CallsAreShown
 calls_shown stands tell = finishes_hold stands tell has_its_showings showings_right

@@ -147,14 +147,14 @@ module _ (t : Traced) (client place : ℕ) (doing : Doing) (step : StepTold) (se
   none_behind link frame first _ (IsGone ended keeps) = refl
 
   pub kind_reaches : (terms : Terms) (calls : List Call) (a : Account) (acts : List Step) → TellsKind t client place doing step acts → Reaches a sessions → Reaches (fold (after_step terms calls) a (dones_of acts)) (sessions ++ sessions_reached acts)
-  kind_reaches terms calls a _ (Rested did bare) is = nothing_more a is
-  kind_reaches terms calls a _ (FoundNone did bare) is = nothing_more a is
-  kind_reaches terms calls a _ (Waited did bare) is = done_reaches terms calls a sessions (now_at t doing Waiting).done (other_reached sessions Waiting refl) is
-  kind_reaches terms calls a _ (WasLent connection link ltxid did there held taken session its lost) is = done_reaches terms calls a sessions (now_at t doing (Lent connection ltxid)).done (other_reached sessions (Lent connection ltxid) refl) is
-  kind_reaches terms calls a _ (HasOpened connection did next bare) is = done_reaches terms calls a sessions (now_at t doing (Opened connection)).done (other_reached sessions (Opened connection) refl) is
-  kind_reaches terms calls a _ (HasFailed did bare) is = done_reaches terms calls a sessions (now_at t doing TryFailed).done (other_reached sessions TryFailed refl) is
+  kind_reaches terms calls a _ (Rested did early bare) is = nothing_more a is
+  kind_reaches terms calls a _ (FoundNone did frame bare) is = nothing_more a is
+  kind_reaches terms calls a _ (Waited did begun bare) is = done_reaches terms calls a sessions (now_at t doing Waiting).done (other_reached sessions Waiting refl) is
+  kind_reaches terms calls a _ (WasLent connection link ltxid did begun there held taken session its lost) is = done_reaches terms calls a sessions (now_at t doing (Lent connection ltxid)).done (other_reached sessions (Lent connection ltxid) refl) is
+  kind_reaches terms calls a _ (HasOpened connection did next begun bare) is = done_reaches terms calls a sessions (now_at t doing (Opened connection)).done (other_reached sessions (Opened connection) refl) is
+  kind_reaches terms calls a _ (HasFailed did begun bare) is = done_reaches terms calls a sessions (now_at t doing TryFailed).done (other_reached sessions TryFailed refl) is
   kind_reaches terms calls a _ (HasLost connection link did has there ended bare) is = done_reaches terms calls a sessions (now_at t doing (Gone (ended_at link))).done (other_reached sessions (Gone (ended_at link)) refl) is
-  kind_reaches terms calls a _ (HasTaken connection sent link frame served more did has there taken reply session lost gone) is =
+  kind_reaches terms calls a _ (HasTaken connection sent link frame served more did sends has there taken reply session lost gone) is =
       subst (Reaches (fold (after_step terms calls) (after_step terms calls a (now_at t doing (Took frame link.is_open)).done) (dones_of more))) (ap (λ (l : List SessionId). sessions ++ l) (sym (none_behind link frame (now_at t doing (Took frame link.is_open)) more gone)))
       (gone_reaches terms calls link frame more (after_step terms calls a (now_at t doing (Took frame link.is_open)).done) (sessions ++ sessions_reached (now_at t doing (Took frame link.is_open) ∷ [])) gone
       (done_reaches terms calls a sessions (now_at t doing (Took frame link.is_open)).done
@@ -166,14 +166,14 @@ module _ (t : Traced) (client place : ℕ) (doing : Doing) (step : StepTold) (se
   silent_own none = ap (λ (o : Option Served). list_all (is_own sessions) (option_to_list (option_and_then (λ one. showing_of (is_showing one) one) o))) none
 
   pub kind_own : (acts : List Step) → TellsKind t client place doing step acts → list_all (is_own sessions) (option_to_list (showing_at step)) ≡ true
-  kind_own _ (Rested did bare) = silent_own bare.taken
-  kind_own _ (FoundNone did bare) = silent_own bare.taken
-  kind_own _ (Waited did bare) = silent_own bare.taken
-  kind_own _ (WasLent connection link ltxid did there held taken session its lost) = silent_own taken
-  kind_own _ (HasOpened connection did next bare) = silent_own bare.taken
-  kind_own _ (HasFailed did bare) = silent_own bare.taken
+  kind_own _ (Rested did early bare) = silent_own bare.taken
+  kind_own _ (FoundNone did frame bare) = silent_own bare.taken
+  kind_own _ (Waited did begun bare) = silent_own bare.taken
+  kind_own _ (WasLent connection link ltxid did begun there held taken session its lost) = silent_own taken
+  kind_own _ (HasOpened connection did next begun bare) = silent_own bare.taken
+  kind_own _ (HasFailed did begun bare) = silent_own bare.taken
   kind_own _ (HasLost connection link did has there ended bare) = silent_own bare.taken
-  kind_own _ (HasTaken connection sent link frame served more did has there taken reply session lost gone) =
+  kind_own _ (HasTaken connection sent link frame served more did sends has there taken reply session lost gone) =
       ap (λ (o : Option Served). list_all (is_own sessions) (option_to_list (option_and_then (λ one. showing_of (is_showing one) one) o))) taken
       ∙ taken_shows sessions served reply.commits link.is_open doing.talk.phase served.item frame
       (taken_as served.session reply.commits doing.talk.phase reply.one.sent reply.sent served.item frame reply.awaited reply.same reply.is_its reply.says)

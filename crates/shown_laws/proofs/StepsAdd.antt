@@ -171,14 +171,14 @@ module _ (t : Traced) (client place : ℕ) (doing : Doing) (step : StepTold) (te
   adds_gone link frame _ b (IsGone ended keeps) adds = adds_behind terms calls a b (now_at t (after_now t doing (Took frame link.is_open)) (Gone (ended_at link))).done step adds refl refl
 
   pub kind_adds : (acts : List Step) → TellsKind t client place doing step acts → Adds a (fold (after_step terms calls) a (dones_of acts)) step
-  kind_adds _ (Rested did bare) = adds_none a step (silent_shows step bare.taken) (silent_tells step bare.taken)
-  kind_adds _ (FoundNone did bare) = adds_none a step (silent_shows step bare.taken) (silent_tells step bare.taken)
-  kind_adds _ (Waited did bare) = adds_silent terms calls a (now_at t doing Waiting).done step bare.taken (other_shows t.setting.terms doing.talk Waiting t.machine.tick refl) refl
-  kind_adds _ (WasLent connection link ltxid did there held taken session its lost) = adds_silent terms calls a (now_at t doing (Lent connection ltxid)).done step taken (other_shows t.setting.terms doing.talk (Lent connection ltxid) t.machine.tick refl) refl
-  kind_adds _ (HasOpened connection did next bare) = adds_silent terms calls a (now_at t doing (Opened connection)).done step bare.taken refl refl
-  kind_adds _ (HasFailed did bare) = adds_silent terms calls a (now_at t doing TryFailed).done step bare.taken (other_shows t.setting.terms doing.talk TryFailed t.machine.tick refl) refl
+  kind_adds _ (Rested did early bare) = adds_none a step (silent_shows step bare.taken) (silent_tells step bare.taken)
+  kind_adds _ (FoundNone did frame bare) = adds_none a step (silent_shows step bare.taken) (silent_tells step bare.taken)
+  kind_adds _ (Waited did begun bare) = adds_silent terms calls a (now_at t doing Waiting).done step bare.taken (other_shows t.setting.terms doing.talk Waiting t.machine.tick refl) refl
+  kind_adds _ (WasLent connection link ltxid did begun there held taken session its lost) = adds_silent terms calls a (now_at t doing (Lent connection ltxid)).done step taken (other_shows t.setting.terms doing.talk (Lent connection ltxid) t.machine.tick refl) refl
+  kind_adds _ (HasOpened connection did next begun bare) = adds_silent terms calls a (now_at t doing (Opened connection)).done step bare.taken refl refl
+  kind_adds _ (HasFailed did begun bare) = adds_silent terms calls a (now_at t doing TryFailed).done step bare.taken (other_shows t.setting.terms doing.talk TryFailed t.machine.tick refl) refl
   kind_adds _ (HasLost connection link did has there ended bare) = adds_silent terms calls a (now_at t doing (Gone (ended_at link))).done step bare.taken refl refl
-  kind_adds _ (HasTaken connection sent link frame served more did has there taken reply session lost gone) =
+  kind_adds _ (HasTaken connection sent link frame served more did sends has there taken reply session lost gone) =
       adds_gone link frame more (after_step terms calls a (done_at t.setting.terms doing.talk (Took frame link.is_open, t.machine.tick))) gone
       (adds_one terms calls a (done_at t.setting.terms doing.talk (Took frame link.is_open, t.machine.tick)) step
       (subst (λ (o : Option Served). AreShownBy (new_shown calls a.shown (done_at t.setting.terms doing.talk (Took frame link.is_open, t.machine.tick)).act.shown) (option_to_list (option_and_then (λ one. showing_of (is_showing one) one) o))) (sym taken) so.shows)

@@ -22,6 +22,7 @@ use Rattle.world_model.specs.Reached.{Reached, Begins, GoesOn, IsFinishing, Sche
 use Rattle.world_model.specs.Ready.{all_requests_right}
 use Rattle.world_model.specs.Traced.{Traced}
 use Rattle.shown_laws.specs.ClientSteps.{TellsKind, Rested, FoundNone, Waited, WasLent, HasOpened, HasFailed, HasTaken, HasLost}
+use Rattle.shown_laws.specs.Closing.{AllUnclosed, RunsLeaveUnclosed, FinishesLeaveUnclosed}
 use Rattle.shown_laws.specs.ConnectionLaws.{AreTold, RunsTellConnections, FinishesTellConnections}
 use Rattle.shown_laws.specs.Growth.{next_told}
 use Rattle.shown_laws.specs.PartsTold.{RepliesAreTaken}
@@ -40,14 +41,14 @@ by_note : (step : StepTold) (did : GoNote) → step.did ≡ did → takes did �
 by_note step did is none = ap (λ (test : Bool). took_it test step) (ap takes is ∙ none)
 
 kind_took : (t : Traced) (client place : ℕ) (doing : Doing) (step : StepTold) (acts : List Step) → TellsKind t client place doing step acts → took step ≡ true
-kind_took t client place doing step _ (Rested did bare) = by_note step _ did refl
-kind_took t client place doing step _ (FoundNone did bare) = by_note step _ did refl
-kind_took t client place doing step _ (Waited did bare) = by_note step _ did refl
-kind_took t client place doing step _ (WasLent connection link ltxid did there held taken its session lost) = by_note step _ did refl
-kind_took t client place doing step _ (HasOpened connection did next bare) = by_note step _ did refl
-kind_took t client place doing step _ (HasFailed did bare) = by_note step _ did refl
+kind_took t client place doing step _ (Rested did early bare) = by_note step _ did refl
+kind_took t client place doing step _ (FoundNone did frame bare) = by_note step _ did refl
+kind_took t client place doing step _ (Waited did begun bare) = by_note step _ did refl
+kind_took t client place doing step _ (WasLent connection link ltxid did begun there held taken its session lost) = by_note step _ did refl
+kind_took t client place doing step _ (HasOpened connection did next begun bare) = by_note step _ did refl
+kind_took t client place doing step _ (HasFailed did begun bare) = by_note step _ did refl
 kind_took t client place doing step _ (HasLost connection link did has there ended bare) = by_note step _ did refl
-kind_took t client place doing step _ (HasTaken connection sent link frame served more did has there taken reply session lost gone) =
+kind_took t client place doing step _ (HasTaken connection sent link frame served more did sends has there taken reply session lost gone) =
     ap (λ (test : Bool). took_it test step) (ap takes did) ∙ ap is_some taken
 
 all_took : (told more : List StepTold) → are_taken told ≡ true → are_taken more ≡ true → are_taken (told ++ more) ≡ true
@@ -55,7 +56,7 @@ all_took told more is also = list_all-append took told more ∙ and_from (are_ta
 
 -- EVENTS ------------------------------------------------------------------------------------------
 
-module _ (t : Traced) (inv : Invariant t) (notes : List Note) (items : List Served) (are : AreTold notes items t) where
+module _ (t : Traced) (inv : Invariant t) (notes : List Note) (items : List Served) (are : AreTold notes items t) (unclosed : AllUnclosed t.machine) where
   goes_took : (client : ℕ) (did : GoNote) (n : Machine) → StepTells t (seen_told notes items) client did n → are_taken (told_steps t (seen_told notes items) client did) ≡ true
   goes_took client did n (TellsNone none same) = ap are_taken none
   goes_took client did n (TellsOne acts) =
@@ -63,7 +64,7 @@ module _ (t : Traced) (inv : Invariant t) (notes : List Note) (items : List Serv
 
   event_took : (one : Note) (more : List Served) (n : Machine) → Does t.setting (at_event t.machine) one more n → are_taken (steps_in (seen_told notes items) (next_told t.machine one more)) ≡ true
   event_took _ _ _ (Goes client did n goes) =
-      goes_took client did n (step_tells t inv (seen_told notes items) are.links.at are.sessions client did n (follow_goes t.setting (at_event t.machine) client did n goes))
+      goes_took client did n (step_tells t inv (seen_told notes items) are.links.at are.sessions unclosed client did n (follow_goes t.setting (at_event t.machine) client did n goes))
   event_took _ _ _ (ServesNone connection) = refl
   event_took _ _ _ (Serves connection name front served at ordinary) = refl
   event_took _ _ _ (CutsNone connection) = refl
@@ -82,27 +83,27 @@ module _ (t : Traced) (inv : Invariant t) (notes : List Note) (items : List Serv
   event_took _ _ _ (IsServers (note.Ask x told) server is) = refl
   event_took _ _ _ (IsServers one server is) = absurd (let none : ⊥ = cc in none)
 
-module _ (before after : Seen) (old new : Traced) (event : Event) (note : Note) (notes : List Note) (items more : List Served) (one : OneEvent before old event note more [] after new) (come : HasCome notes items old.machine) (inv : Invariant old) (are : AreTold notes items old) where
+module _ (before after : Seen) (old new : Traced) (event : Event) (note : Note) (notes : List Note) (items more : List Served) (one : OneEvent before old event note more [] after new) (come : HasCome notes items old.machine) (inv : Invariant old) (are : AreTold notes items old) (unclosed : AllUnclosed old.machine) where
   took_on : are_taken (steps_told notes items) ≡ true → are_taken (steps_told (notes ++ note ∷ []) (items ++ more)) ≡ true
   took_on was =
       ap are_taken (grows_on before after old new event note notes items more one come).steps
       ∙ all_took (steps_told notes items) (steps_in (seen_told notes items) (next_told old.machine note more)) was
-      (event_took old inv notes items are note more new.machine (follow_does old.setting old.machine event note more new.machine one.follows))
+      (event_took old inv notes items are unclosed note more new.machine (follow_does old.setting old.machine event note more new.machine one.follows))
 
 -- RUNS --------------------------------------------------------------------------------------------
 
-module _ (kept : RunsKeepInvariant) (tell : RunsTellConnections) (document : Document) (right : IsTrue (all_requests_right document)) where
+module _ (kept : RunsKeepInvariant) (tell : RunsTellConnections) (leave : RunsLeaveUnclosed) (document : Document) (right : IsTrue (all_requests_right document)) where
   reached_took : (events : List Event) (notes : List Note) (items : List Served) (seen : Seen) (t : Traced) → Reached document events notes items seen t → are_taken (steps_told notes items) ≡ true
   reached_took _ _ _ _ _ (Begins seen start history horizon coupled) = refl
   reached_took _ _ _ _ _ (GoesOn events notes items more before after old new event note reached one forgets) =
       took_on before after old new event note notes items more one (reached_come document events notes items before old reached) (kept document events notes items before old right reached)
-      (tell document events notes items before old right reached) (reached_took events notes items before old reached)
+      (tell document events notes items before old right reached) (leave document events notes items before old right reached) (reached_took events notes items before old reached)
 
-  finishing_took : FinishesKeepInvariant → FinishesTellConnections → (place : Place) (notes : List Note) (items : List Served) (seen : Seen) (t : Traced) → IsFinishing document place notes items seen t → are_taken (steps_told notes items) ≡ true
-  finishing_took all told _ _ _ _ _ (Scheduled notes items seen t reached) = reached_took document.schedule notes items seen t reached
-  finishing_took all told _ _ _ _ _ (Finishes place later notes items more before after old new event note finishing next one forgets) =
+  finishing_took : FinishesKeepInvariant → FinishesTellConnections → FinishesLeaveUnclosed → (place : Place) (notes : List Note) (items : List Served) (seen : Seen) (t : Traced) → IsFinishing document place notes items seen t → are_taken (steps_told notes items) ≡ true
+  finishing_took all told left _ _ _ _ _ (Scheduled notes items seen t reached) = reached_took document.schedule notes items seen t reached
+  finishing_took all told left _ _ _ _ _ (Finishes place later notes items more before after old new event note finishing next one forgets) =
       took_on before after old new event note notes items more one (finishing_come document place notes items before old finishing) (all document place notes items before old right finishing)
-      (told document place notes items before old right finishing) (finishing_took all told place notes items before old finishing)
+      (told document place notes items before old right finishing) (left document place notes items before old right finishing) (finishing_took all told left place notes items before old finishing)
 
-pub replies_taken : RunsKeepInvariant → FinishesKeepInvariant → RunsTellConnections → FinishesTellConnections → RepliesAreTaken
-replies_taken kept all tell told document place notes items seen t right finishing = finishing_took kept tell document right all told place notes items seen t finishing
+pub replies_taken : RunsKeepInvariant → FinishesKeepInvariant → RunsTellConnections → FinishesTellConnections → RunsLeaveUnclosed → FinishesLeaveUnclosed → RepliesAreTaken
+replies_taken kept all tell told leave left document place notes items seen t right finishing = finishing_took kept tell leave document right all told left place notes items seen t finishing

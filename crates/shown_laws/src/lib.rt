@@ -5,5 +5,5 @@
 #![tactic(auto)]
 
 pub mod laws;
-pub mod whole;
 pub mod turns;
+pub mod whole;

@@ -33,6 +33,7 @@ pub fn replies_are_taken()
 {
     world_model::kept_laws::runs_keep_invariant();
     crate::laws::connections_are_told();
+    crate::laws::held_connections_stay_unclosed();
 }
 
 /// Each reply that showed a call of a report is of a session of that report.
