@@ -81,7 +81,7 @@ opens_over m is = by m.server.is_up is
     by true none = reaps_over m none
     by false none = absurd (has_some (Some (event.Up, AtOrphans)) (Next (event.Up, AtOrphans)) none)
 
-all_finished : (m : Machine) (place : Place) → next_finish m place ≡ None → list_any is_unfinished m.clients ≡ false
+pub all_finished : (m : Machine) (place : Place) → next_finish m place ≡ None → list_any is_unfinished m.clients ≡ false
 all_finished m AtServer is = opens_over m is
 all_finished m AtOrphans is = reaps_over m is
 all_finished m AtRound is = round_over m is
@@ -96,7 +96,7 @@ none_now : (now : Option Doing) → is_some now ≡ false → now ≡ None
 none_now None is = refl
 none_now (Some doing) is = absurd (let none : ⊥ = cc in none)
 
-one_finished : (clients : List Client) (index : ℕ) (own : Client) → list_any is_unfinished clients ≡ false → slice_get clients index ≡ Some own → own.now ≡ None
+pub one_finished : (clients : List Client) (index : ℕ) (own : Client) → list_any is_unfinished clients ≡ false → slice_get clients index ≡ Some own → own.now ≡ None
 one_finished [] index own all is = absurd (let none : ⊥ = cc in none)
 one_finished (first ∷ clients) zero own all is =
     let same : first ≡ own = cc in
@@ -105,7 +105,7 @@ one_finished (first ∷ clients) (suc index) own all is = one_finished clients i
 
 -- SCRIPTS -----------------------------------------------------------------------------------------
 
-get_script : (all : List Scripted) (index : ℕ) (one : Scripted) → slice_get all index ≡ Some one → get_or (map (λ client. client.requests) all) index [] ≡ one.requests
+pub get_script : (all : List Scripted) (index : ℕ) (one : Scripted) → slice_get all index ≡ Some one → get_or (map (λ client. client.requests) all) index [] ≡ one.requests
 get_script [] index one is = absurd (let none : ⊥ = cc in none)
 get_script (first ∷ all) zero one is = let same : first ≡ one = cc in ap (λ (c : Scripted). c.requests) same
 get_script (first ∷ all) (suc index) one is = get_script all index one is
@@ -126,6 +126,11 @@ have_calls : (script : List Request) (before : List RequestReport) (past : List 
 have_calls script before [] right follows = tt
 have_calls script before (one ∷ past) right follows =
     (some_calls one.request.calls (and_parts (has_calls one.request) (is_rightly_repeated one.request) (next_right script (next_place script before) one.request right follows.0)).0, have_calls script (before ++ one.report ∷ []) past right follows.1)
+
+-- there are as many
+pub many_scripts : (all : List Scripted) → length (map (λ (client : Scripted). client.requests) all) ≡ length all
+many_scripts [] = refl
+many_scripts (one ∷ all) = ap suc (many_scripts all)
 
 -- EACH CLIENT -------------------------------------------------------------------------------------
 
@@ -167,7 +172,7 @@ reached_setting : (document : Document) (events : List Event) (notes : List Note
 reached_setting document _ _ _ _ _ (Begins seen start history horizon coupled) = refl
 reached_setting document _ _ _ _ _ (GoesOn events notes items more before after old new event note reached one forgets) = one.setting ∙ reached_setting document events notes items before old reached
 
-finishing_setting : (document : Document) (place : Place) (notes : List Note) (items : List Served) (seen : Seen) (t : Traced) → IsFinishing document place notes items seen t → t.setting ≡ setting_of document
+pub finishing_setting : (document : Document) (place : Place) (notes : List Note) (items : List Served) (seen : Seen) (t : Traced) → IsFinishing document place notes items seen t → t.setting ≡ setting_of document
 finishing_setting document _ _ _ _ _ (Scheduled notes items seen t reached) = reached_setting document document.schedule notes items seen t reached
 finishing_setting document _ _ _ _ _ (Finishes place later notes items more before after old new event note finishing next one forgets) = one.setting ∙ finishing_setting document place notes items before old finishing
 
@@ -176,7 +181,7 @@ pub runs_are_caused : FinishesTellSteps → FinishesKeepInvariant → RunsAreCau
 runs_are_caused tell kept document report seen t server right some reported =
     judges_report document report (terms_of document.service) (terms_are document.service) some
     (subst (λ (transcripts : List (List RequestReport)). ClientsAreHeard (terms_of document.service) 1 (steps report) (map (flat_map submissions_of) (copies_by_client document.clients transcripts))) (sym reported.clients)
-    (each_heard (terms_of document.service) (steps report) document.clients t.machine.clients 1 (told.many ∙ many document.clients) heard))
+    (each_heard (terms_of document.service) (steps report) document.clients t.machine.clients 1 (told.many ∙ many_scripts document.clients) heard))
   where
     run : IsRun document report.notes report.served seen t
     run = reported.run
@@ -189,10 +194,6 @@ runs_are_caused tell kept document report seen t server right some reported =
 
     told : TellsClients (setting_of document) t.machine.clients (steps report)
     told = subst (λ (setting : Setting). TellsClients setting t.machine.clients (steps report)) same (tell document run.place report.notes report.served seen t right run.finishing)
-
-    many : (all : List Scripted) → length (map (λ (client : Scripted). client.requests) all) ≡ length all
-    many [] = refl
-    many (one ∷ all) = ap suc (many all)
 
     heard : (index : ℕ) (own : Client) (one : Scripted) → slice_get t.machine.clients index ≡ Some own → slice_get document.clients index ≡ Some one → IsHeardAll (terms_of document.service) (steps report) (1 + index) (submissions_in one.requests (reports_of own.past))
     heard index own one here there =

@@ -39,6 +39,7 @@ pub mod PartsSplit
 pub mod PartsTold
 pub mod RepliesTold
 pub mod ReplyTaken
+pub mod ReportsTold
 pub mod RequestsAdd
 pub mod OwnTurns
 pub mod RowTurns

@@ -7,6 +7,7 @@ pub mod Growth
 pub mod PartsTold
 pub mod ShowingsTold
 pub mod OwnTurns
+pub mod ReportsTold
 pub mod ServedSent
 pub mod Telling
 pub mod Tellings

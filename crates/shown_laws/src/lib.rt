@@ -5,5 +5,6 @@
 #![tactic(auto)]
 
 pub mod laws;
+pub mod reports;
 pub mod turns;
 pub mod whole;

@@ -1,0 +1,22 @@
+//! What the lines of `Whole` say of the report of every whole run. Each law is the clause of a function with nothing to run.
+ghost use Rattle.shown_laws.specs.ReportsTold.{ReportsListSessions, ReportsListShowings, ReportsListOutcomes, ReportsTakeReplies};
+
+/// The steps of each client, cut by the sessions of its reports: each report lists the sessions that its part acquired, the outcomes that it took,
+/// and the calls that it was shown.
+pub fn reports_list_parts()
+    ensures sessions { ReportsListSessions }
+    ensures showings { ReportsListShowings }
+    ensures outcomes { ReportsListOutcomes }
+{
+    crate::laws::steps_are_told();
+    crate::whole::sessions_are_acquired();
+    crate::whole::calls_are_shown();
+    crate::whole::outcomes_are_taken();
+}
+
+/// Each step of a report that is noted to take a reply takes one that is told.
+pub fn reports_take_replies()
+    ensures { ReportsTakeReplies }
+{
+    crate::whole::replies_are_taken();
+}
