@@ -92,15 +92,17 @@ or_none : (a b : Bool) → (a || b) ≡ false → (a ≡ false) × (b ≡ false)
 or_none true b is = absurd (let none : ⊥ = cc in none)
 or_none false b is = (refl, is)
 
-none_now : (now : Option Doing) → is_some now ≡ false → now ≡ None
-none_now None is = refl
-none_now (Some doing) is = absurd (let none : ⊥ = cc in none)
+none_in : {A : Type 0} (found : Option A) → is_some found ≡ false → found ≡ None
+none_in None is = refl
+none_in (Some one) is = absurd (let none : ⊥ = cc in none)
 
-pub one_finished : (clients : List Client) (index : ℕ) (own : Client) → list_any is_unfinished clients ≡ false → slice_get clients index ≡ Some own → own.now ≡ None
+-- each client is at no request then, and none follows
+pub one_finished : (clients : List Client) (index : ℕ) (own : Client) → list_any is_unfinished clients ≡ false → slice_get clients index ≡ Some own → (own.now ≡ None) × (own.next ≡ None)
 one_finished [] index own all is = absurd (let none : ⊥ = cc in none)
 one_finished (first ∷ clients) zero own all is =
     let same : first ≡ own = cc in
-    subst (λ (c : Client). c.now ≡ None) same (none_now first.now (or_none (is_some first.now) (is_some first.next) (or_none (is_unfinished first) (list_any is_unfinished clients) all).0).0)
+    let both = or_none (is_some first.now) (is_some first.next) (or_none (is_unfinished first) (list_any is_unfinished clients) all).0 in
+    subst (λ (c : Client). (c.now ≡ None) × (c.next ≡ None)) same (none_in first.now both.0, none_in first.next both.1)
 one_finished (first ∷ clients) (suc index) own all is = one_finished clients index own (or_none (is_unfinished first) (list_any is_unfinished clients) all).1 is
 
 -- SCRIPTS -----------------------------------------------------------------------------------------
@@ -199,6 +201,6 @@ runs_are_caused tell kept document report seen t server right some reported =
     heard index own one here there =
         let number : 1 + index ≡ suc index = omega arith in
         subst (λ (n : ℕ). IsHeardAll (terms_of document.service) (steps report) n (submissions_in one.requests (reports_of own.past))) (sym number)
-        (one_heard (setting_of document) (suc index) own one.requests (steps report) (told.each (suc index) own here) (one_finished t.machine.clients index own (all_finished t.machine run.place run.over) here)
+        (one_heard (setting_of document) (suc index) own one.requests (steps report) (told.each (suc index) own here) (one_finished t.machine.clients index own (all_finished t.machine run.place run.over) here).0
         (get_script document.clients index one there) (get_all (λ (client : Scripted). list_all is_right_request client.requests) document.clients index one right there)
         (subst (λ (setting : Setting). AreThrough setting.terms own.past) same (talks_of t.setting.terms t.machine.clients (suc index) own inv.orderly.script.talks here).0))

@@ -27,7 +27,7 @@ last_course test setting number place (one ∷ past) doing all =
     let same : (place + 1) + length past ≡ place + length (one ∷ past) = omega arith in
     subst (λ (at : ℕ). test (course_now setting number at doing) ≡ true) same (last_course test setting number (place + 1) past doing (and_parts (test _) (list_all test (courses_from setting number (place + 1) past (Some doing))) all).1)
 
-client_courses : (test : Course → Bool) (setting : Setting) (number index : ℕ) (clients : List Client) (client : Client) → list_all test (courses_of_clients setting number clients) ≡ true → slice_get clients index ≡ Some client
+pub client_courses : (test : Course → Bool) (setting : Setting) (number index : ℕ) (clients : List Client) (client : Client) → list_all test (courses_of_clients setting number clients) ≡ true → slice_get clients index ≡ Some client
     → list_all test (courses_from setting (number + index) 0 client.past client.now) ≡ true
 client_courses test setting number index [] client all is = absurd (let none : ⊥ = cc in none)
 client_courses test setting number zero (first ∷ clients) client all is =

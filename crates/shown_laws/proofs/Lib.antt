@@ -13,6 +13,7 @@ pub mod ConnectionsTold
 pub mod ConversationsHeard
 pub mod CourseHeard
 pub mod CourseNow
+pub mod CoursesOver
 pub mod CrashesTold
 pub mod EndsTold
 pub mod EventsTold
@@ -39,6 +40,7 @@ pub mod PartsSplit
 pub mod PartsTold
 pub mod RepliesTold
 pub mod ReplyTaken
+pub mod ReportsOrdered
 pub mod ReportsTold
 pub mod RequestsAdd
 pub mod OwnTurns

@@ -67,7 +67,7 @@ pub record IsOfRun (document : Document) (t : Traced) (index : ℕ) (own : Clien
   pub there : slice_get document.clients index ≡ Some one
   pub rests : own.now ≡ None
   pub follows : FollowsFrom one.requests [] own.past
-  pub next : own.next ≡ next_of one.requests (reports_of own.past)
+  pub none_left : next_of one.requests (reports_of own.past) ≡ None
 
 module _ (tell : FinishesTellSteps) (document : Document) (report : Report) (seen : Seen) (t : Traced) (server : Server) (right : IsTrue (all_requests_right document)) (reported : IsReported document report seen t server) where
   run : IsRun document report.notes report.served seen t
@@ -76,23 +76,27 @@ module _ (tell : FinishesTellSteps) (document : Document) (report : Report) (see
   told : TellsClients (setting_of document) t.machine.clients (steps report)
   told = subst (λ (setting : Setting). TellsClients setting t.machine.clients (steps report)) (finishing_setting document run.place report.notes report.served seen t run.finishing) (tell document run.place report.notes report.served seen t right run.finishing)
 
-  of_run : (index : ℕ) (own : Client) (one : Scripted) → slice_get t.machine.clients index ≡ Some own → slice_get document.clients index ≡ Some one → IsOfRun document t index own one
+  pub told_run : length t.machine.clients ≡ length document.clients
+  told_run = told.many ∙ many_scripts document.clients
+
+  pub of_run : (index : ℕ) (own : Client) (one : Scripted) → slice_get t.machine.clients index ≡ Some own → slice_get document.clients index ≡ Some one → IsOfRun document t index own one
   of_run index own one here there =
       let script = get_script document.clients index one there in
       let scripted = (told.each (suc index) own here).scripted in
+      let over = one_finished t.machine.clients index own (all_finished t.machine run.place run.over) here in
       record {
         here = here;
         there = there;
-        rests = one_finished t.machine.clients index own (all_finished t.machine run.place run.over) here;
+        rests = over.0;
         follows = subst (λ (made : List Request). FollowsFrom made [] own.past) script scripted.past;
-        next = scripted.next ∙ ap (λ (made : List Request). next_of made (reports_of own.past)) script;
+        none_left = sym (ap (λ (made : List Request). next_of made (reports_of own.past)) script) ∙ (sym scripted.next ∙ over.1);
       }
 
   -- what holds of each client of the run, by its number
   pub each_of_run : (test : ℕ → List Submission → Bool) → ((index : ℕ) (own : Client) (one : Scripted) → IsOfRun document t index own one → test (suc index) (map submitted own.past) ≡ true) → by_number test 1 (submissions_by_client document report) ≡ true
   each_of_run test holds =
       subst (λ (transcripts : List (List RequestReport)). by_number test 1 (map (flat_map submissions_of) (copies_by_client document.clients transcripts)) ≡ true) (sym reported.clients)
-      (each_client test document.clients t.machine.clients 1 (told.many ∙ many_scripts document.clients) each)
+      (each_client test document.clients t.machine.clients 1 told_run each)
     where
       each : (index : ℕ) (own : Client) (one : Scripted) → slice_get t.machine.clients index ≡ Some own → slice_get document.clients index ≡ Some one → test (1 + index) (submissions_in one.requests (reports_of own.past)) ≡ true
       each index own one here there =

@@ -14,13 +14,13 @@ use Rattle.shown_laws.proofs.ConversationsHeard.{submitted}
 -- FURTHER COPIES ----------------------------------------------------------------------------------
 
 -- what one report more does to the copies of a request
-data OneMore (allowed : ℕ) (copy : RequestReport) (mine rest : List RequestReport) (report : RequestReport) : List RequestReport × List RequestReport → Type 0 where
+pub data OneMore (allowed : ℕ) (copy : RequestReport) (mine rest : List RequestReport) (report : RequestReport) : List RequestReport × List RequestReport → Type 0 where
   -- it is a further copy, since the request was not over
   IsMine : are_all_copies allowed (copy ∷ mine) ≡ false → rest ≡ [] → OneMore allowed copy mine rest report (mine ++ report ∷ [], [])
   -- it is of a later request, since the request was over
   IsLater : are_all_copies allowed (copy ∷ mine) ≡ true → OneMore allowed copy mine rest report (mine, rest ++ report ∷ [])
 
-one_more : (allowed : ℕ) (copy : RequestReport) (reports : List RequestReport) (report : RequestReport)
+pub one_more : (allowed : ℕ) (copy : RequestReport) (reports : List RequestReport) (report : RequestReport)
     → OneMore allowed copy (further_copies allowed copy reports).0 (further_copies allowed copy reports).1 report (further_copies allowed copy (reports ++ report ∷ []))
 one_more allowed copy [] report = by (is_repeated allowed copy) refl
   where
@@ -46,7 +46,7 @@ one_more allowed copy (first ∷ reports) report = by (is_repeated allowed copy)
 
 -- WHICH REQUEST FOLLOWS ---------------------------------------------------------------------------
 
-abbrev is_left : Copies → Bool
+abbrev pub is_left : Copies → Bool
 is_left copies = not (is_over copies)
 
 module _ (script : List Request) (request : Request) (first : Copies) (others : List Copies) where
@@ -55,11 +55,11 @@ module _ (script : List Request) (request : Request) (first : Copies) (others : 
   placed found = option_and_then (slice_get (request ∷ script)) found
 
   -- it is the first one, where that is not over
-  first_follows : is_over first ≡ false → placed (position is_left (first ∷ others)) ≡ Some request
+  pub first_follows : is_over first ≡ false → placed (position is_left (first ∷ others)) ≡ Some request
   first_follows opens = ap placed (position_cons is_left first others true (ap not opens))
 
   -- and else it is one behind it
-  later_follows : is_over first ≡ true → placed (position is_left (first ∷ others)) ≡ option_and_then (slice_get script) (position is_left others)
+  pub later_follows : is_over first ≡ true → placed (position is_left (first ∷ others)) ≡ option_and_then (slice_get script) (position is_left others)
   later_follows closed = ap placed (position_cons is_left first others false (ap not closed)) ∙ by (position is_left others)
     where
       by : (found : Option ℕ) → placed (counted found) ≡ option_and_then (slice_get script) found

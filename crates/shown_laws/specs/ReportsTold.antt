@@ -3,6 +3,7 @@ use Rattle.std.specs.Prelude.{◌+◌, ◌&&◌, ℕ, Bool, true, IsTrue, List, 
 use Rattle.std.specs.List.{list_all}
 use Rattle.outage_schedule.specs.declared.document.Document.{Document}
 use Rattle.outage_schedule.specs.declared.report.Report.{Report}
+use Rattle.run_clauses.specs.Copies.{has_its_reports}
 use Rattle.server_model.specs.Runs.{Server}
 use Rattle.server_model.specs.Seen.{Seen}
 use Rattle.shown_clauses.specs.Parts.{Part, parts_of, has_its_sessions}
@@ -42,3 +43,7 @@ ReportsListOutcomes = HoldsOfReports outcomes_taken
 -- Each step that is noted to take a reply has one.
 abbrev pub ReportsTakeReplies : Type 0
 ReportsTakeReplies = HoldsOfReports (λ document report. are_taken (steps report))
+
+-- The reports of each client are the copies of its requests, in the order of its script; each shows all calls of its request, or failed and shows fewer.
+abbrev pub ReportsAreOrdered : Type 0
+ReportsAreOrdered = HoldsOfReports has_its_reports

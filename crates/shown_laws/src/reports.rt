@@ -1,5 +1,5 @@
 //! What the lines of `Whole` say of the report of every whole run. Each law is the clause of a function with nothing to run.
-ghost use Rattle.shown_laws.specs.ReportsTold.{ReportsListSessions, ReportsListShowings, ReportsListOutcomes, ReportsTakeReplies};
+ghost use Rattle.shown_laws.specs.ReportsTold.{ReportsListSessions, ReportsListShowings, ReportsListOutcomes, ReportsTakeReplies, ReportsAreOrdered};
 
 /// The steps of each client, cut by the sessions of its reports: each report lists the sessions that its part acquired, the outcomes that it took,
 /// and the calls that it was shown.
@@ -19,4 +19,13 @@ pub fn reports_take_replies()
     ensures { ReportsTakeReplies }
 {
     crate::whole::replies_are_taken();
+}
+
+/// The reports of each client are the copies of its requests, in the order of its script, each further copy exactly where it follows. Each shows all
+/// calls of its request, or failed and shows fewer.
+pub fn reports_are_ordered()
+    ensures { ReportsAreOrdered }
+{
+    world_model::kept_laws::runs_keep_invariant();
+    crate::laws::steps_are_told();
 }
