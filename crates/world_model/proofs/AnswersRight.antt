@@ -64,7 +64,7 @@ use Rattle.world_model.proofs.Tests.{eq_from, eq_to, lt_from, lt_to}
 
 -- EVENTS ------------------------------------------------------------------------------------------
 
-abbrev is_from : ℕ → HappenedAt → Bool
+abbrev pub is_from : ℕ → HappenedAt → Bool
 is_from event moment = not (nat_lt moment.event event)
 
 event_now : (m : Machine) (more : List HappenedAt) (happened : List Happened) → EventTells m more happened → list_all (λ moment. moment.event == m.event + 1) more ≡ true
@@ -79,7 +79,7 @@ not_under event at most = grind (arith, nat_tests, most)
 from_later : (at event other : ℕ) → at ≤ event → not (nat_lt other event) ≡ true → not (nat_lt other at) ≡ true
 from_later at event other most is = grind (arith, nat_tests, most, is)
 
-told_before : (events : ℕ) (moments : List HappenedAt) (history : List Happened) → RunTells events moments history → list_all (is_before (events + 1)) moments ≡ true
+pub told_before : (events : ℕ) (moments : List HappenedAt) (history : List Happened) → RunTells events moments history → list_all (is_before (events + 1)) moments ≡ true
 told_before _ _ _ NothingYet = refl
 told_before _ _ _ (TellsMore m moments more history happened tells one) =
     append_all (is_before (m.event + 1 + 1)) moments more
@@ -89,7 +89,7 @@ told_before _ _ _ (TellsMore m moments more history happened tells one) =
     (λ moment is. let at : moment.event ≡ m.event + 1 = eq_from moment.event (m.event + 1) is in lt_to moment.event (m.event + 1 + 1) (omega (arith, at))) (event_now m more happened one))
 
 -- this event's and later ones
-from_event_on : (m : Machine) (more rest : List HappenedAt) (happened : List Happened) → EventTells m more happened → list_all (is_from (m.event + 1 + 1)) rest ≡ true → list_all (is_from (m.event + 1)) (more ++ rest) ≡ true
+pub from_event_on : (m : Machine) (more rest : List HappenedAt) (happened : List Happened) → EventTells m more happened → list_all (is_from (m.event + 1 + 1)) rest ≡ true → list_all (is_from (m.event + 1)) (more ++ rest) ≡ true
 from_event_on m more rest happened one later =
     append_all (is_from (m.event + 1)) more rest
     (weaker_all (λ (moment : HappenedAt). moment.event == m.event + 1) (is_from (m.event + 1)) more

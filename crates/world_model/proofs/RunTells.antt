@@ -60,7 +60,7 @@ module _ (before after : Seen) (old new : Traced) (event : Event) (note : Note) 
       moments_more notes note items more was.before (subst (λ (n : ℕ). list_all (λ (one : Served). one.event == n) more ≡ true) number told.now)
       ∙ ap (λ (n : ℕ). moments_of notes items ++ event_moments n note more) (sym number)
 
-  come_on : HasCome (notes ++ note ∷ []) (items ++ more) after new.machine
+  pub come_on : HasCome (notes ++ note ∷ []) (items ++ more) after new.machine
   come_on =
       let next : new.machine.event ≡ old.machine.event + 1 = (opens_once old.setting old.machine new.machine event note more [] one.follows).0 in
       record {

@@ -8,6 +8,7 @@ pub mod Coupled
 pub mod CrashCount
 pub mod Crashing
 pub mod Cutting
+pub mod EntryCounts
 pub mod Finishing
 pub mod FirstCalls
 pub mod Followed

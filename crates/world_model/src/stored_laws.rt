@@ -1,4 +1,5 @@
 //! What of entries, blocks and the horizon holds beside what was told in a run. Each law is the clause of a function with nothing to run.
+ghost use Rattle.world_model.specs.EntryCounts.{RunsCountEntries, FinishesCountEntries};
 ghost use Rattle.world_model.specs.StoredLaws.{AnswersAreRight, HorizonsAreTold, BlocksStayApart, BlocksAreAnswered, BlocksComeInOrder, OutcomesAreStored};
 
 /// No identifier is both blocked and an entry's, in the journal that a report of a run tells of.
@@ -40,4 +41,15 @@ pub fn outcomes_are_stored()
     crate::laws::orderly_is_kept();
     blocks_stay_apart();
     answers_are_right();
+}
+
+/// Where a session answered a frame, as many of its entries were stored up to that event, as the report tells it, as the session had answered
+/// Committed. So it is wherever the run had come to that the report tells.
+pub fn entries_are_counted()
+    ensures reached { RunsCountEntries }
+    ensures finishing { FinishesCountEntries }
+{
+    commit_log::laws::keeps_journal();
+    server_model::laws::runs_number();
+    crate::laws::runs_are_orderly();
 }
