@@ -22,3 +22,7 @@ pub use Rattle.world_model.proofs.FirstBehind.{IsFirst, NoneBehind, counted, pos
 pub use Rattle.world_model.proofs.RunStarts.{finishing_start}
 -- the horizon that incarnations that ended ask for, and the openings behind one note more
 pub use Rattle.world_model.proofs.WantedHorizons.{horizon_of, share, horizon_more, horizon_both, openings_more}
+-- where a connection was opened last, or an outcome asked, its session has committed nothing
+pub use Rattle.world_model.proofs.AskedFresh.{IsFresh, opening_fresh}
+pub use Rattle.world_model.proofs.LinkHandled.{commits_behind}
+pub use Rattle.world_model.proofs.RowLast.{is_opening}

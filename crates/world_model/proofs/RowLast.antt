@@ -150,7 +150,10 @@ early_opening owner up.End is = absurd (let none : ⊥ = cc in none)
 early_opening owner up.Close is = absurd (let none : ⊥ = cc in none)
 
 -- Where a connection was opened last, or an outcome asked, no call was sent on it.
-pub opening_none : (owner : Owner) (link : Link) (last : Sent) → last_or None link.sent ≡ Some last → is_opening last.frame ≡ true → is_right (stage_of link) ≡ true → row_of owner link.sent ≡ []
-opening_none owner link last is opens right =
+pub opening_calls : (link : Link) (last : Sent) → last_or None link.sent ≡ Some last → is_opening last.frame ≡ true → is_right (stage_of link) ≡ true → list_all (λ sent. not (is_call sent.frame)) link.sent ≡ true
+opening_calls link last is opens right =
     let early = early_opening last.owner last.frame opens in
-    no_row_of owner link.sent (early_none New link.sent (ap is_early (stage_is link last is early.0 right) ∙ early.1)).none
+    (early_none New link.sent (ap is_early (stage_is link last is early.0 right) ∙ early.1)).none
+
+pub opening_none : (owner : Owner) (link : Link) (last : Sent) → last_or None link.sent ≡ Some last → is_opening last.frame ≡ true → is_right (stage_of link) ≡ true → row_of owner link.sent ≡ []
+opening_none owner link last is opens right = no_row_of owner link.sent (opening_calls link last is opens right)
