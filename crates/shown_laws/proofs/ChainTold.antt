@@ -23,7 +23,7 @@ use Rattle.shown_laws.proofs.StepsTold.{told_step, Acts}
 -- REQUESTS ----------------------------------------------------------------------------------------
 
 -- a request more is over
-past_more : (setting : Setting) (client place : ℕ) (past : List Past) (told : List (List Telling)) (one : Past) (tellings : List Telling) → TellsPast setting client place past told → TellsRequest setting client (place + length past) one.request tellings one.steps
+pub past_more : (setting : Setting) (client place : ℕ) (past : List Past) (told : List (List Telling)) (one : Past) (tellings : List Telling) → TellsPast setting client place past told → TellsRequest setting client (place + length past) one.request tellings one.steps
     → TellsPast setting client place (past ++ one ∷ []) (told ++ tellings ∷ [])
 past_more setting client _ _ _ one tellings (NonePast place) is =
     let same : place + 0 ≡ place = omega arith in
@@ -32,7 +32,7 @@ past_more setting client _ _ _ one tellings (OnePast place first others own more
     let same : place + length (first ∷ others) ≡ (place + 1) + length others = omega arith in
     OnePast place first (others ++ one ∷ []) own (more ++ tellings ∷ []) its (past_more setting client (place + 1) others more one tellings rest (subst (λ (k : ℕ). TellsRequest setting client k one.request tellings one.steps) same is))
 
-joined_more : (told : List (List Telling)) (tellings : List Telling) → joined (told ++ tellings ∷ []) ≡ joined told ++ tellings
+pub joined_more : (told : List (List Telling)) (tellings : List Telling) → joined (told ++ tellings ∷ []) ≡ joined told ++ tellings
 joined_more [] tellings = append-nil tellings
 joined_more (first ∷ told) tellings = ap (λ (rest : List Telling). first ++ rest) (joined_more told tellings) ∙ sym (append_assoc first (joined told) tellings)
 
@@ -49,7 +49,7 @@ was_now t client own doing one tellings now same told =
     let its : TellsRequest t.setting client (length own.past) doing.request tellings doing.steps = subst (λ (d : Doing). TellsRequest t.setting client (length own.past) d.request tellings d.steps) same told in
     record { steps = doing.steps; began = []; begins = WasThere (now ∙ ap Some same); all = sym (append-nil doing.steps); told = its }
 
-current : (t : Traced) (client : ℕ) (own : Client) (doing : Doing) (now : Option Doing) (next : Option Request) (tellings : List Telling) → own.now ≡ now → own.next ≡ next
+pub current : (t : Traced) (client : ℕ) (own : Client) (doing : Doing) (now : Option Doing) (next : Option Request) (tellings : List Telling) → own.now ≡ now → own.next ≡ next
     → option_or now (option_map (begun t.setting.terms (t.machine.event + 1) t.machine.tick) next) ≡ Some doing → TellsNow t.setting client (length own.past) now tellings → Current t client own doing tellings
 current t client own doing _ next _ is_now is_next does (OneNow one tellings told) = was_now t client own doing one tellings is_now (let same : one ≡ doing = cc in same) told
 current t client own doing _ None _ is_now is_next does NoneNow = absurd (let none : ⊥ = cc in none)
@@ -116,7 +116,7 @@ module _ (t : Traced) (inv : Invariant t) (seen : Seen) (client : ℕ) (did : Go
   follows_on script before (first ∷ past) one follows next =
       (follows.0, follows_on script (before ++ first.report ∷ []) past one follows.1 (ap (next_of script) (append_assoc before (first.report ∷ []) (reports_of past)) ∙ next))
 
-  scripted_more : (next : Client) → Leads t.setting client acts.own acts.after next → IsScripted (script_at t.setting client) acts.own → IsScripted (script_at t.setting client) next
+  pub scripted_more : (next : Client) → Leads t.setting client acts.own acts.after next → IsScripted (script_at t.setting client) acts.own → IsScripted (script_at t.setting client) next
   scripted_more _ GoesOn is = record {
     past = is.past;
     next = is.next;
@@ -154,12 +154,12 @@ module _ (t : Traced) (inv : Invariant t) (seen : Seen) (client : ℕ) (did : Go
       }
 
   -- the steps of one client, where this one makes a step more
-  own_steps : (told : List StepTold) → steps_of client (told ++ told_step t seen client did ∷ []) ≡ steps_of client told ++ told_step t seen client did ∷ []
+  pub own_steps : (told : List StepTold) → steps_of client (told ++ told_step t seen client did ∷ []) ≡ steps_of client told ++ told_step t seen client did ∷ []
   own_steps told =
       filter-append (λ (step : StepTold). step.client == client) told (told_step t seen client did ∷ [])
       ∙ ap (λ (test : Bool). steps_of client told ++ cond test (told_step t seen client did ∷ []) []) (eq_to client client refl)
 
-  other_steps : (other : ℕ) → other ≢ client → (told : List StepTold) → steps_of other (told ++ told_step t seen client did ∷ []) ≡ steps_of other told
+  pub other_steps : (other : ℕ) → other ≢ client → (told : List StepTold) → steps_of other (told ++ told_step t seen client did ∷ []) ≡ steps_of other told
   other_steps other differ told =
       filter-append (λ (step : StepTold). step.client == other) told (told_step t seen client did ∷ [])
       ∙ (ap (λ (test : Bool). steps_of other told ++ cond test (told_step t seen client did ∷ []) []) (ne_to client other (λ same. differ (sym same))) ∙ append-nil (steps_of other told))

@@ -62,7 +62,7 @@ handled_at commits [] later one handled = (counted_with commits one.served.item,
 handled_at commits (first ∷ before) later one handled =
     handled_at (counted_with commits first.served.item) before later one (and_parts (is_handled (counted_with commits first.served.item) first) (handled_from (counted_with commits first.served.item) (before ++ one ∷ later)) handled).1
 
-said_rightly : (commits : ℕ) (one : Handled) (frame : Down) → one.reply ≡ Some frame → is_handled commits one ≡ true → (is_item_of one.sent.frame one.served.item ≡ true) × (same_replies (Some frame) (reply_of one.served.session commits one.served.item) ≡ true)
+pub said_rightly : (commits : ℕ) (one : Handled) (frame : Down) → one.reply ≡ Some frame → is_handled commits one ≡ true → (is_item_of one.sent.frame one.served.item ≡ true) × (same_replies (Some frame) (reply_of one.served.session commits one.served.item) ≡ true)
 said_rightly commits one frame given handled =
     by (or_cases (is_item_of one.sent.frame one.served.item && same_replies one.reply (reply_of one.served.session commits one.served.item)) (is_crashed_item one.sent.frame one.served.item && is_none one.reply) handled)
   where

@@ -145,7 +145,7 @@ own_adds setting client place request steps one tells =
         (subst (KnownBehind tells.t.setting) (all_steps tells.t tells.own tells.doing steps tells.began tells.begins)
         (doing_known tells.t tells.own tells.doing steps tells.began tells.begins (talks_at tells.t.setting.terms tells.t.machine.clients client tells.own tells.inv.orderly.script.talks tells.here).1))
 
-step_adds : (setting : Setting) (client place : ℕ) (request : Request) (steps : List Step) (one : Telling) → TellsStep setting client place request steps one
+pub step_adds : (setting : Setting) (client place : ℕ) (request : Request) (steps : List Step) (one : Telling) → TellsStep setting client place request steps one
     → Adds (account_of setting.terms request.calls (dones_of steps)) (account_of setting.terms request.calls (dones_of (steps ++ one.acts))) one.step
 step_adds setting client place request steps one tells =
     subst (λ (r : Request). Adds (account_of setting.terms r.calls (dones_of steps)) (account_of setting.terms r.calls (dones_of (steps ++ one.acts))) one.step) tells.same (own_adds setting client place request steps one tells)

@@ -4,6 +4,7 @@ pub mod Closing
 pub mod ConnectionLaws
 pub mod Connections
 pub mod Growth
+pub mod Identified
 pub mod PartsTold
 pub mod ShowingsTold
 pub mod OwnTurns

@@ -4,6 +4,7 @@ ghost use Rattle.shown_laws.specs.CausedRuns.{RunsAreCaused};
 ghost use Rattle.shown_laws.specs.Closing.{RunsLeaveUnclosed, FinishesLeaveUnclosed};
 ghost use Rattle.shown_laws.specs.ConnectionLaws.{RunsTellConnections, FinishesTellConnections};
 ghost use Rattle.shown_laws.specs.Growth.{RunsAreCounted, RunsGrow, FinishesAreCounted, FinishesGrow};
+ghost use Rattle.shown_laws.specs.Identified.{CallsAreIdentified};
 ghost use Rattle.shown_laws.specs.TurnLaws.{RunsTellTurns, FinishesTellTurns};
 ghost use Rattle.shown_laws.specs.Tellings.{RunsTellSteps, FinishesTellSteps};
 
@@ -51,6 +52,15 @@ pub fn turns_are_told()
     ensures finishing { FinishesTellTurns }
 {
     world_model::kept_laws::runs_keep_invariant();
+}
+
+/// Each call that a request was shown has the identifier of the session whose item the step took, with the number of that session's entries
+/// that the report tells to be stored up to the event of the item: be it the call's own item, or an outcome that said committed and completed.
+pub fn calls_are_identified()
+    ensures { CallsAreIdentified }
+{
+    world_model::kept_laws::runs_keep_invariant();
+    world_model::stored_laws::entries_are_counted();
 }
 
 /// The clause `Caused` holds of the report of every whole run of a document that lets a request try at least once: each request ends as its

@@ -1,4 +1,5 @@
 //! What the lines of `Whole` say of the parts of a client's steps, in every run. Each law is the clause of a function with nothing to run.
+ghost use Rattle.shown_laws.specs.Identified.{IdentifiersAreStored};
 ghost use Rattle.shown_laws.specs.PartsTold.{SessionsAreAcquired, OutcomesAreTaken, CallsAreShown, RepliesAreTaken, ShownByOwnSessions};
 
 /// The steps of a client are cut by the sessions of its reports, and each part has the steps of its request from the first session on: those
@@ -42,4 +43,13 @@ pub fn showings_are_own()
 {
     world_model::kept_laws::runs_keep_invariant();
     crate::laws::steps_are_told();
+}
+
+/// Each call of a report has the identifier of the item that showed it: its session, with the number of that session's entries that were stored up
+/// to the event of the item.
+pub fn identifiers_are_stored()
+    ensures { IdentifiersAreStored }
+{
+    world_model::kept_laws::runs_keep_invariant();
+    crate::laws::calls_are_identified();
 }
