@@ -1,4 +1,5 @@
 pub mod ActsTold
+pub mod AnswersTold
 pub mod AwaitedFrame
 pub mod CausedRuns
 pub mod AccountRead
@@ -51,6 +52,7 @@ pub mod OwnTurns
 pub mod RowTurns
 pub mod RunsGrow
 pub mod ScriptCalls
+pub mod ScriptShown
 pub mod SeenLists
 pub mod ServedFront
 pub mod ServedSent

@@ -116,7 +116,7 @@ request_own setting client place request _ _ (OneMore tellings steps one before 
 
 -- PARTS -------------------------------------------------------------------------------------------
 
-own_right : HoldsOfTold shown_by_own
+pub own_right : HoldsOfTold shown_by_own
 own_right setting client place one tellings part told =
     subst (λ (l : List SessionId). list_all (is_own l) (showings part.steps) ≡ true)
     (sym (as_reported one.steps) ∙ (ap (λ (copy : RequestReport). copy.sessions) told.through.reported ∙ sym (ap (λ (s : Submission). s.copy.sessions) told.is)))

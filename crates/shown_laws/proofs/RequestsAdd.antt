@@ -69,7 +69,7 @@ module _ (terms : Terms) (due : Bool) (doing : Doing) (talks : Talks terms due d
     there = ap (slice_get doing.request.calls) (sym holds.tracked.call) ∙ holds.left.is;
   }
 
-  heard_known : Known doing.request.calls heard.shown heard.last doing.talk
+  pub heard_known : Known doing.request.calls heard.shown heard.last doing.talk
   heard_known = record { left = λ shows. by doing.talk.phase refl fits.1 shows; asked = λ state is. (subst (λ (phase : Phase). Fits terms doing.request.calls heard fits.0 phase) is fits.1).1.last }
     where
       by : (phase : Phase) → doing.talk.phase ≡ phase → Fits terms doing.request.calls heard fits.0 phase → may_show phase ≡ true → NextCall doing.request.calls heard.shown doing.talk

@@ -1,3 +1,4 @@
+pub mod AnswersTold
 pub mod CausedRuns
 pub mod ClientSteps
 pub mod Closing

@@ -1,4 +1,5 @@
 //! What the lines of `Whole` say of the report of every whole run. Each law is the clause of a function with nothing to run.
+ghost use Rattle.shown_laws.specs.AnswersTold.{ReportsAnswerCalls};
 ghost use Rattle.shown_laws.specs.ReportsTold.{ReportsListSessions, ReportsListShowings, ReportsListOutcomes, ReportsTakeReplies, ReportsAreOrdered};
 
 /// The steps of each client, cut by the sessions of its reports: each report lists the sessions that its part acquired, the outcomes that it took,
@@ -28,4 +29,12 @@ pub fn reports_are_ordered()
 {
     world_model::kept_laws::runs_keep_invariant();
     crate::laws::steps_are_told();
+}
+
+/// Each call of each report was answered, by a reply to that call of its script or by an outcome that the report has.
+pub fn reports_answer_calls()
+    ensures { ReportsAnswerCalls }
+{
+    crate::laws::steps_are_told();
+    crate::whole::calls_are_answered();
 }

@@ -1,4 +1,5 @@
 //! What the lines of `Whole` say of the parts of a client's steps, in every run. Each law is the clause of a function with nothing to run.
+ghost use Rattle.shown_laws.specs.AnswersTold.{CallsAreAnswered};
 ghost use Rattle.shown_laws.specs.Identified.{IdentifiersAreStored};
 ghost use Rattle.shown_laws.specs.PartsTold.{SessionsAreAcquired, OutcomesAreTaken, CallsAreShown, RepliesAreTaken, ShownByOwnSessions};
 
@@ -40,6 +41,15 @@ pub fn replies_are_taken()
 /// Each reply that showed a call of a report is of a session of that report.
 pub fn showings_are_own()
     ensures { ShownByOwnSessions }
+{
+    world_model::kept_laws::runs_keep_invariant();
+    crate::laws::steps_are_told();
+}
+
+/// Each call of a report was answered: by a reply to that call of its script, of a session of the report, or by an outcome that the report has, which
+/// says committed and completed of the identifier that was asked.
+pub fn calls_are_answered()
+    ensures { CallsAreAnswered }
 {
     world_model::kept_laws::runs_keep_invariant();
     crate::laws::steps_are_told();
