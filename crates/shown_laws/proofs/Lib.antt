@@ -32,6 +32,7 @@ pub mod ItemsTold
 pub mod LastSent
 pub mod LinksStay
 pub mod LinksTold
+pub mod LoneOutcomes
 pub mod Lookups
 pub mod LostTold
 pub mod NoClose
@@ -74,6 +75,8 @@ pub mod StepsAdd
 pub mod TakenAs
 pub mod TakesTold
 pub mod ToldOnce
+pub mod TriedKept
+pub mod TriedLists
 pub mod TurnBriefs
 pub mod TurnOwner
 pub mod TurnSent
