@@ -38,6 +38,7 @@ pub mod LostTold
 pub mod NoClose
 pub mod Offered
 pub mod RecordedCalls
+pub mod OutcomesShown
 pub mod OwnSessions
 pub mod OwnShown
 pub mod PartsCut
