@@ -1,4 +1,5 @@
 pub mod ActsTold
+pub mod AnswersStand
 pub mod AnswersTold
 pub mod AwaitedFrame
 pub mod CausedRuns
