@@ -88,7 +88,7 @@ scan_below scan (step ∷ steps) all =
     scan_below (scanned scan step) steps
     (frames_below now step.done.act.send now.sendings (answered_below more step.done.input step.done.act.shown scan.sendings (below_more scan.shown more scan.sendings least all)))
 
-on_below : (n number : ℕ) (sendings done : List Sending) → below n sendings ≡ true → below n done ≡ true → below n (reverse_onto (filter (λ (s : Sending). s.connection == number) sendings) done) ≡ true
+pub on_below : (n number : ℕ) (sendings done : List Sending) → below n sendings ≡ true → below n done ≡ true → below n (reverse_onto (filter (λ (s : Sending). s.connection == number) sendings) done) ≡ true
 on_below n number [] done all so_far = so_far
 on_below n number (sending ∷ sendings) done all so_far =
     let parts = and_parts (nat_le sending.at n) (below n sendings) all in
@@ -101,7 +101,7 @@ on_below n number (sending ∷ sendings) done all so_far =
 
 -- CALLS -------------------------------------------------------------------------------------------
 
-pair_below : (n : ℕ) (calls : List Sent) (sendings : List Sending) → pointwise is_sending_of calls sendings ≡ true → below n sendings ≡ true → list_all (λ (sent : Sent). nat_le sent.call n) calls ≡ true
+pub pair_below : (n : ℕ) (calls : List Sent) (sendings : List Sending) → pointwise is_sending_of calls sendings ≡ true → below n sendings ≡ true → list_all (λ (sent : Sent). nat_le sent.call n) calls ≡ true
 pair_below n [] sendings same all = refl
 pair_below n (sent ∷ calls) [] same all = absurd (let none : ⊥ = cc in none)
 pair_below n (sent ∷ calls) (sending ∷ sendings) same all =
@@ -121,7 +121,7 @@ near_frame shown sent up.End true is near = absurd (let none : ⊥ = cc in none)
 near_frame shown sent up.Close true is near = absurd (let none : ⊥ = cc in none)
 near_frame shown sent frame false is near = absurd (let none : ⊥ = cc in none)
 
-near_from : (owner : Owner) (shown : List ShownCall) (sents : List Sent) → list_all (λ (sent : Sent). nat_le sent.call (length shown)) (calls_of owner sents) ≡ true → list_all (is_near shown) (row_of owner sents) ≡ true
+pub near_from : (owner : Owner) (shown : List ShownCall) (sents : List Sent) → list_all (λ (sent : Sent). nat_le sent.call (length shown)) (calls_of owner sents) ≡ true → list_all (is_near shown) (row_of owner sents) ≡ true
 near_from owner shown [] all = refl
 near_from owner shown (sent ∷ sents) all =
     by (owned_by owner sent && is_call sent.frame) refl (near_from owner shown sents (parts (owned_by owner sent && is_unmarked sent) all).1) (λ is. (parts (owned_by owner sent && is_unmarked sent) all).0 is)

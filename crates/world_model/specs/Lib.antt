@@ -10,6 +10,7 @@ pub mod Crashing
 pub mod Cutting
 pub mod EntryCounts
 pub mod Finishing
+pub mod FirstBegins
 pub mod FirstCalls
 pub mod Followed
 pub mod Forgets
@@ -22,6 +23,7 @@ pub mod Links
 pub mod Lost
 pub mod Machines
 pub mod Matching
+pub mod NearCalls
 pub mod Noting
 pub mod Number
 pub mod Observed

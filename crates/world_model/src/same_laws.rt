@@ -5,7 +5,9 @@ ghost use Rattle.world_model.specs.Begins.{carry_settings, sessions_stand, trans
 ghost use Rattle.world_model.specs.BegunWith.{RunsBeginWith, RunsLead};
 ghost use Rattle.world_model.specs.CallEndings.{end_fittingly};
 ghost use Rattle.world_model.specs.CommitAnswers.{commit_fittingly, store_alone};
+ghost use Rattle.world_model.specs.FirstBegins.{begin_once};
 ghost use Rattle.world_model.specs.FirstCalls.{transactions_begin};
+ghost use Rattle.world_model.specs.NearCalls.{send_near};
 ghost use Rattle.world_model.specs.Redrawn.{RepeatsRedraw, WholeRepeatsRedraw};
 ghost use Rattle.world_model.specs.Same.{open_entries_known, run_script_calls};
 ghost use Rattle.world_model.specs.SameLaws.{FollowsInvariant, HoldsAtEnds, HoldsInRuns, RunsFollowScripts, RunsRan, RunsServe, RunsStoreScripts, WholeRunsFollowScripts, WholeRunsStoreScripts, RunsStarted, SettingsGoOn, ReportsAreSame, ReportsClashNowhere, RunsKnowAnswers, RunsKnowInsides, RunsVerify, WholeRunsKnowAnswers, WholeRunsKnowInsides, WholeRunsVerify, RunsRanLast, WholeRunsRanLast, EntriesMakeReportsSame, EntriesMakeSame, PartsMakeEntries, RunsEntriesDraw, RunsEntriesGoOn, RunsEntriesStart, RunsKnowEntries, WholeRunsEntriesDraw, WholeRunsEntriesGoOn, WholeRunsEntriesStart, WholeRunsKnowEntries};
@@ -242,6 +244,20 @@ pub fn repeated_calls_redraw()
     server_model::laws::runs_legal();
     requests_begin_with_settings();
 }
+
+/// Wherever such a run has come to, and at its end: each Begin that was sent on a connection is of a request that had sent no call there.
+pub fn requests_begin_once()
+    ensures reached { HoldsInRuns begin_once }
+    ensures run { HoldsAtEnds begin_once }
+{
+    crate::laws::runs_are_orderly();
+}
+
+/// In each state that is as the invariant says: each call without the mark that a request sent on a connection that it held is of an index that
+/// was shown to it, or is the next one.
+pub fn requests_send_near()
+    ensures { FollowsInvariant send_near }
+{}
 
 /// Then each piece of such an entry drew, of the values that are kept for a repeated call, those that were shown with its call; and the answers to its
 /// last call are those that were shown, where it was: by the reply on its own connection, since no call is stored twice, or by an outcome.
