@@ -21,6 +21,7 @@ pub mod CoursesOver
 pub mod CrashesTold
 pub mod EndsTold
 pub mod EventsTold
+pub mod FinishesReached
 pub mod Following
 pub mod FrameAnswered
 pub mod GoNotes
@@ -29,6 +30,7 @@ pub mod HappeningsGrow
 pub mod HeldTold
 pub mod IdentifiersHold
 pub mod IdentifiersTold
+pub mod HeldTurns
 pub mod ItemsTold
 pub mod LastSent
 pub mod LinksStay
@@ -36,6 +38,7 @@ pub mod LinksTold
 pub mod LoneOutcomes
 pub mod Lookups
 pub mod LostTold
+pub mod MarksUnblocked
 pub mod NoClose
 pub mod Offered
 pub mod RecordedCalls
@@ -46,6 +49,7 @@ pub mod PartsCut
 pub mod PartsHold
 pub mod PartsSplit
 pub mod PartsTold
+pub mod OwnTurns
 pub mod RepliesTold
 pub mod ReplyTaken
 pub mod ReportsOrdered

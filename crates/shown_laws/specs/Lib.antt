@@ -8,6 +8,7 @@ pub mod Growth
 pub mod Identified
 pub mod PartsTold
 pub mod ShowingsTold
+pub mod HeldTurns
 pub mod OwnTurns
 pub mod ReportsTold
 pub mod ServedSent
@@ -19,3 +20,4 @@ pub mod TurnRows
 pub mod TurnSent
 pub mod TurnsOver
 pub mod TurnsServed
+pub mod Unblocked

@@ -1,14 +1,14 @@
 -- What a session served in a turn, beside the calls that the request sent there whose turn it is.
-use Rattle.std.specs.Prelude.{◌≡◌, ◌||◌, Bool, true, not, nat_le, if◌then◌else◌, IsTrue, List, [], ◌∷◌, length, reverse}
+use Rattle.std.specs.Prelude.{◌≡◌, Bool, true, not, if◌then◌else◌, IsTrue, List, [], ◌∷◌, reverse}
 use Rattle.std.specs.List.{list_all}
 use Rattle.svc_values.specs.declared.call.Call.{Call}
 use Rattle.svc_values.specs.declared.draw.Draw.{Draw}
 use Rattle.svc_values.specs.declared.frame.Up.TheVariants as up
-use Rattle.outage_schedule.specs.declared.request.ShownCall.{ShownCall}
 use Rattle.shown_clauses.specs.Links.{Marked, Turn}
 use Rattle.shown_clauses.specs.Submissions.{Submission}
 use Rattle.shown_clauses.specs.Turns.{is_turn_right}
 use Rattle.world_model.specs.Frames.{Sent}
+use Rattle.world_model.specs.NearCalls.{is_shown_or_next}
 use Rattle.world_model.specs.Shown.{is_marked, is_row}
 use Rattle.world_model.specs.Traced.{Course}
 
@@ -17,10 +17,6 @@ pub data ServedOf : List Marked → List Sent → Type 0 where
   NoneServed : (sent : List Sent) → ServedOf [] sent
   OneServed : (first : Sent) (replay : Bool) (kept : List Draw) (call : Call) (served : List Marked) (sent : List Sent) → first.frame ≡ up.Call replay kept call → ServedOf served sent
       → ServedOf (record { replay = replay; call = call } ∷ served) (first ∷ sent)
-
--- each call without the mark is of an index that was shown, or is the next one
-abbrev pub is_shown_or_next : List ShownCall → Sent → Bool
-is_shown_or_next shown sent = is_marked sent.frame || nat_le sent.call (length shown)
 
 -- those with the mark stand first
 abbrev pub are_marked_first : List Sent → Bool

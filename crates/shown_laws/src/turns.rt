@@ -1,11 +1,14 @@
 //! What the notes and the served items of a run tell of turns: what each session served since its last Begin, and that the calls fit the script of
 //! the request. Each law is the clause of a function with nothing to run.
+ghost use Rattle.shown_laws.specs.HeldTurns.{RunsHaveRightTurns, FinishesHaveRightTurns};
 ghost use Rattle.shown_laws.specs.OwnTurns.{OwnTurnsAreRight, TurnsAreOnWire};
 ghost use Rattle.shown_laws.specs.ServedSent.{ServesAFront, ServesItsFrames};
 ghost use Rattle.shown_laws.specs.TurnOwner.{TurnsHaveAllCalls};
 ghost use Rattle.shown_laws.specs.TurnRows.{RowsMakeTurnsRight, ServesMarksFirst};
 ghost use Rattle.shown_laws.specs.TurnSent.{TurnsHaveOneOwner};
 ghost use Rattle.shown_laws.specs.TurnsOver.{RunsTellOver, FinishesTellOver};
+ghost use Rattle.shown_laws.specs.Unblocked.{serve_unblocked};
+ghost use Rattle.world_model.specs.SameLaws.{HoldsAtEnds, HoldsInRuns};
 
 /// A turn is right that served calls which a request sent in a row of its script: those with the mark are the calls since the last that was shown as
 /// decided, up to the first without it.
@@ -43,3 +46,24 @@ pub fn own_turns_are_right()
     ensures right { OwnTurnsAreRight }
     ensures wire { TurnsAreOnWire }
 {}
+
+/// Wherever a run of a document whose requests are right has come to, and at its end: no call with the mark met a block on a connection.
+pub fn marked_calls_meet_no_block()
+    ensures reached { HoldsInRuns serve_unblocked }
+    ensures run { HoldsAtEnds serve_unblocked }
+{
+    world_model::kept_laws::runs_keep_invariant();
+    world_model::same_laws::runs_serve();
+}
+
+/// Wherever a run of a document whose requests are right has come to: what the session of a connection served since a Begin is right for the
+/// request that held the connection and sent those calls.
+pub fn held_turns_are_right()
+    ensures reached { RunsHaveRightTurns }
+    ensures finishing { FinishesHaveRightTurns }
+{
+    world_model::kept_laws::runs_keep_invariant();
+    world_model::same_laws::requests_begin_once();
+    world_model::same_laws::requests_send_near();
+    marked_calls_meet_no_block();
+}
