@@ -49,6 +49,7 @@ pub mod Shown
 pub mod Told
 pub mod ToldByStore
 pub mod Traced
+pub mod UnservedBegins
 pub mod Walking
 pub mod Wanted
 pub mod Wire

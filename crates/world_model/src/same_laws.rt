@@ -12,6 +12,7 @@ ghost use Rattle.world_model.specs.Redrawn.{RepeatsRedraw, WholeRepeatsRedraw};
 ghost use Rattle.world_model.specs.Same.{open_entries_known, run_script_calls};
 ghost use Rattle.world_model.specs.SameLaws.{FollowsInvariant, HoldsAtEnds, HoldsInRuns, RunsFollowScripts, RunsRan, RunsServe, RunsStoreScripts, WholeRunsFollowScripts, WholeRunsStoreScripts, RunsStarted, SettingsGoOn, ReportsAreSame, ReportsClashNowhere, RunsKnowAnswers, RunsKnowInsides, RunsVerify, WholeRunsKnowAnswers, WholeRunsKnowInsides, WholeRunsVerify, RunsRanLast, WholeRunsRanLast, EntriesMakeReportsSame, EntriesMakeSame, PartsMakeEntries, RunsEntriesDraw, RunsEntriesGoOn, RunsEntriesStart, RunsKnowEntries, WholeRunsEntriesDraw, WholeRunsEntriesGoOn, WholeRunsEntriesStart, WholeRunsKnowEntries};
 ghost use Rattle.world_model.specs.Showing.{show_replies};
+ghost use Rattle.world_model.specs.UnservedBegins.{begin_last};
 
 /// Wherever a run of a document whose requests are right has come to, what the service's history has of a connection's session is
 /// what the connection served: frame by frame, with what was told.
@@ -258,6 +259,15 @@ pub fn requests_begin_once()
 pub fn requests_send_near()
     ensures { FollowsInvariant send_near }
 {}
+
+/// Wherever such a run has come to, and at its end: each Begin that a connection's session has not served yet is of the request that sent the last
+/// frame there, for a connection is lent only where all that was sent on it was answered.
+pub fn unserved_begins_are_last()
+    ensures reached { HoldsInRuns begin_last }
+    ensures run { HoldsAtEnds begin_last }
+{
+    crate::kept_laws::runs_keep_invariant();
+}
 
 /// Then each piece of such an entry drew, of the values that are kept for a repeated call, those that were shown with its call; and the answers to its
 /// last call are those that were shown, where it was: by the reply on its own connection, since no call is stored twice, or by an outcome.
