@@ -44,7 +44,7 @@ held_at test (first ∷ numbers) number all any =
     by here later (inl is) = subst (λ (n : ℕ). test n ≡ true) (eq_from first number is) here
     by here later (inr is) = later is
 
-unblocked_before : (before later : List Handled) → none_blocked (before ++ later) ≡ true → none_blocked before ≡ true
+pub unblocked_before : (before later : List Handled) → none_blocked (before ++ later) ≡ true → none_blocked before ≡ true
 unblocked_before [] later all = refl
 unblocked_before (one ∷ before) later all =
     let parts = and_parts (not (is_blocked one.served.item && is_marked one.sent.frame)) (none_blocked (before ++ later)) all in

@@ -91,6 +91,8 @@ pub mod TurnsHappen
 pub mod TurnsInRuns
 pub mod TurnsKept
 pub mod TurnsOver
+pub mod TurnsRight
+pub mod TurnsRightRuns
 pub mod TurnsRuns
 pub mod TurnsServed
 pub mod TurnsTold

@@ -26,7 +26,7 @@ use Rattle.shown_laws.proofs.TurnSent.{owners_are, sents_turn}
 
 -- FRONTS ------------------------------------------------------------------------------------------
 
-abbrev walk : Stage → List Sent → Stage
+abbrev pub walk : Stage → List Sent → Stage
 walk stage sents = fold (λ stage sent. next_stage stage sent.owner sent.frame) stage sents
 
 wrong_stays : (sents : List Sent) → is_right (walk Wrong sents) ≡ true → is_right Wrong ≡ true
@@ -43,7 +43,7 @@ right_before sents (Begun one) right = refl
 right_before sents (Rested one) right = refl
 right_before sents Shut right = refl
 
-right_front : (front rest : List Sent) (stage : Stage) → is_right (walk stage (front ++ rest)) ≡ true → is_right (walk stage front) ≡ true
+pub right_front : (front rest : List Sent) (stage : Stage) → is_right (walk stage (front ++ rest)) ≡ true → is_right (walk stage front) ≡ true
 right_front [] rest stage right = right_before rest stage right
 right_front (sent ∷ front) rest stage right = right_front front rest (next_stage stage sent.owner sent.frame) right
 
@@ -64,7 +64,7 @@ calls_join owner (sent ∷ front) rest = by (is_call_by owner sent) (calls_join 
     by true same = ap (λ (calls : List Sent). sent ∷ calls) same
     by false same = same
 
-same_test : (owner : Owner) (one : Option Owner) → same_owners (Some owner) one ≡ is_of owner one
+pub same_test : (owner : Owner) (one : Option Owner) → same_owners (Some owner) one ≡ is_of owner one
 same_test owner None = refl
 same_test owner (Some other) = refl
 
@@ -82,7 +82,7 @@ all_by owner (sent ∷ sents) = by (is_call_by owner sent) refl (all_by owner se
     by true is rest = and_from (is_call_by owner sent) (list_all (is_call_by owner) (calls_by owner sents)) is rest
     by false is rest = rest
 
-none_served : (served : List Marked) (sents : List Sent) → sents ≡ [] → ServedOf served sents → served ≡ []
+pub none_served : (served : List Marked) (sents : List Sent) → sents ≡ [] → ServedOf served sents → served ≡ []
 none_served _ _ none (NoneServed sents) = refl
 none_served _ _ none (OneServed first replay kept call served sents frame goes) = absurd (let never : ⊥ = cc in never)
 

@@ -30,7 +30,7 @@ owners_same (Some a) = and_from (a.client == a.client) (a.place == a.place) (eq_
 
 -- CALLS -------------------------------------------------------------------------------------------
 
-all_push : (test : Sent → Bool) (calls : List Sent) (sent : Sent) → list_all test calls ≡ true → test sent ≡ true → list_all test (calls ++ sent ∷ []) ≡ true
+pub all_push : (test : Sent → Bool) (calls : List Sent) (sent : Sent) → list_all test calls ≡ true → test sent ≡ true → list_all test (calls ++ sent ∷ []) ≡ true
 all_push test [] sent all is = and_from (test sent) true is refl
 all_push test (first ∷ calls) sent all is =
     let parts = and_parts (test first) (list_all test calls) all in

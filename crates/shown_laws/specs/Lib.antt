@@ -19,5 +19,6 @@ pub mod TurnOwner
 pub mod TurnRows
 pub mod TurnSent
 pub mod TurnsOver
+pub mod TurnsRight
 pub mod TurnsServed
 pub mod Unblocked

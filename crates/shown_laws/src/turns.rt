@@ -7,6 +7,7 @@ ghost use Rattle.shown_laws.specs.TurnOwner.{TurnsHaveAllCalls};
 ghost use Rattle.shown_laws.specs.TurnRows.{RowsMakeTurnsRight, ServesMarksFirst};
 ghost use Rattle.shown_laws.specs.TurnSent.{TurnsHaveOneOwner};
 ghost use Rattle.shown_laws.specs.TurnsOver.{RunsTellOver, FinishesTellOver};
+ghost use Rattle.shown_laws.specs.TurnsRight.{RunsTellRight, FinishesTellRight};
 ghost use Rattle.shown_laws.specs.Unblocked.{serve_unblocked};
 ghost use Rattle.world_model.specs.SameLaws.{HoldsAtEnds, HoldsInRuns};
 
@@ -61,6 +62,18 @@ pub fn marked_calls_meet_no_block()
 pub fn held_turns_are_right()
     ensures reached { RunsHaveRightTurns }
     ensures finishing { FinishesHaveRightTurns }
+{
+    world_model::kept_laws::runs_keep_invariant();
+    world_model::same_laws::requests_begin_once();
+    world_model::same_laws::requests_send_near();
+    marked_calls_meet_no_block();
+}
+
+/// Wherever such a run has come to: each turn that is told, over or not, is right for a request that held its connection, whose calls it served, or
+/// it served none.
+pub fn told_turns_are_right()
+    ensures reached { RunsTellRight }
+    ensures finishing { FinishesTellRight }
 {
     world_model::kept_laws::runs_keep_invariant();
     world_model::same_laws::requests_begin_once();
