@@ -1,3 +1,4 @@
+pub mod AcquiredTold
 pub mod ActsTold
 pub mod AnswersStand
 pub mod AnswersTold

@@ -1,4 +1,5 @@
 pub mod AnswersTold
+pub mod AcquiredTold
 pub mod CausedRuns
 pub mod ClientSteps
 pub mod Closing

@@ -1,5 +1,6 @@
 //! What the notes and the served items of a run tell of turns: what each session served since its last Begin, and that the calls fit the script of
 //! the request. Each law is the clause of a function with nothing to run.
+ghost use Rattle.shown_laws.specs.AcquiredTold.{StepsAcquire};
 ghost use Rattle.shown_laws.specs.HeldTurns.{RunsHaveRightTurns, FinishesHaveRightTurns};
 ghost use Rattle.shown_laws.specs.OwnTurns.{OwnTurnsAreRight, TurnsAreOnWire};
 ghost use Rattle.shown_laws.specs.ServedSent.{ServesAFront, ServesItsFrames};
@@ -80,3 +81,8 @@ pub fn told_turns_are_right()
     world_model::same_laws::requests_send_near();
     marked_calls_meet_no_block();
 }
+
+/// The session of each connection that is told was acquired by the last step before that was lent it, or took its Hello.
+pub fn sessions_are_acquired_by_steps()
+    ensures { StepsAcquire }
+{}
