@@ -131,8 +131,6 @@ module _ (setting : Setting) where
       steps_served (with_new m pool) client (record doing { connection = Some (next_number m) }) true (Opened (next_number m)) other ∙ new_served m.links other
   goes_served m client _ _ (Fails doing wanted pool is tries) other = steps_served (with_pool m pool) client doing true TryFailed other
   goes_served m client _ _ (Takes doing connection sent link reply left is has there down frames) other =
-
-  goes_served m client _ _ (Takes doing connection sent link reply left is has there down counted) other =
       unless_served (steps setting (taking m connection link reply left) client doing true (Took reply.frame link.is_open)) client link other
       ∙ (steps_served (taking m connection link reply left) client doing true (Took reply.frame link.is_open) other
       ∙ with_one m.links connection link (takes (Took reply.frame link.is_open) reply left link) there refl other)

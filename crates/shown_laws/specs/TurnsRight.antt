@@ -7,9 +7,10 @@ use Rattle.outage_schedule.specs.declared.item.Served.{Served}
 use Rattle.outage_schedule.specs.declared.note.Note.{Note}
 use Rattle.server_model.specs.Seen.{Seen as ServerSeen}
 use Rattle.shown_clauses.specs.Links.{Link as SeenLink, Seen, Turn, link_of}
+use Rattle.shown_clauses.specs.Steps.{turns_seen}
 use Rattle.shown_clauses.specs.Turns.{is_turn_right}
 use Rattle.world_model.specs.Finishing.{Place}
-use Rattle.world_model.specs.Reached.{Reached, IsFinishing}
+use Rattle.world_model.specs.Reached.{Reached, IsFinishing, IsRun}
 use Rattle.world_model.specs.Ready.{all_requests_right}
 use Rattle.world_model.specs.Traced.{Traced, Course, courses_of}
 use Rattle.world_model.specs.Words.{held_in}
@@ -39,3 +40,8 @@ abbrev pub FinishesTellRight : Type 0
 FinishesTellRight =
     (document : Document) (place : Place) (notes : List Note) (items : List Served) (seen : ServerSeen) (t : Traced)
     → IsTrue (all_requests_right document) → IsFinishing document place notes items seen t → TellsRight t (seen_told notes items)
+
+-- all that the report of a whole run tells
+abbrev pub WholeRunsTellRight : Type 0
+WholeRunsTellRight =
+    (document : Document) (notes : List Note) (items : List Served) (seen : ServerSeen) (t : Traced) → IsTrue (all_requests_right document) → IsRun document notes items seen t → AreRight t (turns_seen (seen_told notes items))

@@ -8,7 +8,7 @@ ghost use Rattle.shown_laws.specs.TurnOwner.{TurnsHaveAllCalls};
 ghost use Rattle.shown_laws.specs.TurnRows.{RowsMakeTurnsRight, ServesMarksFirst};
 ghost use Rattle.shown_laws.specs.TurnSent.{TurnsHaveOneOwner};
 ghost use Rattle.shown_laws.specs.TurnsOver.{RunsTellOver, FinishesTellOver};
-ghost use Rattle.shown_laws.specs.TurnsRight.{RunsTellRight, FinishesTellRight};
+ghost use Rattle.shown_laws.specs.TurnsRight.{RunsTellRight, FinishesTellRight, WholeRunsTellRight};
 ghost use Rattle.shown_laws.specs.Unblocked.{serve_unblocked};
 ghost use Rattle.world_model.specs.SameLaws.{HoldsAtEnds, HoldsInRuns};
 
@@ -86,3 +86,12 @@ pub fn told_turns_are_right()
 pub fn sessions_are_acquired_by_steps()
     ensures { StepsAcquire }
 {}
+
+/// At the end of a whole run each of the turns that its report tells is right for a request that held its connection, whose calls it served, or it
+/// served none.
+pub fn whole_runs_tell_right_turns()
+    ensures { WholeRunsTellRight }
+{
+    world_model::kept_laws::runs_keep_invariant();
+    told_turns_are_right();
+}
