@@ -13,11 +13,7 @@ use Rattle.svc_values.specs.Same.{same_value}
 use Rattle.svc_values.specs.SameLaws.{same_value_decides}
 use Rattle.svc_values.specs.Schemas.{key_of}
 use Rattle.svc_values.proofs.Offered.{value_cmp_total}
-use Rattle.commit_log.specs.Bases.{keys_differ}
-
--- the key of one row is below that of another
-abbrev pub has_lower_key : List Value → List Value → Bool
-has_lower_key row other = is_lt (value_cmp (key_of row) (key_of other))
+use Rattle.commit_log.specs.Bases.{has_lower_key, keys_differ}
 
 less_from_lower : (o : Ordering) → true ≡ is_lt o → o ≡ Less
 less_from_lower Less h = refl

@@ -1,11 +1,13 @@
 -- What a store begins with: the tables with their rows, and the sequences.
 use Rattle.std.specs.Prelude.{ℕ, pos, ◌&&◌, Bool, true, not, IsTrue, List, [], ◌∷◌, map, int_le}
 use Rattle.std.specs.List.{flat_map, list_all, list_any}
+use Rattle.std.specs.Ordering.{is_lt}
 use Rattle.svc_values.specs.declared.value.Value.{Value}
 use Rattle.svc_values.specs.declared.schema.Column.{Column}
 use Rattle.svc_values.specs.declared.schema.Schema.{Schema}
 use Rattle.svc_values.specs.declared.schema.Shape.{Shape}
 use Rattle.svc_values.specs.Kinds.{row_fits}
+use Rattle.svc_values.specs.Order.{value_cmp}
 use Rattle.svc_values.specs.Same.{same_value}
 use Rattle.svc_values.specs.Schemas.{is_declared, key_of}
 use Rattle.svc_values.specs.declared.tables.PlainRow.{PlainRow}
@@ -19,6 +21,10 @@ use Rattle.commit_log.specs.declared.base.BaseSequence.{BaseSequence}
 abbrev pub keys_differ : List (List Value) → Bool
 keys_differ [] = true
 keys_differ (row ∷ rows) = not (list_any (λ other. same_value (key_of other) (key_of row)) rows) && keys_differ rows
+
+-- the key of one row is below that of another
+abbrev pub has_lower_key : List Value → List Value → Bool
+has_lower_key row other = is_lt (value_cmp (key_of row) (key_of other))
 
 -- a table is declared, each row has a value of its kind for each column, and no key stands twice
 unfoldable pub is_table : BaseTable → Bool

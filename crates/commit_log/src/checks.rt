@@ -1,12 +1,10 @@
 //! Whether a base keeps its rules.
 ghost use Rattle.std.specs.Prelude.{◌≡◌, ◌&&◌, IfOk, IsTrue, map};
-ghost use Rattle.std.specs.List.{list_all};
-ghost use Rattle.std.specs.Ordering.{is_lt};
-ghost use Rattle.svc_values.specs.Order.{value_cmp};
+ghost use Rattle.std.specs.List.{IsAllAdjacentAnswer, list_all};
 ghost use Rattle.svc_values.specs.Kinds.{row_fits};
 ghost use Rattle.svc_values.specs.Schemas.{is_declared as is_declared_def, key_of as key_of_def};
 ghost use Rattle.svc_values.specs.Names.{names_differ};
-ghost use Rattle.commit_log.specs.Bases.{table_name, keys_differ as keys_differ_def, is_table as is_table_def, is_sequence as is_sequence_def, is_base as is_base_def, schemas_of as schemas_of_def, sequence_name, shape_of as shape_of_def};
+ghost use Rattle.commit_log.specs.Bases.{has_lower_key as has_lower_key_def, table_name, keys_differ as keys_differ_def, is_table as is_table_def, is_sequence as is_sequence_def, is_base as is_base_def, schemas_of as schemas_of_def, sequence_name, shape_of as shape_of_def};
 
 use crate::base::{Base, BaseSequence, BaseTable};
 use crate::keys::Keys;
@@ -33,7 +31,7 @@ fn key_of(alloc: Global, row: &Row) -> Result<Value, NoMemory>
 
 // Whether the key of one row is below that of another.
 fn has_lower_key(row: &Row, other: &Row) -> bool
-    ensures { result ≡ is_lt (value_cmp (key_of_def row.now) (key_of_def other.now)) }
+    ensures { result ≡ has_lower_key_def row.now other.now }
 {
     match row.get(0) {
         None => match other.get(0) {
@@ -49,7 +47,8 @@ fn has_lower_key(row: &Row, other: &Row) -> bool
 
 // Whether each row has a higher key than the one before, so that no two have one.
 fn keys_rise(rows: &[Row]) -> bool
-    ensures { IsTrue result → IsTrue (keys_differ_def rows.now) }
+    ensures rise { IsAllAdjacentAnswer (λ row next lower. lower ≡ has_lower_key_def row next) rows.now result }
+    ensures apart { IsTrue result → IsTrue (keys_differ_def rows.now) }
 {
     rows.is_sorted_by(|row, next| has_lower_key(row, next))
 }
