@@ -1,5 +1,5 @@
 //! Lists: written and read once for all types of items.
-ghost use Rattle.std.specs.Prelude.{◌≡◌, ◌++◌, length, IfOk, OnOk};
+ghost use Rattle.std.specs.Prelude.{◌≡◌, ◌*◌, ◌≤◌, ◌++◌, length, IfOk, OnOk};
 ghost use Rattle.std.specs.List.{flat_map, AllByRecursion};
 ghost use Rattle.canon_bytes.specs.Lists.{spell_list, FitsList, FitsListed, items_at, list_at, listed_at};
 ghost use Rattle.canon_bytes.specs.Reading.{IsReading};
@@ -33,6 +33,22 @@ fn put_made_items<T: PutMade>(items: &[T], out: &mut Vec<u8>) -> Result<(), NoMe
     Ok(())
 }
 
+/// For how many of so many items there is room before they are read: for all of them where each takes
+/// eight bytes or more, as values and rows do. A count that the bytes cannot hold asks for no more
+/// room than the bytes could fill.
+fn room_for(count: u64, bytes: &[u8]) -> usize
+    ensures counted { result ≤ count }
+    ensures held { 8 * result ≤ length bytes.now }
+    ensures all { 8 * count ≤ length bytes.now → result ≡ count }
+{
+    let held = bytes.len() / 8;
+    if count <= held as u64 {
+        count as usize
+    } else {
+        held
+    }
+}
+
 /// That many items from the front.
 fn take_items<T: Take + Drop>(
     alloc: Global,
@@ -44,7 +60,7 @@ fn take_items<T: Take + Drop>(
     ensures fitting { IfOk result (λ x. AllByRecursion T.fits x.0.items) }
     ensures counted { IfOk result (λ x. length x.0.items ≡ count) }
 {
-    let mut items = Vec::new(alloc);
+    let mut items = Vec::with_capacity(alloc, room_for(count, bytes))?;
     let mut rest = bytes;
     for _ in 0..count {
         let (item, after) = T::take(alloc, rest)?;

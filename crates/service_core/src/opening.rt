@@ -1,5 +1,5 @@
 //! A new opening of a store: the tables, the book and the source of values that its journal says.
-ghost use Rattle.std.specs.Prelude.{◌≡◌, ◌++◌, ◌≤◌, All, IfOk, OnOk, IsErrOf, IsTrue, length, map};
+ghost use Rattle.std.specs.Prelude.{◌≡◌, ◌≤◌, All, IfOk, OnOk, IsErrOf, IsTrue, length, map};
 ghost use Rattle.std.specs.List.{flat_map, list_all};
 ghost use Rattle.disk_model.specs.Disk.{Meanwhile, IsSettled, LoweredByLess, Caused};
 ghost use Rattle.svc_values.specs.Fitting.{writes_fit};
@@ -9,18 +9,18 @@ ghost use Rattle.commit_log.specs.Journals.{so_far_of};
 ghost use Rattle.commit_log.specs.Growth.{IsGrown, opening_of};
 ghost use Rattle.server_model.specs.Core.{tables_with};
 ghost use Rattle.service_core.specs.Opening.{CanOpen, HasOpened, source_of as source_def, stop_of};
-ghost use Rattle.service_core.specs.InnerOpening.{CanGoOn, IsCoreOf, ends_low, entry_fits, plain_row, state_of};
+ghost use Rattle.service_core.specs.InnerOpening.{CanGoOn, IsCoreOf, ends_low, entry_fits, state_of};
 
 use commit_log::laws::keeps_journal;
-use commit_log::{Base, BaseRows, BaseSequence, BaseTable, BaseTables, Journal, Log, LogFault};
+use commit_log::{Base, BaseSequence, BaseTable, BaseTables, Journal, Log, LogFault};
 use disk_model::Disk;
 use ltxid_book::Book;
 use mutable_values::{Grants, SeqState, Source};
 use server_model::ServeFault;
 use server_session::Core;
 use std::alloc::Global;
-use svc_values::{Entry, Name, NoMemory, Schema, Schemas, TryCopy};
-use table_store::{TableRow, Tables};
+use svc_values::{Entry, NoMemory, Schema, Schemas, TryCopy};
+use table_store::{TableRows, Tables};
 
 /// Opens the store of a disk for the next incarnation, with the outcomes of all incarnations below
 /// `horizon` forgotten: what its sessions share.
@@ -150,38 +150,26 @@ fn start_of(alloc: Global, base: Base) -> Result<Tables, NoMemory>
     ensures { IfOk result (λ tables. tables ≡ record { schemas = schemas_of base; rows = start_def base }) }
 {
     let Base { tables, .. } = base;
-    let (schemas, rows) = gathered(alloc, tables)?;
-    Tables::new(alloc, Schemas::from_vec(schemas), rows)
+    let (schemas, given) = gathered(alloc, tables)?;
+    Tables::new(alloc, Schemas::from_vec(schemas), given)
 }
 
-/// The declarations of the tables, and all their rows, which are moved.
-fn gathered(alloc: Global, tables: BaseTables) -> Result<(Vec<Schema>, Vec<TableRow>), NoMemory>
+/// The declarations of the tables, and the rows of each, which are moved.
+fn gathered(alloc: Global, tables: BaseTables) -> Result<(Vec<Schema>, Vec<TableRows>), NoMemory>
     ensures schemas { IfOk result (λ all. all.0.items ≡ map schema_in tables) }
     ensures rows { IfOk result (λ all. plain all.1.items ≡ flat_map rows_of tables) }
     ensures few { IfOk result (λ all. length all.0.items ≤ 32) }
 {
-    let mut schemas = Vec::new(alloc);
-    let mut rows = Vec::new(alloc);
-    for table in tables.into_vec() {
-        let BaseTable { schema, rows: more } = table;
-        push_rows(alloc, &mut rows, &schema.name, more)?;
+    let mut schemas = Vec::with_capacity(alloc, tables.len())?;
+    let mut given = Vec::with_capacity(alloc, tables.len())?;
+    for one in tables.into_vec() {
+        let BaseTable { schema, rows } = one;
+        let table = schema.name.copy(alloc)?;
+        given.push(TableRows {
+            table,
+            rows: rows.into_vec(),
+        })?;
         schemas.push(schema)?;
     }
-    Ok((schemas, rows))
-}
-
-/// Puts the rows of a table behind those of others.
-fn push_rows(
-    alloc: Global,
-    rows: &mut Vec<TableRow>,
-    name: &Name,
-    more: BaseRows,
-) -> Result<(), NoMemory>
-    ensures { OnOk result (plain rows.new.items ≡ plain rows.old.items ++ map (plain_row name.now) more) }
-{
-    for row in more.into_vec() {
-        let table = name.copy(alloc)?;
-        rows.push(TableRow { table, row })?;
-    }
-    Ok(())
+    Ok((schemas, given))
 }

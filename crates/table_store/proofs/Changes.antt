@@ -3,10 +3,10 @@ use Rattle.std.proofs.Common.{◌≡◌, ◌⊎◌, inl, inr, ℕ, Bool, true, f
 use Rattle.std.specs.Prelude.{Option, Some, None, IsSome, filter, not, ◌&&◌}
 use Rattle.std.specs.List.{AllByRecursion, list_all}
 use Rattle.std.specs.declared.cmp.Ordering.TheVariants.{Less, Equal, Greater}
-use Rattle.std.specs.Ordering.{nat_cmp, is_eq, match_ordering}
+use Rattle.std.specs.Ordering.{nat_cmp, eq_by_cmp, is_eq, match_ordering}
 use Rattle.std.specs.Cmp.Lexicographic.{slice_cmp}
 use Rattle.std.specs.BTreeMap.{BTreeMap, WritesThrough, Updates, insert_entry, is_at as is_key}
-use Rattle.std.specs.Map.{lookup, set_value}
+use Rattle.std.specs.Map.{lookup, set_value, update_all}
 use Rattle.std.proofs.lemmas.Bool.{cases_Bool}
 use Rattle.svc_values.specs.declared.value.Value.{Value}
 use Rattle.svc_values.specs.declared.entry.Write.{Write}
@@ -15,7 +15,7 @@ use Rattle.svc_values.specs.declared.tables.PlainRow.{PlainRow}
 use Rattle.svc_values.specs.declared.tables.Place.TheVariants as place
 use Rattle.svc_values.specs.Tables.{is_at, rows_at, put_row, without, with_write, comes_before}
 use Rattle.table_store.specs.Rows.{Keyed, KeysRise, Shelves, IsShelved, all_rows, shelf_of, keyed_of, keyed_if_any, row_kept, row_if_any}
-use Rattle.table_store.specs.Shelves.{is_place, Changes}
+use Rattle.table_store.specs.Shelves.{is_place, Changes, ChangesAll}
 use Rattle.table_store.proofs.Places.{at_place}
 use Rattle.table_store.proofs.Alike.{same_tables}
 use Rattle.table_store.proofs.Writes.{ordered_with_write, own_place, filter_with_write}
@@ -77,6 +77,25 @@ changed_in old new table key row kept shelf keyed t k = by_name (cases_Bool (is_
         ap (λ s. keyed_if_any s k) (shelf t ∙ ap (λ b. cond b (Some kept) (shelf_of old t)) apart)
         ∙ sym (ap (λ b. cond (b && is_eq (value_cmp key k)) row (row_kept old t k)) apart)
 
+-- the same of rows that are put in one after the other
+pub changed_all_in : (old new : Shelves) (table : List ℕ) (entries kept : Keyed)
+    → ((t : List ℕ) → shelf_of new t ≡ cond (is_eq (slice_cmp nat_cmp table t)) (Some kept) (shelf_of old t))
+    → ((k : Value) → keyed_of kept k ≡ update_all (eq_by_cmp value_cmp) (row_kept old table) entries k)
+    → ChangesAll old table entries new
+changed_all_in old new table entries kept shelf keyed t k = by_name (cases_Bool (is_eq (slice_cmp nat_cmp table t)))
+  where
+    put_over : List ℕ → Option (List Value)
+    put_over u = update_all (eq_by_cmp value_cmp) (row_kept old u) entries k
+
+    by_name : (is_eq (slice_cmp nat_cmp table t) ≡ true) ⊎ (is_eq (slice_cmp nat_cmp table t) ≡ false) → row_kept new t k ≡ cond (is_eq (slice_cmp nat_cmp table t)) (put_over t) (row_kept old t k)
+    by_name (inl here) =
+        ap (λ s. keyed_if_any s k) (shelf t ∙ ap (λ b. cond b (Some kept) (shelf_of old t)) here) ∙ keyed k
+        ∙ ap put_over (same_if_equal table t here)
+        ∙ sym (ap (λ b. cond b (put_over t) (row_kept old t k)) here)
+    by_name (inr apart) =
+        ap (λ s. keyed_if_any s k) (shelf t ∙ ap (λ b. cond b (Some kept) (shelf_of old t)) apart)
+        ∙ sym (ap (λ b. cond b (put_over t) (row_kept old t k)) apart)
+
 -- what holds of each map, with another one in the place of one
 pub all_with_value : (P : Keyed → Type 0) (test : List ℕ → Bool) (tables : Shelves) (kept : Keyed) → AllByRecursion (λ one. P one.1) tables → P kept → AllByRecursion (λ one. P one.1) (set_value test tables kept)
 all_with_value P test [] kept all here = tt
@@ -121,7 +140,7 @@ all_filtered p q (row ∷ rest) all =
       | false ↦ all_filtered p q rest parts.1
     ]
 
-all_put : (p : PlainRow → Bool) (row : PlainRow) (tables : List PlainRow) → p row ≡ true → list_all p tables ≡ true → list_all p (put_row row tables) ≡ true
+pub all_put : (p : PlainRow → Bool) (row : PlainRow) (tables : List PlainRow) → p row ≡ true → list_all p tables ≡ true → list_all p (put_row row tables) ≡ true
 all_put p row [] here all = both_if (p row) true here refl
 all_put p row (first ∷ rest) here all =
     let parts = both_true (p first) (list_all p rest) all in
@@ -153,6 +172,16 @@ changed_there old new table key row kept after found written keyed =
     ((written.3 (subst IsSome found refl)).0)
     (λ k. keyed k ∙ ap (λ s. cond (is_eq (value_cmp key k)) row (keyed_if_any s k)) found)
 
+pub changed_all_there : (old new : BTreeMap (List ℕ) Keyed) (table : List ℕ) (entries kept after : Keyed)
+    → Some kept ≡ shelf_of old.entries table
+    → WritesThrough (slice_cmp nat_cmp) (slice_cmp nat_cmp table) old after new
+    → ((k : Value) → keyed_of after k ≡ update_all (eq_by_cmp value_cmp) (keyed_of kept) entries k)
+    → ChangesAll old.entries table entries new.entries
+changed_all_there old new table entries kept after found written keyed =
+    changed_all_in old.entries new.entries table entries after
+    ((written.3 (subst IsSome found refl)).0)
+    (λ k. keyed k ∙ ap (λ s. update_all (eq_by_cmp value_cmp) (λ q. keyed_if_any s q) entries k) found)
+
 pub unchanged_there : (old new : BTreeMap (List ℕ) Keyed) (table : List ℕ) (kept after : Keyed)
     → Some kept ≡ shelf_of old.entries table
     → WritesThrough (slice_cmp nat_cmp) (slice_cmp nat_cmp table) old after new
@@ -175,6 +204,17 @@ changed_anew old new table key row after none written keyed =
     changed_in old.entries new.entries table key row after
     (written.0)
     (λ k. keyed k ∙ ap (λ s. cond (is_eq (value_cmp key k)) row (keyed_if_any s k)) none)
+
+-- the first rows of a table
+pub changed_all_anew : (old new : BTreeMap (List ℕ) Keyed) (table : List ℕ) (entries after : Keyed)
+    → None ≡ shelf_of old.entries table
+    → Updates (slice_cmp nat_cmp) old new table (Some after)
+    → ((k : Value) → keyed_of after k ≡ update_all (eq_by_cmp value_cmp) (λ _. None) entries k)
+    → ChangesAll old.entries table entries new.entries
+changed_all_anew old new table entries after none written keyed =
+    changed_all_in old.entries new.entries table entries after
+    (written.0)
+    (λ k. keyed k ∙ ap (λ s. update_all (eq_by_cmp value_cmp) (λ q. keyed_if_any s q) entries k) none)
 
 -- no row of a table without rows
 pub nothing_there : (old : Shelves) (table : List ℕ) (key : Value) → None ≡ shelf_of old table → Changes old table key None old

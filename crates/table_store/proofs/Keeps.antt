@@ -3,25 +3,19 @@ use Rattle.std.proofs.Common.{◌≡◌, ℕ, ◌+◌, ◌<◌, Bool, true, List
 use Rattle.std.proofs.lemmas.Result.{on_ok_weaker}
 use Rattle.std.proofs.lemmas.List.{take_more}
 use Rattle.std.specs.Map.{values_of}
-use Rattle.std.specs.Prelude.{Option, Some, None, Result, Ok, Err, OnOk, OnErr, IfOk, IsTrue, map, not}
-use Rattle.std.specs.List.{list_all}
+use Rattle.std.specs.Prelude.{Option, Some, None, Result, Ok, Err, OnOk, OnErr, IfOk, IsTrue, map}
 use Rattle.svc_values.specs.declared.value.Value.{Value}
 use Rattle.svc_values.specs.declared.schema.Schema.{Schema}
 use Rattle.svc_values.specs.declared.entry.Write.{Write}
 use Rattle.svc_values.specs.declared.tables.PlainRow.{PlainRow}
-use Rattle.svc_values.specs.declared.tables.Place.TheVariants as place
-use Rattle.svc_values.specs.Tables.{is_at, rows_at, put_row, without, with_write, with_writes, in_order}
-use Rattle.svc_values.specs.Schemas.{schema_of, key_of}
+use Rattle.svc_values.specs.Tables.{with_write, with_writes}
+use Rattle.svc_values.specs.Schemas.{schema_of}
 use Rattle.svc_values.specs.Fitting.{is_row_of, has_fit, write_fits, tables_fit}
 use Rattle.table_store.specs.Rows.{Keyed, Shelves, IsShelved, plain_rows, all_rows}
 use Rattle.table_store.specs.Shelves.{Changes}
-use Rattle.table_store.specs.declared.tables.TableRow.{TableRow}
-use Rattle.table_store.specs.Given.{plain}
-use Rattle.table_store.specs.Stored.{Stored, IsStored, AreKept, AreApart}
-use Rattle.table_store.proofs.Alike.{filter_pass, filter_skip}
-use Rattle.table_store.proofs.Writes.{not_at_first, filter_put_other}
+use Rattle.table_store.specs.Stored.{Stored, IsStored, AreKept}
 use Rattle.table_store.proofs.Maps.{ordered_all}
-use Rattle.table_store.proofs.Changes.{FitsIfAny, rows_changed, all_with_write, both_true}
+use Rattle.table_store.proofs.Changes.{FitsIfAny, rows_changed, all_with_write}
 
 abbrev pub fits_one : List Schema → PlainRow → Bool
 fits_one schemas one = is_row_of (schema_of schemas one.table) one.key one.row
@@ -70,51 +64,6 @@ pub with_writes-last : (tables : List PlainRow) (writes : List Write) (write : W
 with_writes-last tables [] write = refl
 with_writes-last tables (first ∷ rest) write = with_writes-last (with_write tables first) rest write
 
--- ---- the first rows
-
--- rows that are put into order stand where they stood
-pub none_in_order : (rows : List PlainRow) (table : List ℕ) (key : Value) → rows_at rows (place.Row table key) ≡ [] → rows_at (in_order rows) (place.Row table key) ≡ []
-none_in_order [] table key none = refl
-none_in_order (row ∷ rest) table key none =
-    let apart = not_at_first (place.Row table key) row rest none in
-    filter_put_other (is_at (place.Row table key)) row (in_order rest) apart
-    ∙ none_in_order rest table key (sym (filter_skip (is_at (place.Row table key)) row rest apart) ∙ none)
-
--- a place without a row needs no clearing
-pub without_none : (tables : List PlainRow) (table : List ℕ) (key : Value) → rows_at tables (place.Row table key) ≡ [] → without tables table key ≡ tables
-without_none [] table key none = refl
-without_none (row ∷ rest) table key none =
-    let at = is_at (place.Row table key) in
-    let apart = not_at_first (place.Row table key) row rest none in
-    filter_pass (λ r. not (at r)) row rest (ap not apart) ∙ ap (λ l. row ∷ l) (without_none rest table key (sym (filter_skip at row rest apart) ∙ none))
-
-apart_behind : (xs ys : List PlainRow) → AreApart (xs ++ ys) → AreApart ys
-apart_behind [] ys apart = apart
-apart_behind (x ∷ xs) ys apart = apart_behind xs ys apart.1
-
-all_behind : (p : PlainRow → Bool) (xs ys : List PlainRow) → list_all p (xs ++ ys) ≡ true → list_all p ys ≡ true
-all_behind p [] ys all = all
-all_behind p (x ∷ xs) ys all = all_behind p xs ys (both_true (p x) (list_all p (xs ++ ys)) all).1
-
-plain_append : (xs ys : List TableRow) → plain (xs ++ ys) ≡ plain xs ++ plain ys
-plain_append [] ys = refl
-plain_append (x ∷ xs) ys = ap (λ l. record { table = x.table; key = key_of x.row; row = x.row } ∷ l) (plain_append xs ys)
-
--- the row before those that are in
-module _ (all left done : List TableRow) (one : TableRow) (split : all ≡ left ++ one ∷ done) where
-  behind : plain all ≡ plain left ++ plain (one ∷ done)
-  behind = ap plain split ∙ plain_append left (one ∷ done)
-
-  pub fits_next : (schemas : List Schema) → tables_fit schemas (plain all) ≡ true → is_row_of (schema_of schemas one.table) (key_of one.row) one.row ≡ true
-  fits_next schemas fits =
-      let fits_there : list_all (fits_one schemas) (plain left ++ plain (one ∷ done)) ≡ true = subst (λ (rows : List PlainRow). list_all (fits_one schemas) rows ≡ true) behind fits in
-      (both_true (is_row_of (schema_of schemas one.table) (key_of one.row) one.row) (list_all (fits_one schemas) (plain done)) (all_behind (fits_one schemas) (plain left) (plain (one ∷ done)) fits_there)).0
-
-  pub put_next : AreApart (plain all) → with_write (in_order (plain done)) (record { table = one.table; key = key_of one.row; row = Some one.row }) ≡ in_order (plain (one ∷ done))
-  put_next apart =
-      let there : AreApart (plain (one ∷ done)) = apart_behind (plain left) (plain (one ∷ done)) (subst AreApart behind apart) in
-      ap (put_row (record { table = one.table; key = key_of one.row; row = one.row })) (without_none (in_order (plain done)) one.table (key_of one.row) (none_in_order (plain done) one.table (key_of one.row) there.0))
-
 -- ---- writes one after the other, and rows that are copied
 
 pub applied_more : (seen : Stored) (writes items : List Write) (i : ℕ) (item : Write) (now next : Stored) → items ≡ writes → i < length items → item ≡ get_or items i item
@@ -136,13 +85,3 @@ pub of_rows : {A B E : Type 0} (r : Result A E) (f : A → B) (g : List (List Va
     → IfOk r (λ x. f x ≡ g (values_of entries)) → IfOk r (λ x. f x ≡ g (map (λ one. one.row) rows))
 of_rows (Ok x) f g table entries rows found made = made ∙ sym (ap (λ l. g (map (λ one. one.row) l)) found ∙ ap g (rows_of_plain table entries))
 of_rows (Err e) f g table entries rows found made = tt
-
-pub filled_more : (schemas : List Schema) (now next : Stored) (done : List TableRow) (one : TableRow) (key : Value) → key ≡ key_of one.row
-    → now ≡ record { schemas = schemas; rows = in_order (plain done) } → next ≡ record { schemas = now.schemas; rows = with_write now.rows (record { table = one.table; key = key; row = Some one.row }) }
-    → with_write (in_order (plain done)) (record { table = one.table; key = key_of one.row; row = Some one.row }) ≡ in_order (plain (one ∷ done))
-    → next ≡ record { schemas = schemas; rows = in_order (plain (one ∷ done)) }
-filled_more schemas now next done one key key_is before after put =
-    after
-    ∙ ap (λ (k : Value). let t : Stored = record { schemas = now.schemas; rows = with_write now.rows (record { table = one.table; key = k; row = Some one.row }) } in t) key_is
-    ∙ ap (λ (s : Stored). let t : Stored = record { schemas = s.schemas; rows = with_write s.rows (record { table = one.table; key = key_of one.row; row = Some one.row }) } in t) before
-    ∙ ap (λ (rows : List PlainRow). let t : Stored = record { schemas = schemas; rows = rows } in t) put

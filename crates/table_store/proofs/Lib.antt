@@ -3,6 +3,8 @@ pub mod Alike
 pub mod Writes
 pub mod Maps
 pub mod Changes
+pub mod Filled
+pub mod Joined
 pub mod Keeps
 pub mod ValueCmp
 pub mod Offered

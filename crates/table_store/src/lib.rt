@@ -7,4 +7,5 @@ mod shelves;
 mod tables;
 
 pub use row_map::RowMap;
-pub use tables::{TableRow, Tables};
+pub use shelves::TableRows;
+pub use tables::Tables;

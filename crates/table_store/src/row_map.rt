@@ -1,9 +1,12 @@
 //! The rows of one table.
-ghost use Rattle.std.specs.Prelude.{◌≡◌, ◌<◌, ◌^◌, None, OnOk, OnErr, IfOk, [], length, if◌then◌else◌};
+ghost use Rattle.std.specs.Prelude.{◌≡◌, ◌<◌, ◌^◌, None, OnOk, OnErr, IfOk, [], length, map, if◌then◌else◌};
+ghost use Rattle.std.specs.Map.{update_all};
 ghost use Rattle.std.specs.Option.{option_copied};
-ghost use Rattle.std.specs.Ordering.{is_eq};
+ghost use Rattle.std.specs.Ordering.{eq_by_cmp, is_eq};
 ghost use Rattle.svc_values.specs.Order.{value_cmp};
+ghost use Rattle.svc_values.specs.Schemas.{key_of as key_of_def};
 ghost use Rattle.svc_values.specs.declared.value.Value.{Value as ValueSeen};
+ghost use Rattle.table_store.specs.Given.{keyed};
 ghost use Rattle.table_store.specs.Rows.{keyed_of, KeysRise};
 
 use std::alloc::Global;
@@ -93,6 +96,25 @@ impl RowMap {
         Ok(())
     }
 
+    /// Puts each row in the place of that of its key, if any, one after the other. The rows are moved.
+    /// Where there are none yet, it is linear in rows in order of key, and else n log n for n rows.
+    /// After a refusal some of the rows are in.
+    pub(crate) fn put_all(&mut self, rows: Vec<Row>) -> Result<(), NoMemory>
+        ensures ok { OnOk result ((q : ValueSeen) → keyed_of self.new q ≡ update_all (eq_by_cmp value_cmp) (keyed_of self.old) (map keyed rows.items) q) }
+        ensures rising { KeysRise self.new }
+    {
+        let mut more = map_of(self.alloc, rows)?;
+        match Rc::get_mut(&mut self.rows) {
+            Some(rows) => rows.append(&mut more)?,
+            None => {
+                let mut rows = copied(self.alloc, &self.rows)?;
+                rows.append(&mut more)?;
+                self.rows = Rc::new(self.alloc, rows)?;
+            }
+        }
+        Ok(())
+    }
+
     /// Takes the row of a key away, if there is one. It costs what `put` does.
     pub(crate) fn take_away(&mut self, key: &Value) -> Result<(), NoMemory>
         ensures ok { OnOk result ((q : ValueSeen) → keyed_of self.new q ≡ (if is_eq (value_cmp key.now q) then None else keyed_of self.old q)) }
@@ -120,6 +142,37 @@ fn exact(row: Row) -> Row
     let mut values = row.into_vec();
     values.shrink_to_fit();
     Row::from_vec(values)
+}
+
+/// The first value of a row: its key. (A row has a value for each column, and a table has a column.)
+fn key_of(alloc: Global, row: &Row) -> Result<Value, NoMemory>
+    ensures { IfOk result (λ key. key ≡ key_of_def row.now) }
+{
+    match row.get(0) {
+        None => Ok(Value::Int(0)),
+        Some(key) => key.copy(alloc),
+    }
+}
+
+/// Each row with its key. The rows are moved.
+fn entries_of(alloc: Global, rows: Vec<Row>) -> Result<Vec<(Value, Row)>, NoMemory>
+    ensures { IfOk result (λ entries. entries.items ≡ map keyed rows.items) }
+{
+    let mut entries = Vec::with_capacity(alloc, rows.len())?;
+    for row in rows {
+        let key = key_of(alloc, &row)?;
+        entries.push((key, exact(row)))?;
+    }
+    Ok(entries)
+}
+
+/// The rows by their keys, the last one of each key.
+fn map_of(alloc: Global, rows: Vec<Row>) -> Result<BTreeMap<Value, Row>, NoMemory>
+    ensures by_key { IfOk result (λ made. (q : ValueSeen) → keyed_of made.entries q ≡ update_all (eq_by_cmp value_cmp) (λ _. None) (map keyed rows.items) q) }
+    ensures rising { IfOk result (λ made. KeysRise made.entries) }
+{
+    let entries = entries_of(alloc, rows)?;
+    Ok(BTreeMap::from_iter(alloc, entries)?)
 }
 
 /// The same rows in a map of their own.

@@ -1,15 +1,62 @@
 //! The maps of all tables.
-ghost use Rattle.std.specs.Prelude.{◌≡◌, OnOk, OnErr, IfOk, None, Some};
+ghost use Rattle.std.specs.Prelude.{◌≡◌, OnOk, OnErr, IfOk, None, Some, map};
+ghost use Rattle.svc_values.specs.Tables.{in_order};
+ghost use Rattle.table_store.specs.Given.{keyed, plain};
 ghost use Rattle.table_store.specs.Rows.{IsShelved, all_rows};
-ghost use Rattle.table_store.specs.Shelves.{Changes};
+ghost use Rattle.table_store.specs.Shelves.{Changes, ChangesAll};
+ghost use Rattle.table_store.specs.Stored.{AreApart};
 
 use crate::row_map::RowMap;
 use std::alloc::Global;
 use std::collections::BTreeMap;
 use svc_values::{Name, NoMemory, Row, TryCopy, Value};
 
-/// The rows of each table that has had one, by its name.
+/// The rows that a table begins with. The first value of a row is its key.
+#[derive(Drop)]
+pub struct TableRows {
+    pub table: Name,
+    pub rows: Vec<Row>,
+}
+
+/// The rows of each table that has had any, by its name.
 pub(crate) type Shelves = BTreeMap<Name, RowMap>;
+
+/// The rows of these tables, which are moved.
+pub(crate) fn filled(alloc: Global, tables: Vec<TableRows>) -> Result<Shelves, NoMemory>
+    requires { AreApart (plain tables.items) }
+    ensures shelved { IfOk result (λ shelves. IsShelved shelves.entries) }
+    ensures rows { IfOk result (λ shelves. all_rows shelves.entries ≡ in_order (plain tables.items)) }
+{
+    let mut shelves = BTreeMap::new(alloc);
+    for one in tables {
+        let TableRows { table, rows } = one;
+        put_all(alloc, &mut shelves, table, rows)?;
+    }
+    Ok(shelves)
+}
+
+/// Puts each row of a table in the place of that of its key, if any, one after the other. After a
+/// refusal some of them are in.
+fn put_all(
+    alloc: Global,
+    shelves: &mut Shelves,
+    table: Name,
+    rows: Vec<Row>,
+) -> Result<(), NoMemory>
+    requires { IsShelved shelves.old.entries }
+    ensures ok { OnOk result (ChangesAll shelves.old.entries table (map keyed rows.items) shelves.new.entries) }
+    ensures shelved { IsShelved shelves.new.entries }
+{
+    match shelves.get_mut(&table) {
+        Some(there) => there.put_all(rows),
+        None => {
+            let mut there = RowMap::new(alloc)?;
+            there.put_all(rows)?;
+            shelves.insert(table, there)?;
+            Ok(())
+        }
+    }
+}
 
 /// Puts a row in the place of that of its key, if any.
 pub(crate) fn put(

@@ -15,20 +15,12 @@ ghost use Rattle.table_store.specs.Stored.{AreKept, AreApart, HasSome};
 
 use crate::row_map::RowMap;
 use crate::select::selected;
-use crate::shelves::{self, Shelves};
+use crate::shelves::{self, Shelves, TableRows};
 use std::alloc::Global;
-use std::collections::BTreeMap;
 use std::marker::Model;
 use svc_values::{
     Name, NoMemory, Row, Schema, Schemas, Test, TryCopy, Value, Write, Writes, schema_of,
 };
-
-/// A row that a table begins with. Its first value is its key.
-#[derive(Drop)]
-pub struct TableRow {
-    pub table: Name,
-    pub row: Row,
-}
 
 /// The tables of a service with their rows, seen as their declarations and the list of all rows in
 /// the order of table and key.
@@ -51,24 +43,20 @@ impl Model for Tables {
 }
 
 impl Tables {
-    /// Tables with these rows. It takes n log n for n rows, and no row is copied.
-    pub fn new(alloc: Global, schemas: Schemas, mut rows: Vec<TableRow>) -> Result<Tables, NoMemory>
-        requires fitting { IsTrue (tables_fit schemas (plain rows.items)) }
-        requires apart { AreApart (plain rows.items) }
-        ensures made { IfOk result (λ tables. tables ≡ record { schemas = schemas; rows = in_order (plain rows.items) }) }
-        ensures kept { IfOk result (λ tables. AreKept tables) }
+    /// Tables with these rows, which are moved. It is linear in the rows of a table that come in order
+    /// of key, and else takes n log n for n rows.
+    pub fn new(alloc: Global, schemas: Schemas, tables: Vec<TableRows>) -> Result<Tables, NoMemory>
+        requires fitting { IsTrue (tables_fit schemas (plain tables.items)) }
+        requires apart { AreApart (plain tables.items) }
+        ensures made { IfOk result (λ made. made ≡ record { schemas = schemas; rows = in_order (plain tables.items) }) }
+        ensures kept { IfOk result (λ made. AreKept made) }
     {
-        let mut tables = Tables {
+        let shelves = shelves::filled(alloc, tables)?;
+        Ok(Tables {
             schemas,
-            shelves: BTreeMap::new(alloc),
+            shelves,
             alloc,
-        };
-        'filled: while let Some(one) = rows.pop() {
-            let TableRow { table, row } = one;
-            let key = key_of(alloc, &row)?;
-            tables.put(&table, key, row)?;
-        }
-        Ok(tables)
+        })
     }
 
     /// The declaration of a table, `None` exactly where there is no such table. Linear in the tables,
@@ -222,16 +210,6 @@ fn is_key_of(key: &Value, row: &Row) -> bool
     match row.get(0) {
         None => Value::Int(0) == *key,
         Some(first) => *first == *key,
-    }
-}
-
-/// The first value of a row: its key. (A row has a value for each column, and a table has a column.)
-fn key_of(alloc: Global, row: &Row) -> Result<Value, NoMemory>
-    ensures { IfOk result (λ key. key ≡ key_of_def row.now) }
-{
-    match row.get(0) {
-        None => Ok(Value::Int(0)),
-        Some(key) => key.copy(alloc),
     }
 }
 

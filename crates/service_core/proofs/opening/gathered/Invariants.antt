@@ -4,5 +4,5 @@ use Rattle.table_store.specs.Given.{plain}
 use Rattle.commit_log.specs.Bases.{rows_of, schema_in}
 use Rattle.service_core.proofs.opening.gathered.Given as goal
 
-abbrev pub invariant-loop-table : goal.invariant-loop-table
-invariant-loop-table l = (l.schemas.items ++ map schema_in l.table-iterator.rest.items ≡ map schema_in l.fn.tables) × (plain l.rows.items ++ flat_map rows_of l.table-iterator.rest.items ≡ flat_map rows_of l.fn.tables)
+abbrev pub invariant-loop-one : goal.invariant-loop-one
+invariant-loop-one l = (l.schemas.items ++ map schema_in l.one-iterator.rest.items ≡ map schema_in l.fn.tables) × (plain l.given.items ++ flat_map rows_of l.one-iterator.rest.items ≡ flat_map rows_of l.fn.tables)

@@ -11,7 +11,7 @@ use Rattle.service_core.proofs.opening.start_of.Goals as goal
 
 pub new-requires-clause-fitting : goal.new-requires-clause-fitting
 new-requires-clause-fitting c =
-    subst (λ (s : List Schema). IsTrue (tables_fit s (plain c.in_ok-schemas.rows.items))) (sym (c.from_vec.ensures ∙ c.in_ok-schemas.ensures.schemas))
+    subst (λ (s : List Schema). IsTrue (tables_fit s (plain c.in_ok-schemas.given.items))) (sym (c.from_vec.ensures ∙ c.in_ok-schemas.ensures.schemas))
     (subst (λ (r : List PlainRow). IsTrue (tables_fit (schemas_of c.args.base) r)) (sym c.in_ok-schemas.ensures.rows) (start_fits c.args.base c.requires))
 
 pub new-requires-clause-apart : goal.new-requires-clause-apart

@@ -1,21 +1,17 @@
-use Rattle.std.proofs.Common.{ap, ◌∙◌, ◌∷◌, ◌++◌, [], append_assoc}
-use Rattle.table_store.proofs.Keeps.{put_next, filled_more}
+use Rattle.std.proofs.Common.{List, sym, subst}
+use Rattle.std.specs.Prelude.{IsTrue}
+use Rattle.svc_values.specs.declared.tables.PlainRow.{PlainRow}
+use Rattle.svc_values.specs.Fitting.{tables_fit}
+use Rattle.table_store.specs.Given.{plain}
+use Rattle.table_store.proofs.Filled.{all_in_order}
+use Rattle.table_store.proofs.Keeps.{fits_one, kept_from_stored}
 use Rattle.table_store.proofs.tables.Tables.new.Goals as goal
 
-pub filled-preserved : goal.filled-preserved
-filled-preserved c =
-    let so_far = c.filled.invariant in
-    let done = so_far.0 in
-    let one = c.in-Some.one in
-    let left = c.pop.new.self.items in
-    let split = so_far.1.0 ∙ ap (λ l. l ++ done) c.in-Some.ensures.items ∙ append_assoc left (one ∷ []) done in (
-      one ∷ done,
-      (
-        split,
-        (
-          filled_more c.args.schemas c.filled.tables c.put.new.self done one c.in_ok-key.key c.in_ok-key.ensures so_far.1.1.0 c.in_ok-put.ensures.ok
-              (put_next c.args.rows.items left done one split c.requires.apart),
-          c.in_ok-put.ensures.kept,
-        ),
-      ),
-    )
+pub invariant_of-result : goal.invariant_of-result
+invariant_of-result c = record {
+  shelved = c.in_ok-shelves.ensures.shelved;
+  fitting = subst (λ (rows : List PlainRow). IsTrue (tables_fit c.args.schemas rows)) (sym c.in_ok-shelves.ensures.rows) (all_in_order (fits_one c.args.schemas) (plain c.args.tables.items) c.requires.fitting);
+}
+
+pub returns-clause-kept : goal.returns-clause-kept
+returns-clause-kept c = kept_from_stored c.args.schemas c.in_ok-shelves.shelves.entries (invariant_of-result c)
