@@ -1,31 +1,31 @@
--- Where a request takes an outcome that says committed: it sent the call under the identifier that it asked for, and no reply to it was
--- taken.
+-- Where a request has asked for an outcome and the entry of that identifier is there: it sent its next call under the identifier, and no reply to
+-- it was taken.
 use Rattle.std.proofs.Common.{◌≡◌, refl, sym, ap, subst, ◌∙◌, Bool, true, false, ℕ, ◌&&◌, length, List, [], ◌∷◌, filter, Option, Some, None, if◌then◌else◌}
-use Rattle.std.specs.Prelude.{is_some, flat_map}
+use Rattle.std.specs.Prelude.{◌==◌, is_some, flat_map, option_map}
 use Rattle.std.specs.Cmp.Lexicographic.{pointwise}
 use Rattle.std.specs.List.{list_all, list_any}
-use Rattle.std.specs.Option.{option_map_or}
+use Rattle.std.specs.Option.{option_map_or, option_or}
 use Rattle.std.proofs.lemmas.Bool.{and_parts, and_from}
-use Rattle.std.proofs.lemmas.List.{length-map}
 use Rattle.std.proofs.lemmas.List.Folds.{list_all-append}
 use Rattle.svc_values.specs.declared.entry.Ltxid.{Ltxid}
 use Rattle.svc_values.specs.declared.frame.Down.TheVariants as down
 use Rattle.svc_values.specs.Calls.{has_commit}
 use Rattle.svc_values.specs.Identifiers.{same_ltxid}
+use Rattle.svc_values.specs.Same.{same_bool}
 use Rattle.svc_values.specs.SameLaws.{same_ltxid_decides}
-use Rattle.run_clauses.specs.Reports.{shown_call}
+use Rattle.outage_schedule.specs.declared.document.Request.{Request}
+use Rattle.run_clauses.specs.Outcomes.{completed_of}
 use Rattle.client_model.specs.declared.input.Input.TheVariants.{Took}
-use Rattle.client_model.specs.Account.{Account}
 use Rattle.client_model.specs.States.{Asking}
 use Rattle.client_model.specs.Terms.{Phase, Asked}
-use Rattle.client_model.proofs.Offered.{Fits}
+use Rattle.world_model.specs.Clients.{Client, Doing, begun, client_at}
 use Rattle.world_model.specs.Invariant.{Invariant}
 use Rattle.world_model.specs.Links.{Link, link_at}
 use Rattle.world_model.specs.Lost.{lost_links, is_wanted, same_event, is_next, is_asked_next, wants_next}
 use Rattle.world_model.specs.Machines.{Machine}
 use Rattle.world_model.specs.Number.{is_ahead, ahead_rightly}
-use Rattle.world_model.specs.Once.{has_fate}
-use Rattle.world_model.specs.Parts.{Sending, implies, sendings_of, commit_sendings}
+use Rattle.world_model.specs.Once.{has_fate, notes_sendings}
+use Rattle.world_model.specs.Parts.{Sending, implies, scan_of, sendings_of, commit_sendings}
 use Rattle.world_model.specs.Script.{is_sending_of}
 use Rattle.world_model.specs.Shown.{calls_on, ends_own, is_current, is_row, rows_on}
 use Rattle.world_model.specs.Traced.{Traced, Course, course_now, courses_of}
@@ -37,17 +37,13 @@ use Rattle.world_model.proofs.AskedNear.{any_all}
 use Rattle.world_model.proofs.ClientSteps.{HasStepped}
 use Rattle.world_model.proofs.CommittedSendings.{is_unanswered, fated, committed_sending}
 use Rattle.world_model.proofs.Happened.{at_event}
+use Rattle.world_model.proofs.Held.{doing_course}
 use Rattle.world_model.proofs.KeptLost.{entry_counts, one_ahead}
 use Rattle.world_model.proofs.LostKept.{both_all}
 use Rattle.world_model.proofs.LostLists.{lost_of}
-use Rattle.world_model.proofs.LostSteps.{before_so}
-use Rattle.world_model.proofs.RowKept.{at_before}
-use Rattle.world_model.proofs.RowSteps.{before_fits}
 use Rattle.world_model.proofs.SendingSteps.{scan_by}
 use Rattle.world_model.proofs.Sendings.{calls_of, on_of}
 use Rattle.world_model.proofs.SendingsTaken.{taken_among, scan_among}
-use Rattle.world_model.proofs.StepFacts.{account_now}
-use Rattle.world_model.proofs.TalkCounts.{counts_so}
 use Rattle.world_model.proofs.Tests.{eq_from}
 
 -- LISTS -------------------------------------------------------------------------------------------
@@ -77,21 +73,15 @@ lost_all test true (number ∷ []) all = refl
 lost_all test true (number ∷ next ∷ others) all =
     let parts = and_parts (test number) (list_all test (next ∷ others)) all in and_from (test number) (list_all test (lost_of true (next ∷ others))) parts.0 (lost_all test true (next ∷ others) parts.1)
 
--- A STEP ------------------------------------------------------------------------------------------
+-- A STATE -----------------------------------------------------------------------------------------
 
-module _ (t : Traced) (whole : Invariant t) (who : ℕ) (n : Machine) (step : HasStepped t.setting (at_event t.machine) who n) (asking : Asking) (completed alive : Bool)
-    (input : step.input ≡ Took (down.OutcomeIs true completed) alive) (phase : step.before.talk.phase ≡ Asked asking) where
-  abbrev now : Machine
-  now = at_event t.machine
-
+module _ (t : Traced) (whole : Invariant t) (who : ℕ) (client : Client) (here : client_at t.machine.clients who ≡ Some client) (doing : Doing) (now : client.now ≡ Some doing) (asking : Asking) (completed : Bool)
+    (stands : option_map_or (same_bool completed) (completed_of t.entries asking.ltxid) false ≡ true) (phase : doing.talk.phase ≡ Asked asking) where
   abbrev before : Course
-  before = course_now t.setting who (length step.client.past) step.before
+  before = course_now t.setting who (length client.past) doing
 
   abbrev count : ℕ
   count = length before.report.calls
-
-  abbrev account_before : Account
-  account_before = account_now t.setting.terms step.before
 
   abbrev x : Ltxid
   x = asking.ltxid
@@ -99,28 +89,18 @@ module _ (t : Traced) (whole : Invariant t) (who : ℕ) (n : Machine) (step : Ha
   abbrev wanted : Wanted
   wanted = record { ltxid = asking.ltxid; event = asking.event }
 
-  fits_at : (p : Phase) → step.before.talk.phase ≡ p → Fits t.setting.terms step.before.request.calls account_before (before_fits t.setting now whole.orderly.script.talks who n step).gone p
-  fits_at p is =
-      subst (λ (q : Phase). Fits t.setting.terms step.before.request.calls account_before (before_fits t.setting now whole.orderly.script.talks who n step).gone q) is
-      (before_fits t.setting now whole.orderly.script.talks who n step).fits
-
   -- none of those sendings was answered that are of the next call
   all_taken : list_all (taken_among count) (sendings_of before) ≡ true
-  all_taken = subst (λ (n : ℕ). list_all (taken_among n) (sendings_of before) ≡ true) same (scan_among (scan_by before.owner []) step.before.steps refl)
+  all_taken = subst (λ (n : ℕ). list_all (taken_among n) (sendings_of before) ≡ true) same (scan_among (scan_by before.owner []) doing.steps refl)
     where
-      same : (scan_by before.owner step.before.steps).shown ≡ count
-      same =
-          let at = at_before t.setting now whole.orderly.script.talks who n step in
-          let counts : asking.track.call ≡ (scan_by before.owner step.before.steps).shown =
-          eq_from asking.track.call (scan_by before.owner step.before.steps).shown (subst (λ (p : Phase). counts_so (scan_by before.owner step.before.steps).shown p ≡ true) phase at.shown) in
-          let call : asking.track.call ≡ length account_before.shown = (fits_at (Asked asking) phase).0.tracked.call in
-          sym counts ∙ (call ∙ sym (length-map account_before.shown shown_call))
+      same : (scan_by before.owner doing.steps).shown ≡ count
+      same = eq_from (scan_of before).shown count (and_parts ((scan_of before).shown == count) _ (doing_course notes_sendings t who client doing whole.once.noted here now)).0
 
   all_fated : list_all (fated t.machine.links) (sendings_of before) ≡ true
   all_fated =
       unfiltered (λ (s : Sending). option_map_or (has_fate s) (link_at t.machine.links s.connection) false) (λ (s : Sending). has_commit s.call) (sendings_of before)
-      (before_so t whole.orderly who n step (λ course. list_all (λ (s : Sending). option_map_or (has_fate s) (link_at t.machine.links s.connection) false) (commit_sendings course))
-      (each_flat (λ (s : Sending). option_map_or (has_fate s) (link_at t.machine.links s.connection) false) commit_sendings (courses_of t) whole.once.fates) (λ request. refl))
+      (doing_course (λ course. list_all (λ (s : Sending). option_map_or (has_fate s) (link_at t.machine.links s.connection) false) (commit_sendings course)) t who client doing
+      (each_flat (λ (s : Sending). option_map_or (has_fate s) (link_at t.machine.links s.connection) false) commit_sendings (courses_of t) whole.once.fates) here now)
 
   abbrev asked_test : ℕ → Bool
   asked_test number = option_map_or (λ link. is_wanted link wanted && is_next count link) (link_at t.machine.links number) false
@@ -156,19 +136,19 @@ module _ (t : Traced) (whole : Invariant t) (who : ℕ) (n : Machine) (step : Ha
       asked : list_any asked_test (lost_links before) ≡ true
       asked =
           sym (ap (λ (one : Option Wanted). option_map_or (is_asked_next t before) one true) (ap wanted_in phase))
-          ∙ before_so t whole.orderly who n step (wants_next t) whole.lost.next (λ request. refl)
+          ∙ doing_course (wants_next t) t who client doing whole.lost.next here now
 
       own : list_all own_test (lost_links before) ≡ true
-      own = before_so t whole.orderly who n step (λ course. list_all (λ number. option_map_or (ends_own course) (link_at t.machine.links number) false) (lost_links course)) whole.shown.own (λ request. refl)
+      own = doing_course (λ course. list_all (λ number. option_map_or (ends_own course) (link_at t.machine.links number) false) (lost_links course)) t who client doing whole.shown.own here now
 
       sent : list_all sent_test (lost_links before) ≡ true
       sent =
-          lost_all sent_test (is_some step.before.connection) (held_in step.before.steps)
-          (before_so t whole.orderly who n step (λ course. list_all (λ number. option_map_or (λ link. pointwise is_sending_of (calls_of course.owner link.sent) (on_of number (sendings_of course))) (link_at t.machine.links number) false) (held_in course.steps))
-          whole.orderly.script.sent (λ request. refl))
+          lost_all sent_test (is_some doing.connection) (held_in doing.steps)
+          (doing_course (λ course. list_all (λ number. option_map_or (λ link. pointwise is_sending_of (calls_of course.owner link.sent) (on_of number (sendings_of course))) (link_at t.machine.links number) false) (held_in course.steps)) t who client doing
+          whole.orderly.script.sent here now)
 
       row : list_all row_test (lost_links before) ≡ true
-      row = lost_all row_test (is_some step.before.connection) (held_in step.before.steps) (before_so t whole.orderly who n step (rows_on t) whole.shown.rows (λ request. refl))
+      row = lost_all row_test (is_some doing.connection) (held_in doing.steps) (doing_course (rows_on t) t who client doing whole.shown.rows here now)
 
       found : (number : ℕ) × (asked_test number ≡ true) × ((own_test number && (sent_test number && row_test number)) ≡ true)
       found =
@@ -182,7 +162,7 @@ module _ (t : Traced) (whole : Invariant t) (who : ℕ) (n : Machine) (step : Ha
       on number link (Some y) there held same next owns agrees rows =
           let equal : x ≡ y = (same_ltxid_decides x y).0 same in
           let holds : link.held ≡ Some x = held ∙ ap Some (sym equal) in
-          let less = entry_counts t.entries x completed (told_now t whole.orderly whole.shown.answers who n step asking true completed alive input phase) whole.orderly.number.entries in
+          let less = entry_counts t.entries x completed stands whole.orderly.number.entries in
           record {
             number = number;
             link = link;
@@ -205,8 +185,32 @@ module _ (t : Traced) (whole : Invariant t) (who : ℕ) (n : Machine) (step : Ha
           (sym (ap (λ (l : Option Link). option_map_or (λ one. pointwise is_sending_of (calls_of before.owner one.sent) (on_of number (sendings_of before))) l false) there) ∙ agrees)
           (sym (ap (λ (l : Option Link). option_map_or (λ one. is_row before (is_current before number) (calls_on before one)) l false) there) ∙ rows)
 
-  pub sent_one : list_any (is_unanswered x count) (sendings_of before) ≡ true
-  sent_one =
+  pub asked_sent : list_any (is_unanswered x count) (sendings_of before) ≡ true
+  asked_sent =
       committed_sending t.machine.links count asked_on.number asked_on.link x asked_on.there asked_on.held t before (sendings_of before) asked_on.ahead
       (at_link (ahead_rightly t) t.machine.links asked_on.number asked_on.link whole.orderly.number.ahead asked_on.there) asked_on.next asked_on.own asked_on.sent
       (both_all (taken_among count) (fated t.machine.links) (sendings_of before) all_taken all_fated)
+
+-- A STEP ------------------------------------------------------------------------------------------
+
+abbrev has_asked : Phase → Bool
+has_asked (Asked asking) = true
+has_asked _ = false
+
+-- a request that asked for an outcome was in course before the event
+pub asks_before : (t : Traced) (who : ℕ) (n : Machine) (step : HasStepped t.setting (at_event t.machine) who n) (asking : Asking) → step.before.talk.phase ≡ Asked asking → step.client.now ≡ Some step.before
+asks_before t who n step asking phase = by step.client.now refl step.client.next step.does
+  where
+    by : (found : Option Doing) → step.client.now ≡ found → (next : Option Request) → option_or found (option_map (begun t.setting.terms (at_event t.machine).event (at_event t.machine).tick) next) ≡ Some step.before → step.client.now ≡ Some step.before
+    by (Some doing) is next does = is ∙ does
+    by None is (Some request) does =
+        let same : begun t.setting.terms (at_event t.machine).event (at_event t.machine).tick request ≡ step.before = cc in
+        absurd (let never : false ≡ true = ap (λ (doing : Doing). has_asked doing.talk.phase) same ∙ ap has_asked phase in let none : ⊥ = cc in none)
+    by None is None does = absurd (let none : ⊥ = cc in none)
+
+-- so where it takes an outcome that says committed
+pub sent_one : (t : Traced) (whole : Invariant t) (who : ℕ) (n : Machine) (step : HasStepped t.setting (at_event t.machine) who n) (asking : Asking) (completed alive : Bool) → step.input ≡ Took (down.OutcomeIs true completed) alive
+    → step.before.talk.phase ≡ Asked asking
+    → list_any (is_unanswered asking.ltxid (length (course_now t.setting who (length step.client.past) step.before).report.calls)) (sendings_of (course_now t.setting who (length step.client.past) step.before)) ≡ true
+sent_one t whole who n step asking completed alive input phase =
+    asked_sent t whole who step.client step.here step.before (asks_before t who n step asking phase) asking completed (told_now t whole.orderly whole.shown.answers who n step asking true completed alive input phase) phase

@@ -22,6 +22,7 @@ use Rattle.client_model.specs.declared.input.Input.TheVariants.{Took}
 use Rattle.client_model.specs.States.{Asking}
 use Rattle.client_model.specs.Terms.{Asked}
 use Rattle.world_model.specs.Basic.{lives_rightly, none_behind}
+use Rattle.world_model.specs.Clients.{Client, Doing, client_at}
 use Rattle.world_model.specs.Frames.{Sent}
 use Rattle.world_model.specs.Invariant.{Invariant}
 use Rattle.world_model.specs.Machines.{Machine}
@@ -35,7 +36,7 @@ use Rattle.world_model.specs.Traced.{Traced, Course, course_now}
 use Rattle.world_model.proofs.AllLinks.{at_link}
 use Rattle.world_model.proofs.AllLists.{filter_all, weaker_all}
 use Rattle.world_model.proofs.AskedAnswers.{told_now}
-use Rattle.world_model.proofs.AskedSendings.{AskedOn, asked_on, unfiltered}
+use Rattle.world_model.proofs.AskedSendings.{AskedOn, asked_on, asks_before, unfiltered}
 use Rattle.world_model.proofs.ClientSteps.{HasStepped}
 use Rattle.world_model.proofs.CommittedSendings.{CommitOut, commit_out, commit_unmarked}
 use Rattle.world_model.proofs.EntryLinks.{link_ran}
@@ -98,12 +99,12 @@ commit_call : (frame : Up) → is_commit_frame frame ≡ true → is_call frame 
 commit_call (up.Call replay kept call) is = refl
 commit_call frame is = absurd (let none : ⊥ = cc in none)
 
--- A STEP ------------------------------------------------------------------------------------------
+-- A STATE -----------------------------------------------------------------------------------------
 
-module _ (t : Traced) (whole : Invariant t) (who : ℕ) (n : Machine) (step : HasStepped t.setting (at_event t.machine) who n) (asking : Asking) (alive : Bool)
-    (input : step.input ≡ Took (down.OutcomeIs true true) alive) (phase : step.before.talk.phase ≡ Asked asking) where
+module _ (t : Traced) (whole : Invariant t) (who : ℕ) (client : Client) (here : client_at t.machine.clients who ≡ Some client) (doing : Doing) (now : client.now ≡ Some doing) (asking : Asking)
+    (stands : option_map_or (same_bool true) (completed_of t.entries asking.ltxid) false ≡ true) (phase : doing.talk.phase ≡ Asked asking) where
   abbrev before : Course
-  before = course_now t.setting who (length step.client.past) step.before
+  before = course_now t.setting who (length client.past) doing
 
   abbrev count : ℕ
   count = length before.report.calls
@@ -111,8 +112,8 @@ module _ (t : Traced) (whole : Invariant t) (who : ℕ) (n : Machine) (step : Ha
   abbrev x : Ltxid
   x = asking.ltxid
 
-  on : AskedOn t whole who n step asking true alive input phase
-  on = asked_on t whole who n step asking true alive input phase
+  on : AskedOn t whole who client here doing now asking true stands phase
+  on = asked_on t whole who client here doing now asking true stands phase
 
   named : on.link.session ≡ Some (session_of x)
   named = held_session t whole.orderly.basic.named whole.orderly.basic.apart on.number on.link x on.there on.held
@@ -157,7 +158,7 @@ module _ (t : Traced) (whole : Invariant t) (who : ℕ) (n : Machine) (step : Ha
   ran_lone : is_lone_commit ran.did.piece.call ≡ true
   ran_lone =
       let found = completed_passes (λ entry. is_ran t entry && implies (same_ltxid entry.ltxid x) (is_completed_rightly entry)) t.entries x
-      (both_all (is_ran t) (λ entry. implies (same_ltxid entry.ltxid x) (is_completed_rightly entry)) t.entries whole.ran run_entry) (told_now t whole.orderly whole.shown.answers who n step asking true true alive input phase) in
+      (both_all (is_ran t) (λ entry. implies (same_ltxid entry.ltxid x) (is_completed_rightly entry)) t.entries whole.ran run_entry) stands in
       let parts = and_parts (is_ran t found.0) (implies (same_ltxid found.0.ltxid x) (is_completed_rightly found.0)) found.1.0 in
       let its : found.0.ltxid ≡ x = (same_ltxid_decides found.0.ltxid x).0 found.1.1.0 in
       let rightly : is_completed_rightly found.0 ≡ true = implied (same_ltxid found.0.ltxid x) (is_completed_rightly found.0) found.1.1.0 parts.1 in
@@ -167,8 +168,8 @@ module _ (t : Traced) (whole : Invariant t) (who : ℕ) (n : Machine) (step : Ha
       lone_last ran.before ran.did found.0.pieces (sym (ap (λ (some : Option (List ServedCall)). option_map_or (λ dids. are_pieces dids found.0.pieces) some false) over) ∙ pieces)
       (sym ((same_bool_decides found.0.completed (last_lone found.0.pieces)).0 rightly) ∙ found.1.1.1)
 
-  pub lone_now : (call : Call) → slice_get step.before.request.calls count ≡ Some call → is_lone_commit call ≡ true
-  lone_now call is = ap is_lone_commit (sym same) ∙ ran_lone
+  pub asked_lone : (call : Call) → slice_get doing.request.calls count ≡ Some call → is_lone_commit call ≡ true
+  asked_lone call is = ap is_lone_commit (sym same) ∙ ran_lone
     where
       out : CommitOut on.link
       out = commit_out t on.link on.ahead ahead
@@ -208,3 +209,10 @@ module _ (t : Traced) (whole : Invariant t) (who : ℕ) (n : Machine) (step : Ha
               let here : slice_get before.request.calls out.sent.call ≡ Some call = ap (slice_get before.request.calls) at ∙ is in
               (same_call_decides ran.did.piece.call sent).0 called ∙ (same_call_decides sent call).0 (sym (ap (λ (found : Option Call). option_map_or (same_call sent) found false) here) ∙ script)
           by frame called script = absurd (let none : ⊥ = cc in none)
+
+-- A STEP ------------------------------------------------------------------------------------------
+
+pub lone_now : (t : Traced) (whole : Invariant t) (who : ℕ) (n : Machine) (step : HasStepped t.setting (at_event t.machine) who n) (asking : Asking) (alive : Bool) → step.input ≡ Took (down.OutcomeIs true true) alive → step.before.talk.phase ≡ Asked asking
+    → (call : Call) → slice_get step.before.request.calls (length (course_now t.setting who (length step.client.past) step.before).report.calls) ≡ Some call → is_lone_commit call ≡ true
+lone_now t whole who n step asking alive input phase call is =
+    asked_lone t whole who step.client step.here step.before (asks_before t who n step asking phase) asking (told_now t whole.orderly whole.shown.answers who n step asking true true alive input phase) phase call is

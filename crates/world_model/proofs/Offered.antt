@@ -26,3 +26,8 @@ pub use Rattle.world_model.proofs.WantedHorizons.{horizon_of, share, horizon_mor
 pub use Rattle.world_model.proofs.AskedFresh.{IsFresh, opening_fresh}
 pub use Rattle.world_model.proofs.LinkHandled.{commits_behind}
 pub use Rattle.world_model.proofs.RowLast.{is_opening}
+-- a request that has asked for an outcome, whose entry is there, sent its next call under that identifier, and no reply to it was taken; where the
+-- entry is completed that call is a lone commit
+pub use Rattle.world_model.proofs.CommittedSendings.{is_unanswered}
+pub use Rattle.world_model.proofs.AskedSendings.{asked_sent}
+pub use Rattle.world_model.proofs.LoneCalls.{asked_lone}
