@@ -42,6 +42,25 @@ past_holds test made t (suc index) own holds all here =
     all_past test made t.setting (suc index) 0 own.past own.now holds
     (subst (λ (n : ℕ). list_all test (courses_from t.setting n 0 own.past own.now) ≡ true) same (client_courses test t.setting 1 index t.machine.clients own all here))
 
+-- the courses of requests that are over, the first at this place
+abbrev pub courses_over : ℕ → ℕ → List Past → List Course
+courses_over client place [] = []
+courses_over client place (one ∷ past) = course_over client place one ∷ courses_over client (place + 1) past
+
+only_over : (test : Course → Bool) (setting : Setting) (number place : ℕ) (past : List Past) (now : Option Doing) → list_all test (courses_from setting number place past now) ≡ true → list_all test (courses_over number place past) ≡ true
+only_over test setting number place [] now all = refl
+only_over test setting number place (one ∷ past) now all =
+    let both = and_parts (test (course_over number place one)) (list_all test (courses_from setting number (place + 1) past now)) all in
+    and_from (test (course_over number place one)) (list_all test (courses_over number (place + 1) past)) both.0 (only_over test setting number (place + 1) past now both.1)
+
+-- a test of all courses holds of those of a client that are over, each at its place
+pub over_hold : (test : Course → Bool) (t : Traced) (number : ℕ) (own : Client) → list_all test (courses_of t) ≡ true → client_at t.machine.clients number ≡ Some own → list_all test (courses_over number 0 own.past) ≡ true
+over_hold test t zero own all here = absurd (let none : ⊥ = cc in none)
+over_hold test t (suc index) own all here =
+    let same : 1 + index ≡ suc index = omega arith in
+    only_over test t.setting (suc index) 0 own.past own.now
+    (subst (λ (n : ℕ). list_all test (courses_from t.setting n 0 own.past own.now) ≡ true) same (client_courses test t.setting 1 index t.machine.clients own all here))
+
 pub both_hold : {A : Type 0} (one other : A → Bool) (all : List A) → list_all one all ≡ true → list_all other all ≡ true → list_all (λ x. one x && other x) all ≡ true
 both_hold one other [] first second = refl
 both_hold one other (x ∷ all) first second =

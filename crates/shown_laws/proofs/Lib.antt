@@ -8,6 +8,7 @@ pub mod AnswersTold
 pub mod AwaitedFrame
 pub mod BeforeSession
 pub mod CallsFit
+pub mod CallsServed
 pub mod CausedRuns
 pub mod ChainHolds
 pub mod ChainTold
@@ -43,6 +44,7 @@ pub mod LostTold
 pub mod MarksUnblocked
 pub mod NoClose
 pub mod Offered
+pub mod OutcomesSent
 pub mod OutcomesShown
 pub mod OwnSessions
 pub mod OwnShown

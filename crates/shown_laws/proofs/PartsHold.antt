@@ -3,7 +3,7 @@ use Rattle.std.proofs.Common.{◌≡◌, refl, sym, ap, subst, ◌∙◌, Bool, 
 use Rattle.std.specs.Prelude.{IsTrue}
 use Rattle.std.specs.List.{list_all}
 use Rattle.std.specs.Cmp.Lexicographic.{pointwise}
-use Rattle.std.proofs.lemmas.Bool.{and_from}
+use Rattle.std.proofs.lemmas.Bool.{and_parts, and_from}
 use Rattle.svc_values.specs.declared.entry.SessionId.{SessionId}
 use Rattle.svc_values.specs.Identifiers.{same_session}
 use Rattle.svc_values.specs.SameLaws.{same_session_decides}
@@ -21,11 +21,12 @@ use Rattle.world_model.specs.Invariant.{Invariant}
 use Rattle.world_model.specs.Reached.{IsFinishing}
 use Rattle.world_model.specs.Ready.{all_requests_right}
 use Rattle.world_model.specs.Settings.{Setting}
-use Rattle.world_model.specs.Traced.{Traced}
+use Rattle.world_model.specs.Traced.{Traced, Course, course_over, courses_of}
 use Rattle.shown_laws.specs.PartsTold.{IsPartOf, submission_of, ArePartsOf, NoParts, OnePart, HoldsOfParts, SessionsAreAcquired}
 use Rattle.shown_laws.specs.Telling.{steps_told}
 use Rattle.shown_laws.specs.Tellings.{Telling, steps_in_tellings, TellsRequest, TellsPast, OnePast, TellsClient, FinishesTellSteps}
 use Rattle.shown_laws.proofs.BeforeSession.{talks_at}
+use Rattle.shown_laws.proofs.CoursesOver.{courses_over, over_hold}
 use Rattle.shown_laws.proofs.PartsSplit.{part_gives}
 use Rattle.shown_laws.proofs.PartsTold.{parts_told, sessions_listed}
 
@@ -41,12 +42,18 @@ pub record IsTold (setting : Setting) (client place : ℕ) (one : Past) (telling
 abbrev pub HoldsOfTold : (Part → Bool) → Type 0
 HoldsOfTold test = (setting : Setting) (client place : ℕ) (one : Past) (tellings : List Telling) (part : Part) → IsTold setting client place one tellings part → test part ≡ true
 
-parts_hold : (test : Part → Bool) → HoldsOfTold test → (setting : Setting) (client place : ℕ) (past : List Past) (told : List (List Telling)) (parts : List Part) → AreThrough setting.terms past → TellsPast setting client place past told → ArePartsOf past told parts
-    → list_all test parts ≡ true
-parts_hold test holds setting client place _ _ _ through tells NoParts = refl
-parts_hold test holds setting client _ _ _ _ through (OnePast place _ _ _ _ here after) (OnePart one past tellings more part parts is its rest) =
-    and_from (test part) (list_all test parts) (holds setting client place one tellings part (record { through = through.0; tells = here; is = is; parts = its }))
-    (parts_hold test holds setting client (place + 1) past more parts through.1 after rest)
+-- of one whose course passes this test
+abbrev pub HoldsOfCourse : (Course → Bool) → (Part → Bool) → Type 0
+HoldsOfCourse so test =
+    (setting : Setting) (client place : ℕ) (one : Past) (tellings : List Telling) (part : Part) → IsTold setting client place one tellings part → so (course_over client place one) ≡ true → test part ≡ true
+
+parts_hold : (so : Course → Bool) (test : Part → Bool) → HoldsOfCourse so test → (setting : Setting) (client place : ℕ) (past : List Past) (told : List (List Telling)) (parts : List Part) → AreThrough setting.terms past → TellsPast setting client place past told
+    → ArePartsOf past told parts → list_all so (courses_over client place past) ≡ true → list_all test parts ≡ true
+parts_hold so test holds setting client place _ _ _ through tells NoParts all = refl
+parts_hold so test holds setting client _ _ _ _ through (OnePast place _ _ _ _ here after) (OnePart one past tellings more part parts is its rest) all =
+    let both = and_parts (so (course_over client place one)) (list_all so (courses_over client (place + 1) past)) all in
+    and_from (test part) (list_all test parts) (holds setting client place one tellings part (record { through = through.0; tells = here; is = is; parts = its }) both.0)
+    (parts_hold so test holds setting client (place + 1) past more parts through.1 after rest both.1)
 
 -- CLIENTS -----------------------------------------------------------------------------------------
 
@@ -54,16 +61,27 @@ parts_hold test holds setting client _ _ _ _ through (OnePast place _ _ _ _ here
 abbrev pub FinishesStand : Type 0
 FinishesStand = (document : Document) (place : Place) (notes : List Note) (items : List Served) (seen : Seen) (t : Traced) → IsTrue (all_requests_right document) → IsFinishing document place notes items seen t → Invariant t
 
-pub finishes_hold : FinishesStand → FinishesTellSteps → (test : Part → Bool) → HoldsOfTold test → HoldsOfParts test
-finishes_hold stands tell test holds document place notes items seen t client own right finishing here rests =
-    parts_hold test holds t.setting client 0 own.past tells.past (parts_of (map submission_of own.past) (steps_of client (steps_told notes items))) through tells.tells_past
-    (parts_told t.setting client own (steps_of client (steps_told notes items)) through rests tells)
+-- A test of all courses, which the invariant gives, may be taken of each.
+pub finishes_hold_with : FinishesStand → FinishesTellSteps → (so : Traced → Course → Bool) → ((t : Traced) → Invariant t → list_all (so t) (courses_of t) ≡ true) → (test : Part → Bool) → ((t : Traced) → HoldsOfCourse (so t) test) → HoldsOfParts test
+finishes_hold_with stands tell so all test holds document place notes items seen t client own right finishing here rests =
+    parts_hold (so t) test (holds t) t.setting client 0 own.past tells.past (parts_of (map submission_of own.past) (steps_of client (steps_told notes items))) through tells.tells_past
+    (parts_told t.setting client own (steps_of client (steps_told notes items)) through rests tells) (over_hold (so t) t client own (all t inv) here)
   where
+    inv : Invariant t
+    inv = stands document place notes items seen t right finishing
+
     tells : TellsClient t.setting client own (steps_of client (steps_told notes items))
     tells = (tell document place notes items seen t right finishing).each client own here
 
     through : AreThrough t.setting.terms own.past
-    through = (talks_at t.setting.terms t.machine.clients client own (stands document place notes items seen t right finishing).orderly.script.talks here).0
+    through = (talks_at t.setting.terms t.machine.clients client own inv.orderly.script.talks here).0
+
+none_asked : (courses : List Course) → list_all (λ course. true) courses ≡ true
+none_asked [] = refl
+none_asked (one ∷ courses) = none_asked courses
+
+pub finishes_hold : FinishesStand → FinishesTellSteps → (test : Part → Bool) → HoldsOfTold test → HoldsOfParts test
+finishes_hold stands tell test holds = finishes_hold_with stands tell (λ t course. true) (λ t inv. none_asked (courses_of t)) test (λ t setting client place one tellings part told so. holds setting client place one tellings part told)
 
 -- SESSIONS ----------------------------------------------------------------------------------------
 

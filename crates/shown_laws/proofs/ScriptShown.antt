@@ -68,7 +68,7 @@ of_more : (calls : List Call) (items : List Served) (found : Option Served) → 
 of_more calls items None are here = ap (are_of calls) (append-nil items) ∙ are
 of_more calls items (Some one) are here = of_one_more calls items one are (and_parts (at_place calls (length items) one) true here).0
 
-as_long : (shown : List Shown) (items : List Served) → AreShownBy shown items → length shown ≡ length items
+pub as_long : (shown : List Shown) (items : List Served) → AreShownBy shown items → length shown ≡ length items
 as_long _ _ NoneShown = refl
 as_long _ _ (OneShown shown served more items is rest) = ap suc (as_long more items rest)
 

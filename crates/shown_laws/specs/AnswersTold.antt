@@ -9,7 +9,7 @@ use Rattle.outage_schedule.specs.declared.item.Item.TheVariants as item
 use Rattle.outage_schedule.specs.declared.request.RequestReport.{RequestReport}
 use Rattle.run_clauses.specs.Tried.{holds}
 use Rattle.shown_clauses.specs.Parts.{Part}
-use Rattle.shown_clauses.specs.Showings.{Shown, shown_calls, says_completed}
+use Rattle.shown_clauses.specs.Showings.{Shown, shown_calls, says_completed, calls_served}
 use Rattle.shown_laws.specs.PartsTold.{HoldsOfParts}
 use Rattle.shown_laws.specs.ReportsTold.{HoldsOfReports, of_parts}
 
@@ -36,3 +36,13 @@ is_lone one _ = true
 
 abbrev pub outcomes_lone : Part → Bool
 outcomes_lone part = list_all (λ one. is_lone one one.showing.item) (shown_calls part)
+
+abbrev pub OutcomesAreLone : Type 0
+OutcomesAreLone = HoldsOfParts outcomes_lone
+
+-- So each call was served: by its reply, or as a lone commit whose outcome the report has.
+abbrev pub CallsAreServed : Type 0
+CallsAreServed = HoldsOfParts calls_served
+
+abbrev pub ReportsServeCalls : Type 0
+ReportsServeCalls = HoldsOfReports (of_parts calls_served)

@@ -1,5 +1,5 @@
 //! What the lines of `Whole` say of the report of every whole run. Each law is the clause of a function with nothing to run.
-ghost use Rattle.shown_laws.specs.AnswersTold.{ReportsAnswerCalls};
+ghost use Rattle.shown_laws.specs.AnswersTold.{ReportsAnswerCalls, ReportsServeCalls};
 ghost use Rattle.shown_laws.specs.ReportsTold.{ReportsListSessions, ReportsListShowings, ReportsListOutcomes, ReportsTakeReplies, ReportsAreOrdered};
 
 /// The steps of each client, cut by the sessions of its reports: each report lists the sessions that its part acquired, the outcomes that it took,
@@ -37,4 +37,13 @@ pub fn reports_answer_calls()
 {
     crate::laws::steps_are_told();
     crate::whole::calls_are_answered();
+}
+
+/// Each call of each report was served: by a reply to that call of its script, or, where it is a commit without a statement, by an outcome of an
+/// identifier in the list of its transaction.
+pub fn reports_serve_calls()
+    ensures { ReportsServeCalls }
+{
+    crate::laws::steps_are_told();
+    crate::whole::calls_are_served();
 }

@@ -1,5 +1,5 @@
 //! What the lines of `Whole` say of the parts of a client's steps, in every run. Each law is the clause of a function with nothing to run.
-ghost use Rattle.shown_laws.specs.AnswersTold.{CallsAreAnswered};
+ghost use Rattle.shown_laws.specs.AnswersTold.{CallsAreAnswered, OutcomesAreLone, CallsAreServed};
 ghost use Rattle.shown_laws.specs.Identified.{IdentifiersAreStored};
 ghost use Rattle.shown_laws.specs.PartsTold.{SessionsAreAcquired, OutcomesAreTaken, CallsAreShown, RepliesAreTaken, ShownByOwnSessions};
 
@@ -53,6 +53,23 @@ pub fn calls_are_answered()
 {
     world_model::kept_laws::runs_keep_invariant();
     crate::laws::steps_are_told();
+}
+
+/// A call that an outcome showed is a commit without a statement, and the identifier of the outcome stands in the report's list of its transaction.
+pub fn outcomes_are_lone()
+    ensures { OutcomesAreLone }
+{
+    world_model::kept_laws::runs_keep_invariant();
+    crate::laws::steps_are_told();
+}
+
+/// Each call of a report was served: by a reply to that call of its script, of a session of the report, or, where it is a commit without a
+/// statement, by an outcome of an identifier in the list of its transaction, which the report has as committed and completed.
+pub fn calls_are_served()
+    ensures { CallsAreServed }
+{
+    calls_are_answered();
+    outcomes_are_lone();
 }
 
 /// Each call of a report has the identifier of the item that showed it: its session, with the number of that session's entries that were stored up
