@@ -4,7 +4,6 @@ use Rattle.std.specs.Prelude.{slice_get}
 use Rattle.std.specs.List.{list_all}
 use Rattle.std.proofs.lemmas.Bool.{and_parts, and_from}
 use Rattle.svc_values.specs.declared.entry.Ltxid.{Ltxid}
-use Rattle.outage_schedule.specs.declared.document.Document.{Document}
 use Rattle.outage_schedule.specs.declared.item.Item.TheVariants as item
 use Rattle.outage_schedule.specs.declared.item.Served.{Served}
 use Rattle.outage_schedule.specs.declared.note.AskResult.{AskResult}
@@ -13,7 +12,6 @@ use Rattle.shown_clauses.specs.Showings.{showings, showing_at, tried_by_call, ca
 use Rattle.shown_clauses.specs.Steps.{steps_of}
 use Rattle.shown_clauses.specs.Submissions.{Submission}
 use Rattle.world_model.specs.Clients.{Past}
-use Rattle.world_model.specs.Invariant.{Invariant}
 use Rattle.world_model.specs.Once.{are_known, tells_tried}
 use Rattle.world_model.specs.Settings.{Setting}
 use Rattle.world_model.specs.Traced.{Traced, Course, course_over, courses_of}

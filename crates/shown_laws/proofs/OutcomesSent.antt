@@ -1,5 +1,5 @@
 -- Where an outcome showed a call of a request, it was a lone commit of its script, which the request had sent under that identifier.
-use Rattle.std.proofs.Common.{◌≡◌, refl, sym, ap, subst, ◌∙◌, Bool, true, false, ℕ, zero, suc, ◌&&◌, ◌||◌, fold, length, List, [], ◌∷◌, ◌++◌, map, Option, Some, None, option_to_list, ◌⊎◌, inl, inr}
+use Rattle.std.proofs.Common.{◌≡◌, refl, sym, ap, subst, ◌∙◌, append-nil, Bool, true, false, ℕ, ◌&&◌, fold, length, List, [], ◌∷◌, ◌++◌, map, Option, Some, None, option_to_list, ◌⊎◌, inl, inr}
 use Rattle.std.specs.Prelude.{◌==◌, is_none, slice_get, option_and_then}
 use Rattle.std.specs.List.{list_any}
 use Rattle.std.specs.Option.{option_map_or}
@@ -29,7 +29,7 @@ use Rattle.shown_clauses.specs.Showings.{shown_answers, is_showing, showing_of, 
 use Rattle.shown_clauses.specs.Steps.{Step as StepTold}
 use Rattle.world_model.proofs.Offered.{is_unanswered, asked_sent, asked_lone}
 use Rattle.world_model.specs.Clients.{Step, Doing, Client, client_at}
-use Rattle.world_model.specs.Conversing.{IsTalking, Talks}
+use Rattle.world_model.specs.Conversing.{IsTalking}
 use Rattle.world_model.specs.Frames.{Owner}
 use Rattle.world_model.specs.Invariant.{Invariant}
 use Rattle.world_model.specs.Links.{Link, link_at}
@@ -41,6 +41,7 @@ use Rattle.shown_laws.specs.ClientSteps.{TellsReply, TellsKind, Rested, FoundNon
 use Rattle.shown_laws.specs.Tellings.{Telling, steps_in_tellings, Begins, WasThere, BeginsNow, TellsStep, TellsRequest, NoneYet, OneMore}
 use Rattle.shown_laws.proofs.AnswersStand.{reply_stands}
 use Rattle.shown_laws.proofs.BeforeSession.{talks_at}
+use Rattle.shown_laws.proofs.RecordedCalls.{get_push}
 use Rattle.shown_laws.proofs.RequestsAdd.{heard_known, as_list, request_accounted}
 use Rattle.shown_laws.proofs.ScriptShown.{as_long}
 use Rattle.shown_laws.proofs.StepsAdd.{Known, NextCall, may_show}
@@ -69,17 +70,13 @@ sent_later calls owner steps more place x is = record { call = is.call; there = 
 
 -- LISTS -------------------------------------------------------------------------------------------
 
--- one of some, or the one behind them
 get_more : {A : Type 0} (all : List A) (found : Option A) (place : ℕ) (one : A) → slice_get (all ++ option_to_list found) place ≡ Some one → (slice_get all place ≡ Some one) ⊎ ((place ≡ length all) × (found ≡ Some one))
-get_more [] None place one is = inl is
-get_more [] (Some other) zero one is = inr (refl, is)
-get_more [] (Some other) (suc place) one is = inl is
-get_more (first ∷ all) found zero one is = inl is
-get_more (first ∷ all) found (suc place) one is = by (get_more all found place one is)
+get_more {A = A} all None place one is = inl (sym (ap (λ (l : List A). slice_get l place) (append-nil all)) ∙ is)
+get_more {A = A} all (Some other) place one is = by (get_push all other one place is)
   where
-    by : (slice_get all place ≡ Some one) ⊎ ((place ≡ length all) × (found ≡ Some one)) → (slice_get (first ∷ all) (suc place) ≡ Some one) ⊎ ((suc place ≡ length (first ∷ all)) × (found ≡ Some one))
-    by (inl here) = inl here
-    by (inr (same, last)) = inr (ap suc same, last)
+    by : (slice_get all place ≡ Some one) ⊎ ((place ≡ length all) × (other ≡ one)) → (slice_get all place ≡ Some one) ⊎ ((place ≡ length all) × (Some other ≡ Some one))
+    by (inl there) = inl there
+    by (inr last) = inr (last.0, ap Some last.1)
 
 commit_here : (count : ℕ) (x : Ltxid) (sending : Sending) → is_unanswered x count sending ≡ true → is_commit_at count x sending ≡ true
 commit_here count x sending is =
@@ -113,10 +110,10 @@ asked_for session commits _ _ _ (Blocks phase call) x result is = absurd (let no
 asked_for session commits _ _ _ (Tells state y said same) x result is = let its : x ≡ y = cc in record { state = state; is = refl; same = its ∙ same }
 
 -- where it shows a call it says committed and completed
-says_completed : (x : Ltxid) (result : AskResult) → option_map_or (λ answers. true) (shown_answers (item.Outcome x result)) false ≡ true → result ≡ told.Committed true
-says_completed x (told.Committed true) shows = refl
-says_completed x (told.Committed false) shows = absurd (let none : ⊥ = cc in none)
-says_completed x _ shows = absurd (let none : ⊥ = cc in none)
+shows_completed : (x : Ltxid) (result : AskResult) → option_map_or (λ answers. true) (shown_answers (item.Outcome x result)) false ≡ true → result ≡ told.Committed true
+shows_completed x (told.Committed true) shows = refl
+shows_completed x (told.Committed false) shows = absurd (let none : ⊥ = cc in none)
+shows_completed x _ shows = absurd (let none : ⊥ = cc in none)
 
 shown_is : (test : Bool) (one served : Served) → showing_of test one ≡ Some served → (one ≡ served) × (test ≡ true)
 shown_is true one served is = (let same : one ≡ served = cc in same, refl)
@@ -189,7 +186,7 @@ module _ (t : Traced) (inv : Invariant t) (client : ℕ) (own : Client) (here : 
           (taken_as served.session reply.commits doing.talk.phase reply.one.sent reply.sent served.item frame reply.awaited reply.same reply.is_its reply.says) x result is
 
       says : result ≡ told.Committed true
-      says = says_completed x result (sym (ap (λ (one : Item). option_map_or (λ answers. true) (shown_answers one) false) is) ∙ shows)
+      says = shows_completed x result (sym (ap (λ (one : Item). option_map_or (λ answers. true) (shown_answers one) false) is) ∙ shows)
 
 step_sent : (setting : Setting) (client place : ℕ) (request : Request) (steps : List Step) (one : Telling) → TellsStep setting client place request steps one → (served : Served) (x : Ltxid) (result : AskResult) → showing_at one.step ≡ Some served
     → served.item ≡ item.Outcome x result → IsCommitSent request.calls (record { client = client; place = place }) steps (length (account_of setting.terms request.calls (dones_of steps)).shown) x

@@ -25,7 +25,8 @@ pub record InRow (calls : List Call) (since : List Recorded) (purged shown : ℕ
 abbrev pub RowOf : List Call → Account → Type 0
 RowOf calls a = InRow calls a.since_purge a.purged (length a.shown)
 
-get_push : (xs : List Recorded) (x y : Recorded) (place : ℕ) → slice_get (xs ++ x ∷ []) place ≡ Some y → (slice_get xs place ≡ Some y) ⊎ ((place ≡ length xs) × (x ≡ y))
+-- one of some, or the one behind them
+pub get_push : {A : Type 0} (xs : List A) (x y : A) (place : ℕ) → slice_get (xs ++ x ∷ []) place ≡ Some y → (slice_get xs place ≡ Some y) ⊎ ((place ≡ length xs) × (x ≡ y))
 get_push [] x y zero is = inr (refl, let same : x ≡ y = cc in same)
 get_push [] x y (suc place) is = absurd (let none : ⊥ = cc in none)
 get_push (one ∷ xs) x y zero is = inl is
