@@ -14,10 +14,10 @@ use Rattle.shown_laws.proofs.LinksTold.{AllStand, finishes_told}
 use Rattle.shown_laws.proofs.Lookups.{eq_to}
 use Rattle.shown_laws.proofs.SeenLists.{new_own, new_others}
 
-abbrev differ : ℕ → ℕ → Bool
+abbrev pub differ : ℕ → ℕ → Bool
 differ a b = not (a == b)
 
-abbrev numbers : List Link → List ℕ
+abbrev pub numbers : List Link → List ℕ
 numbers links = map (λ one. one.connection) links
 
 apart_from : (a b : ℕ) → differ a b ≡ true → b ≢ a
@@ -35,7 +35,7 @@ other_number a (first ∷ links) zero one all is =
 other_number a (first ∷ links) (suc index) one all is = other_number a links index one (and_parts (differ a first.connection) (all_with (differ a) (numbers links)) all).1 is
 
 -- each that is told is found by its number, for none is told twice
-found_in : (links : List Link) → each_pair differ (numbers links) ≡ true → (index : ℕ) (one : Link) → slice_get links index ≡ Some one → link_of one.connection links ≡ Some one
+pub found_in : (links : List Link) → each_pair differ (numbers links) ≡ true → (index : ℕ) (one : Link) → slice_get links index ≡ Some one → link_of one.connection links ≡ Some one
 found_in [] once index one is = absurd (let none : ⊥ = cc in none)
 found_in (first ∷ links) once zero one is =
     let same : first ≡ one = cc in

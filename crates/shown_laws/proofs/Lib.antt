@@ -7,6 +7,8 @@ pub mod AnswersStand
 pub mod AnswersTold
 pub mod AwaitedFrame
 pub mod BeforeSession
+pub mod BeginOwner
+pub mod BeginsTold
 pub mod CallsFit
 pub mod CallsServed
 pub mod CausedRuns
@@ -49,6 +51,7 @@ pub mod OutcomesShown
 pub mod OwnSessions
 pub mod OwnShown
 pub mod OwnTurns
+pub mod OwnersTold
 pub mod PartsCut
 pub mod PartsHold
 pub mod PartsSplit
@@ -61,6 +64,7 @@ pub mod ReportsTold
 pub mod RequestsAdd
 pub mod RowTurns
 pub mod RunsGrow
+pub mod SaidStays
 pub mod ScriptCalls
 pub mod ScriptShown
 pub mod SeenLists
@@ -69,6 +73,7 @@ pub mod ServedSent
 pub mod ServedStays
 pub mod SessionsApart
 pub mod SessionsReached
+pub mod SessionsTied
 pub mod ShowingsHold
 pub mod ShownOnSessions
 pub mod ShownUnder
@@ -77,6 +82,7 @@ pub mod Standing
 pub mod StepsAdd
 pub mod StepsHeard
 pub mod StepsIdentified
+pub mod StepsOwned
 pub mod StepsTold
 pub mod SubmissionsTold
 pub mod TakenAs
@@ -84,16 +90,19 @@ pub mod TakenHeard
 pub mod TakesTold
 pub mod TermsTold
 pub mod ToldOnce
+pub mod TookTold
 pub mod TriedKept
 pub mod TriedLists
 pub mod TurnBriefs
 pub mod TurnOwner
 pub mod TurnSent
+pub mod TurnsBegun
 pub mod TurnsEvents
 pub mod TurnsHappen
 pub mod TurnsInRuns
 pub mod TurnsKept
 pub mod TurnsOver
+pub mod TurnsOwned
 pub mod TurnsRight
 pub mod TurnsRightRuns
 pub mod TurnsRuns

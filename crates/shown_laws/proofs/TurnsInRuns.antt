@@ -12,7 +12,7 @@ use Rattle.world_model.specs.Traced.{Traced}
 use Rattle.shown_laws.specs.ConnectionLaws.{AreTold}
 use Rattle.shown_laws.specs.Connections.{TellsLinks}
 use Rattle.shown_laws.specs.Telling.{seen_told}
-use Rattle.shown_laws.specs.TurnsOver.{WereTurns, NoneOver, RunsTellOver, FinishesTellOver}
+use Rattle.shown_laws.specs.TurnsOver.{WereTurns, NoneOver, NothingBeside, RunsTellOver, FinishesTellOver}
 use Rattle.shown_laws.specs.TurnsServed.{TellsTurns, RunsTellTurns, FinishesTellTurns}
 use Rattle.shown_laws.proofs.Clock.{HasCome, grows_on, reached_come, finishing_come}
 use Rattle.shown_laws.proofs.EventsTold.{Stands}
@@ -31,13 +31,13 @@ turns_on before after old new event note notes items more one come stands was tu
     (does_turns old.setting (at_event old.machine) stands some seen was.at turns old.machine.tick note more new.machine (follow_does old.setting old.machine event note more new.machine one.follows))
 
 over_on : (before after : Seen) (old new : Traced) (event : Event) (note : Note) (notes : List Note) (items more : List Served) → OneEvent before old event note more [] after new → HasCome notes items old.machine → Stands (at_event old.machine)
-    → AreTold notes items old → TellsTurns old.machine.links (seen_told notes items).links → WereTurns old.machine.links (seen_told notes items).over
-    → WereTurns new.machine.links (seen_told (notes ++ note ∷ []) (items ++ more)).over
+    → AreTold notes items old → TellsTurns old.machine.links (seen_told notes items).links → WereTurns NothingBeside old.machine.links (seen_told notes items).over
+    → WereTurns NothingBeside new.machine.links (seen_told (notes ++ note ∷ []) (items ++ more)).over
 over_on before after old new event note notes items more one come stands are turns over =
     let seen : AllSeen = seen_told notes items in
     let some : 0 < old.machine.event + 1 = omega arith in
-    subst (λ (told : AllSeen). WereTurns new.machine.links told.over) (sym (grows_on before after old new event note notes items more one come).seen)
-    (does_over old.setting (at_event old.machine) stands some seen are.links.at are.sessions turns over old.machine.tick note more new.machine (follow_does old.setting old.machine event note more new.machine one.follows))
+    subst (λ (told : AllSeen). WereTurns NothingBeside new.machine.links told.over) (sym (grows_on before after old new event note notes items more one come).seen)
+    (does_over NothingBeside NothingBeside (λ turn served nothing. nothing) old.setting (at_event old.machine) stands some seen are.links.at are.sessions turns (λ number one turn is has. tt) over old.machine.tick note more new.machine (follow_does old.setting old.machine event note more new.machine one.follows))
 
 module _ (kept : RunsKeepInvariant) (stand : AllStand) where
   pub reached_turns : RunsTellTurns

@@ -45,9 +45,9 @@ same_then : (links between news : List Link) → Grows links between → SameSer
 same_then links between news one same number = let here : GrowsAt links between number = one number in record { more = here.more; is = same number ∙ here.is }
 
 -- what was a turn is one still
-were_still : (links news : List Link) (over : List Turn) → Grows links news → WereTurns links over → WereTurns news over
-were_still links news _ grow NoneOver = NoneOver
-were_still links news _ grow (OneOver turn more was rest) =
+were_still : (Old New : Turn → List Handled → Type 0) → ((turn : Turn) (before : List Handled) → Old turn before → New turn before) → (links news : List Link) (over : List Turn) → Grows links news → WereTurns Old links over → WereTurns New news over
+were_still Old New still links news _ grow NoneOver = NoneOver
+were_still Old New still links news _ grow (OneOver turn more was beside rest) =
     let here : GrowsAt links news was.number = grow was.number in
     OneOver turn more
     (record {
@@ -57,16 +57,16 @@ were_still links news _ grow (OneOver turn more was rest) =
       served = here.is ∙ (ap (λ (served : List Handled). served ++ here.more) was.served ∙ append_assoc was.before was.later here.more);
       calls = was.calls;
     })
-    (were_still links news more grow rest)
+    (still turn was.before beside) (were_still Old New still links news more grow rest)
 
-both_were : (links : List Link) (some others : List Turn) → WereTurns links some → WereTurns links others → WereTurns links (some ++ others)
-both_were links _ others NoneOver last = last
-both_were links _ others (OneOver turn more was rest) last = OneOver turn (more ++ others) was (both_were links more others rest last)
+both_were : (Beside : Turn → List Handled → Type 0) (links : List Link) (some others : List Turn) → WereTurns Beside links some → WereTurns Beside links others → WereTurns Beside links (some ++ others)
+both_were Beside links _ others NoneOver last = last
+both_were Beside links _ others (OneOver turn more was beside rest) last = OneOver turn (more ++ others) was beside (both_were Beside links more others rest last)
 
 -- SERVING -----------------------------------------------------------------------------------------
 
-module _ (number : ℕ) (front : Front) (served : Served) (links : List Link) (told : List Seen) (all : AllTold links told) (at : IsFront links number front) (found : FoundBySession told) (turns : TellsTurns links told) (end : Link) (reply : Option Down)
-    (same : end.served ≡ (after_front front served reply).served) where
+module _ (Beside : Turn → List Handled → Type 0) (number : ℕ) (front : Front) (served : Served) (links : List Link) (told : List Seen) (all : AllTold links told) (at : IsFront links number front) (found : FoundBySession told) (turns : TellsTurns links told)
+    (beside : (one : Seen) (turn : Turn) → link_of number told ≡ Some one → one.turn ≡ Some turn → Beside turn (all_at number links)) (end : Link) (reply : Option Down) (same : end.served ≡ (after_front front served reply).served) where
   abbrev one : Handled
   one = record { sent = front.first; served = served; reply = reply }
 
@@ -87,7 +87,7 @@ module _ (number : ℕ) (front : Front) (served : Served) (links : List Link) (t
       by (inr differ) = record { more = []; is = ap served_in (with_other links number other end differ) ∙ sym (append-nil (all_at other links)) }
 
   -- the turn that a Begin ends
-  own_turn : (seen : Seen) → link_of number told ≡ Some seen → (turn : Option Turn) → seen.turn ≡ turn → WereTurns (with_link links number end) (option_map_or (λ t. t ∷ []) turn [])
+  own_turn : (seen : Seen) → link_of number told ≡ Some seen → (turn : Option Turn) → seen.turn ≡ turn → WereTurns Beside (with_link links number end) (option_map_or (λ t. t ∷ []) turn [])
   own_turn seen is None has = NoneOver
   own_turn seen is (Some turn) has =
       OneOver turn [] (record {
@@ -99,9 +99,9 @@ module _ (number : ℕ) (front : Front) (served : Served) (links : List Link) (t
             ap (λ (l : Option Link). calls_served (served_in l)) (sym at.there)
             ∙ (sym (turns number)
             ∙ (ap (λ (s : Option Seen). option_map_or calls_told s None) is ∙ ap (λ (t : Option Turn). calls_told (record seen { turn = t })) has));
-      }) NoneOver
+      }) (subst (Beside turn) (ap served_in at.there) (beside seen turn is has)) NoneOver
 
-  own_over : (there : Option Link) (seen : Option Seen) → TellsAt number there seen → there ≡ Some front.link → link_of number told ≡ seen → front.link.session ≡ Some served.session → WereTurns (with_link links number end) (over_on (link_of_session served.session told))
+  own_over : (there : Option Link) (seen : Option Seen) → TellsAt number there seen → there ≡ Some front.link → link_of number told ≡ seen → front.link.session ≡ Some served.session → WereTurns Beside (with_link links number end) (over_on (link_of_session served.session told))
   own_over _ _ NoLink is here own = absurd (let none : ⊥ = cc in none)
   own_over _ _ (Unnamed link tells) is here own =
       let it : link ≡ front.link = cc in
@@ -111,22 +111,22 @@ module _ (number : ℕ) (front : Front) (served : Served) (links : List Link) (t
       let both : Some seen.session ≡ Some served.session = sym tells.session ∙ (ap (λ (l : Link). l.session) it ∙ own) in
       let session : seen.session ≡ served.session = cc in
       let by_session : link_of_session served.session told ≡ Some seen = ap (λ (s : SessionId). link_of_session s told) (sym session) ∙ found number seen here in
-      subst (λ (s : Option Seen). WereTurns (with_link links number end) (over_on s)) (sym by_session) (own_turn seen here seen.turn refl)
+      subst (λ (s : Option Seen). WereTurns Beside (with_link links number end) (over_on s)) (sym by_session) (own_turn seen here seen.turn refl)
 
   has_session : NamesSession front served → is_connect served.item ≡ false → front.link.session ≡ Some served.session
   has_session (GivesName gives none) other = absurd (let no : ⊥ = cc in no)
   has_session (HasName has own) other = own
 
   abbrev begins : Type 0
-  begins = WereTurns (with_link links number end) (over_on (link_of_session served.session told))
+  begins = WereTurns Beside (with_link links number end) (over_on (link_of_session served.session told))
 
   begun : NamesSession front served → is_connect served.item ≡ false → begins
   begun names other = own_over (link_at links number) (link_of number told) (all number) at.there refl (has_session names other)
 
-  served_over : NamesSession front served → WereTurns (with_link links number end) (over_by served.session served.item (served_on number served served.item told))
+  served_over : NamesSession front served → WereTurns Beside (with_link links number end) (over_by served.session served.item (served_on number served served.item told))
   served_over names = by served.item (begun names)
     where
-      by : (one : Item) → (is_connect one ≡ false → begins) → WereTurns (with_link links number end) (over_by served.session one (served_on number served one told))
+      by : (one : Item) → (is_connect one ≡ false → begins) → WereTurns Beside (with_link links number end) (over_by served.session one (served_on number served one told))
       by (item.Begin settings) begun = begun refl
       by item.Connect begun = NoneOver
       by (item.Call replay call answers draws) begun = NoneOver
@@ -138,10 +138,10 @@ module _ (number : ℕ) (front : Front) (served : Served) (links : List Link) (t
       by (item.CrashedCall replay call) begun = NoneOver
       by (item.CrashedOutcome x) begun = NoneOver
 
-  stopped_over : NamesSession front served → WereTurns (with_link links number end) (over_by served.session served.item (stopped_on number served served.item told))
+  stopped_over : NamesSession front served → WereTurns Beside (with_link links number end) (over_by served.session served.item (stopped_on number served served.item told))
   stopped_over names = by served.item (begun names)
     where
-      by : (one : Item) → (is_connect one ≡ false → begins) → WereTurns (with_link links number end) (over_by served.session one (stopped_on number served one told))
+      by : (one : Item) → (is_connect one ≡ false → begins) → WereTurns Beside (with_link links number end) (over_by served.session one (stopped_on number served one told))
       by (item.Begin settings) begun = begun refl
       by item.Connect begun = NoneOver
       by (item.Call replay call answers draws) begun = NoneOver
@@ -155,54 +155,64 @@ module _ (number : ℕ) (front : Front) (served : Served) (links : List Link) (t
 
 -- EVENTS ------------------------------------------------------------------------------------------
 
-module _ (setting : Setting) (m : Machine) (stands : Stands m) (some : 0 < m.event) (seen : AllSeen) (all : AllTold m.links seen.links) (found : FoundBySession seen.links) (turns : TellsTurns m.links seen.links) (over : WereTurns m.links seen.over) where
-  rests : (links : List Link) → SameServed m.links links → WereTurns links seen.over
-  rests links same = were_still m.links links seen.over (grows_same m.links links same) over
+module _ (Old New : Turn → List Handled → Type 0) (still : (turn : Turn) (before : List Handled) → Old turn before → New turn before) (setting : Setting) (m : Machine) (stands : Stands m) (some : 0 < m.event) (seen : AllSeen) (all : AllTold m.links seen.links)
+    (found : FoundBySession seen.links) (turns : TellsTurns m.links seen.links) (current : (number : ℕ) (one : Seen) (turn : Turn) → link_of number seen.links ≡ Some one → one.turn ≡ Some turn → Old turn (all_at number m.links)) (over : WereTurns Old m.links seen.over) where
+  rests : (links : List Link) → SameServed m.links links → WereTurns New links seen.over
+  rests links same = were_still Old New still m.links links seen.over (grows_same m.links links same) over
+
+  -- where nothing changes
+  kept : WereTurns New m.links seen.over
+  kept = rests m.links (λ number. refl)
+
+  -- what holds beside the turn that a connection has
+  now : (number : ℕ) (one : Seen) (turn : Turn) → link_of number seen.links ≡ Some one → one.turn ≡ Some turn → New turn (all_at number m.links)
+  now number one turn is has = still turn (all_at number m.links) (current number one turn is has)
 
   -- the turn that an item ends stands before the others
-  ended : (number : ℕ) (front : Front) (served : Served) (at : IsFront m.links number front) (end : Link) (reply : Option Down) → end.served ≡ (after_front front served reply).served → (now : List Turn)
-      → WereTurns (with_link m.links number end) now → WereTurns (with_link m.links number end) (now ++ seen.over)
-  ended number front served at end reply same now were =
-      both_were (with_link m.links number end) now seen.over were (were_still m.links (with_link m.links number end) seen.over (grows number front served m.links seen.links all at found turns end reply same) over)
+  ended : (number : ℕ) (front : Front) (served : Served) (at : IsFront m.links number front) (end : Link) (reply : Option Down) → end.served ≡ (after_front front served reply).served → (last : List Turn)
+      → WereTurns New (with_link m.links number end) last → WereTurns New (with_link m.links number end) (last ++ seen.over)
+  ended number front served at end reply same last were =
+      both_were New (with_link m.links number end) last seen.over were
+      (were_still Old New still m.links (with_link m.links number end) seen.over (grows New number front served m.links seen.links all at found turns (now number) end reply same) over)
 
-  fallen : (links : List Link) (now : List Turn) → WereTurns links now → WereTurns (map (fallen_link m.event) links) now
-  fallen links now were = were_still links (map (fallen_link m.event) links) now (grows_same links (map (fallen_link m.event) links) (each_changed (fallen_link m.event) (fallen_served m.event) links)) were
+  fallen : (links : List Link) (last : List Turn) → WereTurns New links last → WereTurns New (map (fallen_link m.event) links) last
+  fallen links last were = were_still New New (λ turn before is. is) links (map (fallen_link m.event) links) last (grows_same links (map (fallen_link m.event) links) (each_changed (fallen_link m.event) (fallen_served m.event) links)) were
 
   abbrev answered : Front → Served → Option Down
   answered front served = reply_of served.session (commits_after front.link served.item) served.item
 
-  pub does_over : (tick : ℕ) (one : Note) (items : List Served) (n : Machine) → Does setting m one items n → WereTurns n.links (after_happening seen (record { event = m.event; tick = tick; noted = one; items = items })).over
+  pub does_over : (tick : ℕ) (one : Note) (items : List Served) (n : Machine) → Does setting m one items n → WereTurns New n.links (after_happening seen (record { event = m.event; tick = tick; noted = one; items = items })).over
   does_over tick _ _ _ (Goes client did n goes) = rests n.links (goes_served setting m client did n (follow_goes setting m client did n goes))
-  does_over tick _ _ _ (ServesNone connection) = over
+  does_over tick _ _ _ (ServesNone connection) = kept
   does_over tick _ _ _ (Serves connection name front served at ordinary) =
       let on : IsFront m.links connection front = front_is m.links connection front at in
       let same : (handled m.event front served).served ≡ (after_front front served (answered front served)).served = blocked_served m.event front served (answered front served) (is_blocked served.item) in
       ended connection front served on (handled m.event front served) (answered front served) same (over_by served.session served.item (served_on connection served served.item seen.links))
-      (served_over connection front served m.links seen.links all on found turns (handled m.event front served) (answered front served) same (names_ordinary setting m stands some seen all connection front served at ordinary).1)
-  does_over tick _ _ _ (CutsNone connection) = over
+      (served_over New connection front served m.links seen.links all on found turns (now connection) (handled m.event front served) (answered front served) same (names_ordinary setting m stands some seen all connection front served at ordinary).1)
+  does_over tick _ _ _ (CutsNone connection) = kept
   does_over tick _ _ _ (Cuts connection up down reached link at) =
       rests (with_link m.links connection (cut_link m.event up down link)) (with_one m.links connection link (cut_link m.event up down link) (open_is m.links connection link at).0 (cut_served m.event up down link))
-  does_over tick _ _ _ (ReapsNone connection) = over
+  does_over tick _ _ _ (ReapsNone connection) = kept
   does_over tick _ _ _ (Reaps connection) = rests _ (one_changed reaped_link reaped_served m.links connection)
-  does_over tick _ _ _ (IsDown connection) = over
-  does_over tick _ _ _ (Crashes connection failover) = fallen m.links seen.over over
+  does_over tick _ _ _ (IsDown connection) = kept
+  does_over tick _ _ _ (Crashes connection failover) = fallen m.links seen.over kept
   does_over tick _ _ _ (CrashStops connection after failover front served at stopped) =
       let on : IsFront m.links connection front = front_is m.links connection front at in
       let end : Link = after_front front served None in
       fallen (with_link m.links connection end) (over_by served.session served.item (stopped_on connection served served.item seen.links) ++ seen.over)
       (ended connection front served on end None refl (over_by served.session served.item (stopped_on connection served served.item seen.links))
-      (stopped_over connection front served m.links seen.links all on found turns end None refl (names_stopped setting m stands some seen all connection after front served at stopped)))
+      (stopped_over New connection front served m.links seen.links all on found turns (now connection) end None refl (names_stopped setting m stands some seen all connection after front served at stopped)))
   does_over tick _ _ _ (CrashServes connection failover front served at ordinary) =
       let on : IsFront m.links connection front = front_is m.links connection front at in
       let end : Link = handled m.event front served in
       let same : (handled m.event front served).served ≡ (after_front front served (answered front served)).served = blocked_served m.event front served (answered front served) (is_blocked served.item) in
       fallen (with_link m.links connection end) (over_by served.session served.item (stopped_on connection served served.item seen.links) ++ seen.over)
       (ended connection front served on end (answered front served) same (over_by served.session served.item (stopped_on connection served served.item seen.links))
-      (stopped_over connection front served m.links seen.links all on found turns end (answered front served) same (names_ordinary setting m stands some seen all connection front served at ordinary).1))
-  does_over tick _ _ _ Ticks = over
+      (stopped_over New connection front served m.links seen.links all on found turns (now connection) end (answered front served) same (names_ordinary setting m stands some seen all connection front served at ordinary).1))
+  does_over tick _ _ _ Ticks = kept
   does_over tick _ _ _ (Drains closed) = rests _ (drained_served m.event m.pool.idle m.links)
-  does_over tick _ _ _ (IsServers (note.Up incarnation) server is) = over
-  does_over tick _ _ _ (IsServers (note.UpCrash made) server is) = over
-  does_over tick _ _ _ (IsServers (note.Outside ran) server is) = over
-  does_over tick _ _ _ (IsServers (note.Ask x told) server is) = over
+  does_over tick _ _ _ (IsServers (note.Up incarnation) server is) = kept
+  does_over tick _ _ _ (IsServers (note.UpCrash made) server is) = kept
+  does_over tick _ _ _ (IsServers (note.Outside ran) server is) = kept
+  does_over tick _ _ _ (IsServers (note.Ask x told) server is) = kept
   does_over tick _ _ _ (IsServers one server is) = absurd (let none : ⊥ = cc in none)

@@ -8,6 +8,7 @@ use Rattle.std.proofs.lemmas.List.Folds.{list_all-append}
 use Rattle.svc_values.specs.declared.frame.Up.{Up}
 use Rattle.svc_values.specs.declared.frame.Up.TheVariants as up
 use Rattle.shown_clauses.specs.Links.{Link as SeenLink, Turn, link_of}
+use Rattle.shown_clauses.specs.Turns.{is_turn_right}
 use Rattle.world_model.specs.FirstBegins.{begin_once}
 use Rattle.world_model.specs.Frames.{Owner, Sent, Handled}
 use Rattle.world_model.specs.Invariant.{Invariant}
@@ -20,8 +21,9 @@ use Rattle.world_model.specs.Wire.{Stage, New, Greeted, Told, Repeated, Begun, R
 use Rattle.world_model.specs.Words.{held_in}
 use Rattle.shown_laws.specs.OwnTurns.{OnWire}
 use Rattle.shown_laws.specs.ServedSent.{ServesFront, none_blocked}
+use Rattle.shown_laws.specs.TurnRows.{submission_of}
 use Rattle.shown_laws.specs.TurnSent.{IsTurn, calls_with, sent_since}
-use Rattle.shown_laws.specs.TurnsOver.{WereTurns, NoneOver, OneOver}
+use Rattle.shown_laws.specs.TurnsOver.{WereTurns, NoneOver, OneOver, NothingBeside}
 use Rattle.shown_laws.specs.TurnsRight.{RightFor, ServesNone, ServesOwn, AreRight, NoTurns, OneTurn}
 use Rattle.shown_laws.specs.TurnsServed.{calls_served, calls_told, served_in, TellsTurns}
 use Rattle.shown_laws.specs.Unblocked.{serves_unblocked, serve_unblocked}
@@ -147,12 +149,12 @@ held_at courses links (suc index) link owned is = let one : suc index ≡ 1 + in
 -- TURNS -------------------------------------------------------------------------------------------
 
 module _ (t : Traced) (inv : Invariant t) (unblocked : serve_unblocked t ≡ true) (once : begin_once t ≡ true) (near : send_near t ≡ true) where
-  module _ (number : ℕ) (link : Link) (there : link_at t.machine.links number ≡ Some link) (served later : List Handled) (all : link.served ≡ served ++ later) (turn : Turn) (calls : calls_served served ≡ Some turn.calls) where
-    wire : OnWire link served
-    wire = on_wire t number link served later inv.orderly.wire there all
+  module _ (number : ℕ) (link : Link) (there : link_at t.machine.links number ≡ Some link) (served later : List Handled) (all_served : link.served ≡ served ++ later) (turn : Turn) (calls : calls_served served ≡ Some turn.calls) where
+    pub wire : OnWire link served
+    wire = on_wire t number link served later inv.orderly.wire there all_served
 
     quiet : none_blocked served ≡ true
-    quiet = unblocked_before served later (subst (λ (whole : List Handled). none_blocked whole ≡ true) all (at_link serves_unblocked t.machine.links number link unblocked there))
+    quiet = unblocked_before served later (subst (λ (whole : List Handled). none_blocked whole ≡ true) all_served (at_link serves_unblocked t.machine.links number link unblocked there))
 
     front : ServesFront served turn.calls link.sent
     front = serves_a_front served turn.calls link.sent wire.handled quiet calls wire.front
@@ -160,7 +162,7 @@ module _ (t : Traced) (inv : Invariant t) (unblocked : serve_unblocked t ≡ tru
     right : is_right (walk New front.taken) ≡ true
     right = right_front front.taken front.rest New (subst (λ (sents : List Sent). is_right (walk New sents) ≡ true) front.sent wire.grammar)
 
-    abbrev mine : List Sent
+    abbrev pub mine : List Sent
     mine = sent_since (map (λ one. one.sent) served)
 
     its_turn : IsTurn mine
@@ -183,30 +185,55 @@ module _ (t : Traced) (inv : Invariant t) (unblocked : serve_unblocked t ≡ tru
         let parts = and_parts (same_owners own sent.owner) (list_all (λ s. same_owners own s.owner) sents) owned in
         and_from (owned_by course.owner sent) (list_all (owned_by course.owner) sents) (ap (is_of course.owner) (sym (owners_are own sent.owner parts.0) ∙ is) ∙ same) (own_all own course owner sents is same parts.1)
 
-    by_owner : (first : Sent) (more : List Sent) → mine ≡ first ∷ more → (found : Option Owner) → first.owner ≡ found → is_some found ≡ true → option_map_or (is_held_by (courses_of t) number) found true ≡ true → RightFor t number turn
-    by_owner first more is None same some held = absurd (let none : ⊥ = cc in none)
-    by_owner first more is (Some owner) same some held =
+    -- right for a request with this owner, which held the connection
+    pub record OwnRight (owner : Owner) : Type 0 where
+      pub course : Course
+      pub place : ℕ
+      pub at : slice_get (courses_of t) place ≡ Some course
+      pub same : same_owner course.owner owner ≡ true
+      pub held : list_any (λ other. other == number) (held_in course.steps) ≡ true
+      pub right : is_turn_right (submission_of course) turn ≡ true
+
+    -- the owner of the first of its calls
+    pub own_right : (first : Sent) (more : List Sent) → mine ≡ first ∷ more → (owner : Owner) → first.owner ≡ Some owner → OwnRight owner
+    own_right first more is owner same =
+        let all : list_all (held_by (courses_of t) number) (first ∷ more) ≡ true = subst (λ (sents : List Sent). list_all (held_by (courses_of t) number) sents ≡ true) is all_held in
+        let held : option_map_or (is_held_by (courses_of t) number) (Some owner) true ≡ true =
+        subst (λ (found : Option Owner). option_map_or (is_held_by (courses_of t) number) found true ≡ true) same (and_parts (held_by (courses_of t) number first) (list_all (held_by (courses_of t) number) more) all).0 in
         let found : Found (courses_of t) (λ course. same_owner course.owner owner && list_any (λ other. other == number) (held_in course.steps)) = found_any (courses_of t) _ held in
         let parts = and_parts (same_owner found.course.owner owner) (list_any (λ other. other == number) (held_in found.course.steps)) found.passes_it in
         let owned : list_all (λ sent. same_owners its_turn.owner sent.owner) (first ∷ more) ≡ true = subst (λ (sents : List Sent). list_all (λ sent. same_owners its_turn.owner sent.owner) sents ≡ true) is its_turn.owned in
         let mine_is : its_turn.owner ≡ Some owner = owners_are its_turn.owner first.owner (and_parts (same_owners its_turn.owner first.owner) (list_all (λ sent. same_owners its_turn.owner sent.owner) more) owned).0 ∙ same in
-        ServesOwn found.course found.place found.at parts.1
-        (right_turns t inv unblocked once near number found.course served turn
-        (record { link = link; there = there; later = later; all = all; calls = calls; place = found.place; of_run = found.at; held = parts.1; own = own_all its_turn.owner found.course owner mine mine_is parts.0 its_turn.owned }))
+        record {
+          course = found.course;
+          place = found.place;
+          at = found.at;
+          same = parts.0;
+          held = parts.1;
+          right =
+              right_turns t inv unblocked once near number found.course served turn
+              (record { link = link; there = there; later = later; all = all_served; calls = calls; place = found.place; of_run = found.at; held = parts.1; own = own_all its_turn.owner found.course owner mine mine_is parts.0 its_turn.owned });
+        }
+
+    -- where there is none
+    pub none_right : mine ≡ [] → reverse turn.calls ≡ []
+    none_right is = none_served (reverse turn.calls) (mine ++ []) (append-nil mine ∙ is) (serves_its_frames served turn.calls [] wire.handled quiet calls)
+
+    by_owner : (first : Sent) (more : List Sent) → mine ≡ first ∷ more → (found : Option Owner) → first.owner ≡ found → is_some found ≡ true → RightFor t number turn
+    by_owner first more is None same some = absurd (let none : ⊥ = cc in none)
+    by_owner first more is (Some owner) same some = let own : OwnRight owner = own_right first more is owner same in ServesOwn own.course own.place own.at own.held own.right
 
     by_calls : (sents : List Sent) → mine ≡ sents → RightFor t number turn
-    by_calls [] is = ServesNone (none_served (reverse turn.calls) (mine ++ []) (append-nil mine ∙ is) (serves_its_frames served turn.calls [] wire.handled quiet calls))
-    by_calls (first ∷ more) is =
-        by_owner first more is first.owner refl (and_parts (has_owner first) (list_all has_owner more) (subst (λ (sents : List Sent). list_all has_owner sents ≡ true) is all_owned)).0
-        (and_parts (held_by (courses_of t) number first) (list_all (held_by (courses_of t) number) more) (subst (λ (sents : List Sent). list_all (held_by (courses_of t) number) sents ≡ true) is all_held)).0
+    by_calls [] is = ServesNone (none_right is)
+    by_calls (first ∷ more) is = by_owner first more is first.owner refl (and_parts (has_owner first) (list_all has_owner more) (subst (λ (sents : List Sent). list_all has_owner sents ≡ true) is all_owned)).0
 
     right_for : RightFor t number turn
     right_for = by_calls mine refl
 
   -- those that are over
-  pub over_right : (over : List Turn) → WereTurns t.machine.links over → AreRight t over
+  pub over_right : (over : List Turn) → WereTurns NothingBeside t.machine.links over → AreRight t over
   over_right _ NoneOver = NoTurns
-  over_right _ (OneOver turn more was rest) = OneTurn turn more was.number (by (link_at t.machine.links was.number) refl was.served) (over_right more rest)
+  over_right _ (OneOver turn more was beside rest) = OneTurn turn more was.number (by (link_at t.machine.links was.number) refl was.served) (over_right more rest)
     where
       by : (found : Option Link) → link_at t.machine.links was.number ≡ found → served_in found ≡ was.before ++ was.later → RightFor t was.number turn
       by (Some link) there same = right_for was.number link there was.before was.later same turn was.calls

@@ -17,6 +17,7 @@ pub mod Telling
 pub mod Tellings
 pub mod TurnLaws
 pub mod TurnOwner
+pub mod TurnOwners
 pub mod TurnRows
 pub mod TurnSent
 pub mod TurnsOver

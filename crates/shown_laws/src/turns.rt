@@ -5,6 +5,7 @@ ghost use Rattle.shown_laws.specs.HeldTurns.{RunsHaveRightTurns, FinishesHaveRig
 ghost use Rattle.shown_laws.specs.OwnTurns.{OwnTurnsAreRight, TurnsAreOnWire};
 ghost use Rattle.shown_laws.specs.ServedSent.{ServesAFront, ServesItsFrames};
 ghost use Rattle.shown_laws.specs.TurnOwner.{TurnsHaveAllCalls};
+ghost use Rattle.shown_laws.specs.TurnOwners.{RunsTellOwners, WholeRunsOwnTurns};
 ghost use Rattle.shown_laws.specs.TurnRows.{RowsMakeTurnsRight, ServesMarksFirst};
 ghost use Rattle.shown_laws.specs.TurnSent.{TurnsHaveOneOwner};
 ghost use Rattle.shown_laws.specs.TurnsOver.{RunsTellOver, FinishesTellOver};
@@ -94,4 +95,19 @@ pub fn whole_runs_tell_right_turns()
 {
     world_model::kept_laws::runs_keep_invariant();
     told_turns_are_right();
+}
+
+/// Wherever such a run has come to: the session of each connection was acquired by a step of the request that sent last there, and so the request
+/// that sent a Begin which a session served is the one that acquired the session last before. At the end of a whole run each turn that its report
+/// tells is right for that request.
+pub fn turns_are_of_acquirers()
+    ensures reached { RunsTellOwners }
+    ensures run { WholeRunsOwnTurns }
+{
+    world_model::kept_laws::runs_keep_invariant();
+    world_model::same_laws::unserved_begins_are_last();
+    world_model::same_laws::requests_begin_once();
+    world_model::same_laws::requests_send_near();
+    marked_calls_meet_no_block();
+    sessions_are_acquired_by_steps();
 }

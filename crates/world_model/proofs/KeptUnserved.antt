@@ -157,13 +157,13 @@ idle_plain link is idle = none_behind None served link.up link.sent fronts.0 who
 
 -- WHO SENT LAST -----------------------------------------------------------------------------------
 
-abbrev moves : Option Owner → Sent → Option Owner
+abbrev pub moves : Option Owner → Sent → Option Owner
 moves found sent = option_or sent.owner found
 
-last_more : (sents frames : List Sent) → last_owner (sents ++ frames) ≡ fold moves (last_owner sents) frames
+pub last_more : (sents frames : List Sent) → last_owner (sents ++ frames) ≡ fold moves (last_owner sents) frames
 last_more sents frames = fold-append moves None sents frames
 
-stays_own : (owner : Owner) (call : ℕ) (frames : List Up) → fold moves (Some owner) (map (sent_by owner call) frames) ≡ Some owner
+pub stays_own : (owner : Owner) (call : ℕ) (frames : List Up) → fold moves (Some owner) (map (sent_by owner call) frames) ≡ Some owner
 stays_own owner call [] = refl
 stays_own owner call (frame ∷ frames) = stays_own owner call frames
 
@@ -177,7 +177,7 @@ all_own owner call (frame ∷ frames) =
     and_from (is_of_last (Some owner) (sent_by owner call frame)) (list_all (is_of_last (Some owner)) (map (sent_by owner call) frames))
     (or_right (not (is_begin_frame frame)) (same_owners (Some owner) (Some owner)) (owner_self owner)) (all_own owner call frames)
 
-last_is : (found : Option Owner) (sents : List Sent) (last : Sent) (owner : Owner) → last_or None sents ≡ Some last → last.owner ≡ Some owner → fold moves found sents ≡ Some owner
+pub last_is : (found : Option Owner) (sents : List Sent) (last : Sent) (owner : Owner) → last_or None sents ≡ Some last → last.owner ≡ Some owner → fold moves found sents ≡ Some owner
 last_is found [] last owner is mine = absurd (let none : ⊥ = cc in none)
 last_is found (one ∷ []) last owner is mine = let same : one ≡ last = cc in ap (λ (sent : Sent). option_or sent.owner found) same ∙ ap (λ (o : Option Owner). option_or o found) mine
 last_is found (one ∷ two ∷ rest) last owner is mine = last_is (moves found one) (two ∷ rest) last owner is mine

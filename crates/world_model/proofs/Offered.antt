@@ -31,3 +31,5 @@ pub use Rattle.world_model.proofs.RowLast.{is_opening}
 pub use Rattle.world_model.proofs.CommittedSendings.{is_unanswered}
 pub use Rattle.world_model.proofs.AskedSendings.{asked_sent}
 pub use Rattle.world_model.proofs.LoneCalls.{asked_lone}
+-- who sent last where more was sent: a request that says more, or sent last before, and the one whose frame is the last
+pub use Rattle.world_model.proofs.KeptUnserved.{moves, last_more, stays_own, last_is}
