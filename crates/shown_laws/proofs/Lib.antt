@@ -43,8 +43,10 @@ pub mod LinksTold
 pub mod LoneOutcomes
 pub mod Lookups
 pub mod LostTold
+pub mod LoudSteps
 pub mod MarksUnblocked
 pub mod NoClose
+pub mod NoneLeft
 pub mod Offered
 pub mod OutcomesSent
 pub mod OutcomesShown
@@ -52,6 +54,7 @@ pub mod OwnSessions
 pub mod OwnShown
 pub mod OwnTurns
 pub mod OwnersTold
+pub mod PartTurns
 pub mod PartsCut
 pub mod PartsHold
 pub mod PartsSplit
@@ -61,6 +64,7 @@ pub mod RepliesTold
 pub mod ReplyTaken
 pub mod ReportsOrdered
 pub mod ReportsTold
+pub mod ReportsTurns
 pub mod RequestsAdd
 pub mod RowTurns
 pub mod RunsGrow
@@ -90,6 +94,7 @@ pub mod TakenHeard
 pub mod TakesTold
 pub mod TermsTold
 pub mod ToldOnce
+pub mod ToldRise
 pub mod TookTold
 pub mod TriedKept
 pub mod TriedLists

@@ -96,7 +96,7 @@ front_is before limit count (step ∷ steps) is =
         ∙ (ap (λ (l : List Step). step ∷ l) (rest now (suc count) next) ∙ sym (ap (λ (b : Bool). step ∷ cond b (upto count steps) (upto (suc count) steps)) has))
 
 -- and those behind them
-rest_is : (before limit count : ℕ) (steps : List Step) → limit ≡ before + count → rest_of (is_acquired_by limit) (counted_from before steps) ≡ counted_from limit (from count steps)
+pub rest_is : (before limit count : ℕ) (steps : List Step) → limit ≡ before + count → rest_of (is_acquired_by limit) (counted_from before steps) ≡ counted_from limit (from count steps)
 rest_is before limit zero [] is = refl
 rest_is before limit (suc count) [] is = refl
 rest_is before limit count (step ∷ steps) is =

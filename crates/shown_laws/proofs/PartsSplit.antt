@@ -108,10 +108,10 @@ pub data AreSplit : List Past → List (List Telling) → Type 0 where
   OneSplit : (one : Past) (past : List Past) (tellings : List Telling) (more : List (List Telling)) → Split (steps_in_tellings tellings) → OfEach HasIts (steps_in_tellings tellings)
       → length (sessions_told (steps_in_tellings tellings)) ≡ length one.report.sessions → AreSplit past more → AreSplit (one ∷ past) (tellings ∷ more)
 
-abbrev all_told : List (List Telling) → List Step
+abbrev pub all_told : List (List Telling) → List Step
 all_told told = steps_in_tellings (joined told)
 
-told_more : (tellings : List Telling) (more : List (List Telling)) → all_told (tellings ∷ more) ≡ steps_in_tellings tellings ++ all_told more
+pub told_more : (tellings : List Telling) (more : List (List Telling)) → all_told (tellings ∷ more) ≡ steps_in_tellings tellings ++ all_told more
 told_more tellings more = map-append (λ (one : Telling). one.step) tellings (joined more)
 
 -- what stands first of all of them is quiet

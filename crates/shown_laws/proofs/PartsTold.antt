@@ -100,7 +100,7 @@ sessions_listed setting client place past tellings through tells =
     (request_sessions setting client place past.request tellings past.steps tells).0
     ∙ (sym (as_reported past.steps) ∙ ap (λ (copy : RequestReport). copy.sessions) through.reported)
 
-are_split : (setting : Setting) (client place : ℕ) (past : List Past) (told : List (List Telling)) → AreThrough setting.terms past → TellsPast setting client place past told → AreSplit past told
+pub are_split : (setting : Setting) (client place : ℕ) (past : List Past) (told : List (List Telling)) → AreThrough setting.terms past → TellsPast setting client place past told → AreSplit past told
 are_split setting client place _ _ through (NonePast start) = NoneSplit
 are_split setting client place _ _ through (OnePast start one others tellings more tells rest) =
     OneSplit one others tellings more (request_split setting client start one.request tellings one.steps tells) (request_sessions setting client start one.request tellings one.steps tells).1
@@ -110,12 +110,14 @@ now_none : (setting : Setting) (client place : ℕ) (now : Option Doing) (tellin
 now_none setting client place _ _ NoneNow is = refl
 now_none setting client place _ _ (OneNow doing tellings tells) is = absurd (let none : ⊥ = cc in none)
 
+-- all that is told of a client at no request is of those that are over
+pub whole_told : (setting : Setting) (client : ℕ) (own : Client) (told : List StepTold) → own.now ≡ None → (tells : TellsClient setting client own told) → told ≡ steps_in_tellings (joined tells.past)
+whole_told setting client own told rests tells =
+    tells.all ∙ ap steps_in_tellings (ap (λ (now : List Telling). joined tells.past ++ now) (now_none setting client (length own.past) own.now tells.now tells.tells_now rests) ∙ append-nil (joined tells.past))
+
 -- The steps of a client at no request, cut by the sessions of its reports, are those of its requests.
 pub parts_told : (setting : Setting) (client : ℕ) (own : Client) (told : List StepTold) → AreThrough setting.terms own.past → own.now ≡ None → (tells : TellsClient setting client own told)
     → ArePartsOf own.past tells.past (parts_of (map submission_of own.past) told)
 parts_told setting client own told through rests tells =
     subst (ArePartsOf own.past tells.past) (sym (parts_cut (map submission_of own.past) told))
-    (cut_split own.past tells.past told (are_split setting client 0 own.past tells.past through tells.tells_past) (inl whole))
-  where
-    whole : told ≡ steps_in_tellings (joined tells.past)
-    whole = tells.all ∙ ap steps_in_tellings (ap (λ (now : List Telling). joined tells.past ++ now) (now_none setting client (length own.past) own.now tells.now tells.tells_now rests) ∙ append-nil (joined tells.past))
+    (cut_split own.past tells.past told (are_split setting client 0 own.past tells.past through tells.tells_past) (inl (whole_told setting client own told rests tells)))

@@ -70,10 +70,10 @@ pub record IsOfRun (document : Document) (t : Traced) (index : ℕ) (own : Clien
   pub none_left : next_of one.requests (reports_of own.past) ≡ None
 
 module _ (tell : FinishesTellSteps) (document : Document) (report : Report) (seen : Seen) (t : Traced) (server : Server) (right : IsTrue (all_requests_right document)) (reported : IsReported document report seen t server) where
-  run : IsRun document report.notes report.served seen t
+  pub run : IsRun document report.notes report.served seen t
   run = reported.run
 
-  told : TellsClients (setting_of document) t.machine.clients (steps report)
+  pub told : TellsClients (setting_of document) t.machine.clients (steps report)
   told = subst (λ (setting : Setting). TellsClients setting t.machine.clients (steps report)) (finishing_setting document run.place report.notes report.served seen t run.finishing) (tell document run.place report.notes report.served seen t right run.finishing)
 
   pub told_run : length t.machine.clients ≡ length document.clients

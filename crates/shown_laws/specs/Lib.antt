@@ -18,6 +18,7 @@ pub mod Tellings
 pub mod TurnLaws
 pub mod TurnOwner
 pub mod TurnOwners
+pub mod TurnReports
 pub mod TurnRows
 pub mod TurnSent
 pub mod TurnsOver

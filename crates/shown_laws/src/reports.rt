@@ -1,6 +1,7 @@
 //! What the lines of `Whole` say of the report of every whole run. Each law is the clause of a function with nothing to run.
 ghost use Rattle.shown_laws.specs.AnswersTold.{ReportsAnswerCalls, ReportsServeCalls};
 ghost use Rattle.shown_laws.specs.ReportsTold.{ReportsListSessions, ReportsListShowings, ReportsListOutcomes, ReportsTakeReplies, ReportsAreOrdered};
+ghost use Rattle.shown_laws.specs.TurnReports.{ReportsTurnsHaveClients, ReportsTurnsAreRight, ReportsTurnsHaveRequests};
 
 /// The steps of each client, cut by the sessions of its reports: each report lists the sessions that its part acquired, the outcomes that it took,
 /// and the calls that it was shown.
@@ -46,4 +47,16 @@ pub fn reports_serve_calls()
 {
     crate::laws::steps_are_told();
     crate::whole::calls_are_served();
+}
+
+/// Each session in which a request began was acquired by one of the clients. A turn is right for the submission in whose part the step lies by which
+/// its session was acquired, and none was acquired by a step that is of no submission.
+pub fn reports_own_turns()
+    ensures clients { ReportsTurnsHaveClients }
+    ensures right { ReportsTurnsAreRight }
+    ensures requests { ReportsTurnsHaveRequests }
+{
+    world_model::kept_laws::runs_keep_invariant();
+    crate::laws::steps_are_told();
+    crate::turns::turns_are_of_acquirers();
 }
