@@ -15,6 +15,7 @@ use Rattle.world_model.specs.Traced.{Traced}
 use Rattle.shown_laws.specs.TurnOwners.{steps_by_place, meets_at, has_step_at, IsStepOf}
 use Rattle.shown_laws.proofs.ClientsMove.{Leads, GoesOn, IsOver, client_own, client_other}
 use Rattle.shown_laws.proofs.Lookups.{either}
+use Rattle.shown_laws.proofs.RecordedCalls.{get_push}
 use Rattle.shown_laws.proofs.StepsTold.{StepTells, TellsNone, TellsOne, Acts}
 
 -- LISTS -------------------------------------------------------------------------------------------
@@ -27,16 +28,6 @@ get_front (first ∷ xs) ys (suc index) x is = get_front xs ys index x is
 get_last : {A : Type 0} (xs : List A) (x : A) → slice_get (xs ++ x ∷ []) (length xs) ≡ Some x
 get_last [] x = refl
 get_last (first ∷ xs) x = get_last xs x
-
-get_either : {A : Type 0} (xs : List A) (y : A) (index : ℕ) (x : A) → slice_get (xs ++ y ∷ []) index ≡ Some x → (slice_get xs index ≡ Some x) ⊎ ((index ≡ length xs) × (y ≡ x))
-get_either [] y zero x is = let same : y ≡ x = cc in inr (refl, same)
-get_either [] y (suc index) x is = absurd (let none : ⊥ = cc in none)
-get_either (first ∷ xs) y zero x is = inl is
-get_either (first ∷ xs) y (suc index) x is = by (get_either xs y index x is)
-  where
-    by : (slice_get xs index ≡ Some x) ⊎ ((index ≡ length xs) × (y ≡ x)) → (slice_get xs index ≡ Some x) ⊎ ((suc index ≡ suc (length xs)) × (y ≡ x))
-    by (inl there) = inl there
-    by (inr last) = inr (ap suc last.0, last.1)
 
 -- A CLIENT ----------------------------------------------------------------------------------------
 
@@ -84,7 +75,7 @@ module _ (t : Traced) (seen : Seen) (client : ℕ) (did : GoNote) (n : Machine) 
 
       by : (now : Option Doing) → acts.own.now ≡ now → slice_get (past_steps acts.own ++ option_map_or (λ (doing : Doing). doing.steps ∷ []) now []) place ≡ Some is.steps → HasStep acts.moves.next place event
       by None now there = in_past (ap (λ (all : List (List Step)). slice_get all place) (sym (append-nil (past_steps acts.own))) ∙ there)
-      by (Some one) now there = in_course one now (get_either (past_steps acts.own) one.steps place is.steps there)
+      by (Some one) now there = in_course one now (get_push (past_steps acts.own) one.steps is.steps place there)
 
   stays : (owner : Owner) (acquired : Acquired) → IsStepOf t.machine.clients owner acquired → IsStepOf n.clients owner acquired
   stays owner acquired is = by (either owner.client client)
