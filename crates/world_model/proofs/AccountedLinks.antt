@@ -4,23 +4,21 @@ use Rattle.std.proofs.Common.{◌≡◌, refl, ap, subst, ◌∙◌, Bool, true,
 use Rattle.std.specs.Prelude.{not, is_some, is_none}
 use Rattle.std.specs.List.{list_all, list_any, last_or}
 use Rattle.std.specs.Option.{option_map_or}
-use Rattle.std.proofs.lemmas.Bool.{and_parts, and_from, or_cases, or_right}
+use Rattle.std.proofs.lemmas.Bool.{and_parts, and_from, or_cases, or_right, or_left}
 use Rattle.std.proofs.lemmas.List.Folds.{list_any-append}
 use Rattle.svc_values.specs.declared.entry.Ltxid.{Ltxid}
-use Rattle.svc_values.specs.declared.frame.Up.{Up}
-use Rattle.svc_values.specs.declared.frame.Up.TheVariants as up
 use Rattle.svc_values.specs.Identifiers.{same_ltxid}
 use Rattle.svc_values.specs.SameLaws.{same_ltxid_decides}
 use Rattle.outage_schedule.specs.declared.request.Outcome.{Outcome}
 use Rattle.world_model.specs.Frames.{Owner, Sent}
 use Rattle.world_model.specs.Links.{Link, new_link, link_at}
 use Rattle.world_model.specs.Lost.{lost_links, outcome_on, ends_unknown, submitted_on, is_nothing, is_pending, is_wanted, same_event}
-use Rattle.world_model.specs.Parts.{is_unmarked, is_unmarked_frame}
+use Rattle.world_model.specs.Parts.{is_unmarked}
 use Rattle.world_model.specs.Sames.{owned_by}
 use Rattle.world_model.specs.Shown.{is_call}
 use Rattle.world_model.specs.Traced.{Course}
 use Rattle.world_model.specs.Wanted.{Wanted, wanted_in}
-use Rattle.world_model.proofs.CoursesGrow.{or_left}
+use Rattle.world_model.proofs.CallsBefore.{unmarked_called}
 use Rattle.world_model.proofs.KeptLeft.{none_kept, none_weaker}
 use Rattle.world_model.proofs.RowLast.{row_of}
 use Rattle.world_model.proofs.ShutStays.{IsFrozen}
@@ -143,16 +141,8 @@ accounted_later before after more owner outcomes running later link here = by (o
 
 -- WHERE NO CALL WAS SENT --------------------------------------------------------------------------
 
-unmarked_call : (frame : Up) → is_unmarked_frame frame ≡ true → is_call frame ≡ true
-unmarked_call (up.Call mark kept call) unmarked = refl
-unmarked_call up.Connect unmarked = absurd (let none : ⊥ = cc in none)
-unmarked_call (up.Begin settings) unmarked = absurd (let none : ⊥ = cc in none)
-unmarked_call (up.Outcome x) unmarked = absurd (let none : ⊥ = cc in none)
-unmarked_call up.End unmarked = absurd (let none : ⊥ = cc in none)
-unmarked_call up.Close unmarked = absurd (let none : ⊥ = cc in none)
-
 pub none_submitted : (owner : Owner) (sents : List Sent) → row_of owner sents ≡ [] → list_any (λ (sent : Sent). owned_by owner sent && is_unmarked sent) sents ≡ false
 none_submitted owner sents none =
     none_weaker (λ (sent : Sent). owned_by owner sent && is_call sent.frame) (λ (sent : Sent). owned_by owner sent && is_unmarked sent) sents
-    (λ sent here. let parts = and_parts (owned_by owner sent) (is_unmarked sent) here in and_from (owned_by owner sent) (is_call sent.frame) parts.0 (unmarked_call sent.frame parts.1))
+    (λ sent here. let parts = and_parts (owned_by owner sent) (is_unmarked sent) here in and_from (owned_by owner sent) (is_call sent.frame) parts.0 (unmarked_called sent.frame parts.1))
     (none_kept (λ (sent : Sent). owned_by owner sent && is_call sent.frame) sents (ap length none))

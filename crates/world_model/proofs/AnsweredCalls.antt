@@ -39,11 +39,11 @@ use Rattle.world_model.specs.SessionHistory.{served_in, told_with, told_of}
 use Rattle.world_model.specs.Traced.{Traced}
 use Rattle.world_model.specs.Wire.{is_handled, counted_with, handled_from, same_replies}
 use Rattle.world_model.proofs.AllLinks.{at_link}
-use Rattle.world_model.proofs.KeptDraws.{all_from_each}
 use Rattle.world_model.proofs.LinkLives.{implied}
-use Rattle.world_model.proofs.RunStarts.{reached_coupled}
+use Rattle.world_model.proofs.NumbersTurn.{by_index}
+use Rattle.world_model.proofs.RunStarts.{reached_coupled, finishing_reached}
+use Rattle.world_model.proofs.ServedPass.{served_pass}
 use Rattle.world_model.proofs.Tests.{eq_from}
-use Rattle.world_model.proofs.WholeInvariant.{finishing_reached}
 
 -- of a call that was answered
 abbrev pub tells : (Bool → Call → List Answer → Bool) → Up → Telling → Bool
@@ -59,12 +59,13 @@ abbrev pub told_by_item : (Bool → Call → List Answer → Bool) → Item → 
 told_by_item holds (item.Call marked called answers draws) = holds marked called answers
 told_by_item holds _ = true
 
--- a test of the items of each connection
-abbrev pub of_served : (Item → Bool) → Link → Bool
-of_served test link = list_all (λ one. test one.served.item) link.served
-
 abbrev pub of_links : (Item → Bool) → Traced → Bool
-of_links test t = list_all (of_served test) t.machine.links
+of_links test t = list_all (served_pass test) t.machine.links
+
+pub crashed_not : {A : Type 0} (frame : Up) (marked : Bool) (called : Call) (answers : List Answer) (draws : List Draw) → is_crashed_item frame (item.Call marked called answers draws) ≡ true → A
+crashed_not (up.Call replay kept sent) marked called answers draws is = absurd (let none : ⊥ = cc in none)
+crashed_not (up.Outcome x) marked called answers draws is = absurd (let none : ⊥ = cc in none)
+crashed_not frame marked called answers draws is = absurd (let none : ⊥ = cc in none)
 
 module _ (holds : Bool → Call → List Answer → Bool) (calls_tell : CallsTell holds) where
   -- ONE FRAME -------------------------------------------------------------------------------------
@@ -130,11 +131,6 @@ module _ (holds : Bool → Call → List Answer → Bool) (calls_tell : CallsTel
 
   -- CONNECTIONS -----------------------------------------------------------------------------------
 
-  crashed_not : {A : Type 0} (frame : Up) (marked : Bool) (called : Call) (answers : List Answer) (draws : List Draw) → is_crashed_item frame (item.Call marked called answers draws) ≡ true → A
-  crashed_not (up.Call replay kept sent) marked called answers draws is = absurd (let none : ⊥ = cc in none)
-  crashed_not (up.Outcome x) marked called answers draws is = absurd (let none : ⊥ = cc in none)
-  crashed_not frame marked called answers draws is = absurd (let none : ⊥ = cc in none)
-
   -- the item of a call, by what its reply tells
   call_tells : (frame : Up) (reply : Option Down) (marked : Bool) (called : Call) (answers : List Answer) (draws : List Draw) (x : Ltxid) → is_item_of frame (item.Call marked called answers draws) ≡ true → same_replies reply (Some (down.Reply answers draws x)) ≡ true
       → tells holds frame (telling_of reply) ≡ true → holds marked called answers ≡ true
@@ -179,7 +175,7 @@ module _ (holds : Bool → Call → List Answer → Bool) (calls_tell : CallsTel
         nil_from_length link.served (eq_from (length link.served) 0 (implied (is_none link.session) (length link.served == 0) (ap is_none none) two.0))
 
     pub runs_hold : RunsAreOrderly → RunsServe → HoldsInRuns (of_links test)
-    runs_hold orderly serve document events notes items seen t requests reached = all_from_each (of_served test) t.machine.links (λ index link there. by index link there link.session refl)
+    runs_hold orderly serve document events notes items seen t requests reached = by_index (served_pass test) t.machine.links (λ index link there. by index link there link.session refl)
       where
         inv : Orderly t
         inv = orderly document events notes items seen t requests reached
@@ -187,7 +183,7 @@ module _ (holds : Bool → Call → List Answer → Bool) (calls_tell : CallsTel
         whole : list_all told_rightly seen.history ≡ true
         whole = let coupled = reached_coupled document events notes items seen t reached in history_tells seen.start seen.history coupled.history.server coupled.history.runs
 
-        by : (index : ℕ) (link : Link) → slice_get t.machine.links index ≡ Some link → (session : Option SessionId) → link.session ≡ session → of_served test link ≡ true
+        by : (index : ℕ) (link : Link) → slice_get t.machine.links index ≡ Some link → (session : Option SessionId) → link.session ≡ session → served_pass test link ≡ true
         by index link there None is = ap (list_all (λ (one : Handled). test one.served.item)) (unnamed_none link (at_link is_named t.machine.links (suc index) link inv.basic.named there) is)
         by index link there (Some session) is =
             all_tell 0 link.served (at_link (λ l. handled_from 0 l.served) t.machine.links (suc index) link inv.wire.handled there)

@@ -23,7 +23,6 @@ use Rattle.world_model.specs.Parts.{Sending, Scan, answered, with_taken}
 use Rattle.world_model.specs.Traced.{Traced}
 use Rattle.world_model.proofs.ClientSteps.{HasStepped, HeardOn, OfNone, OfIdle, OfNew, OfReply, OfEnded, is_frame}
 use Rattle.world_model.proofs.FateSteps.{Taking}
-use Rattle.world_model.proofs.Fates.{none_is}
 use Rattle.world_model.proofs.FateTops.{last_open, scan_on}
 use Rattle.world_model.proofs.Happened.{at_event}
 use Rattle.world_model.proofs.Placing.{said as spoken_frames}
@@ -31,7 +30,7 @@ use Rattle.world_model.proofs.SendingSteps.{scan_by, heard_scan}
 use Rattle.world_model.proofs.StepFacts.{first_step, first_doing}
 use Rattle.world_model.proofs.TalkShows.{ShowsBy, ByReply, ByOutcome, taken_shows}
 use Rattle.world_model.proofs.TalkTop.{top_open}
-use Rattle.world_model.proofs.Tests.{eq_from}
+use Rattle.world_model.proofs.Tests.{eq_from, none_is}
 
 module _ (t : Traced) (inv : Orderly t) (apart : are_apart t ≡ true) (new : Traced) (who : ℕ) (step : HasStepped t.setting (at_event t.machine) who new.machine) where
   abbrev m : Machine

@@ -24,6 +24,7 @@ use Rattle.world_model.proofs.AllLinks.{at_link}
 use Rattle.world_model.proofs.AskedNear.{front_all}
 use Rattle.world_model.proofs.LinkHandled.{commits_behind, is_commit_of, behind_is}
 use Rattle.world_model.proofs.LinkLives.{counts_commits}
+use Rattle.world_model.proofs.LinkNumbers.{crashed_commits}
 use Rattle.world_model.proofs.RowLast.{is_opening, opening_calls}
 use Rattle.world_model.proofs.Stages.{last_all}
 use Rattle.world_model.proofs.Tests.{eq_from, le_from}
@@ -63,11 +64,6 @@ item_plain up.End item.End its plain = refl
 item_plain up.Close item.Close its plain = refl
 item_plain frame one its plain = absurd (let none : ⊥ = cc in none)
 
-stopped_plain : (frame : Up) (one : Item) → is_crashed_item frame one ≡ true → is_commit one ≡ false
-stopped_plain (up.Call mark kept called) (item.CrashedCall marked call) its = refl
-stopped_plain (up.Outcome x) (item.CrashedOutcome asked) its = refl
-stopped_plain frame one its = absurd (let none : ⊥ = cc in none)
-
 plain_item : (commits : ℕ) (one : Handled) → is_handled commits one ≡ true → no_call one.sent ≡ true → is_commit one.served.item ≡ false
 plain_item commits one handled plain =
     by (or_cases (is_item_of one.sent.frame one.served.item && same_replies one.reply (reply_of one.served.session commits one.served.item)) (is_crashed_item one.sent.frame one.served.item && is_none one.reply) handled)
@@ -75,7 +71,7 @@ plain_item commits one handled plain =
     by : ((is_item_of one.sent.frame one.served.item && same_replies one.reply (reply_of one.served.session commits one.served.item)) ≡ true) ⊎ ((is_crashed_item one.sent.frame one.served.item && is_none one.reply) ≡ true)
         → is_commit one.served.item ≡ false
     by (inl so) = item_plain one.sent.frame one.served.item (and_parts (is_item_of one.sent.frame one.served.item) (same_replies one.reply (reply_of one.served.session commits one.served.item)) so).0 plain
-    by (inr so) = stopped_plain one.sent.frame one.served.item (and_parts (is_crashed_item one.sent.frame one.served.item) (is_none one.reply) so).0
+    by (inr so) = crashed_commits one.sent.frame one.served.item (and_parts (is_crashed_item one.sent.frame one.served.item) (is_none one.reply) so).0
 
 -- so nothing is committed by them
 behind_none : (commits : ℕ) (before rest : List Handled) → handled_from commits (before ++ rest) ≡ true → list_all (λ one. no_call one.sent) (before ++ rest) ≡ true → commits_behind commits before ≡ commits

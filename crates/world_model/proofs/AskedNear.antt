@@ -1,6 +1,6 @@
 -- An identifier whose outcome is asked on a connection is held on another one, so its session is near it.
 use Rattle.std.proofs.Common.{◌≡◌, refl, sym, ap, subst, ◌∙◌, Bool, true, false, ℕ, suc, zero, ◌+◌, ◌≤◌, ◌&&◌, ◌||◌, List, [], ◌∷◌, ◌++◌, map, fold, Option, Some, None, ◌⊎◌, inl, inr, arith}
-use Rattle.std.specs.Prelude.{◌==◌, not, nat_le, slice_get, is_some}
+use Rattle.std.specs.Prelude.{◌==◌, not, nat_le, is_some}
 use Rattle.std.specs.List.{list_all, list_any}
 use Rattle.std.specs.Option.{option_map_or}
 use Rattle.std.proofs.lemmas.Bool.{and_parts, and_from, or_cases}
@@ -28,7 +28,7 @@ use Rattle.world_model.proofs.AllLinks.{at_link}
 use Rattle.world_model.proofs.GainedQuiet.{number_named}
 use Rattle.world_model.proofs.LinkCounts.{extra_few}
 use Rattle.world_model.proofs.LinkNamed.{is_of_one, held_of, named_held}
-use Rattle.world_model.proofs.Strangers.{same_owner_is}
+use Rattle.world_model.proofs.Strangers.{same_owner_is, owned_from}
 use Rattle.world_model.proofs.Tests.{le_from, same_session_is}
 
 -- FRONTS ------------------------------------------------------------------------------------------
@@ -118,9 +118,6 @@ step_greeted stage owner frame = refl
 abbrev pub stages : Stage → List Sent → Stage
 stages stage sents = fold (λ s sent. next_stage s sent.owner sent.frame) stage sents
 
-wrong_next : (owner : Option Owner) (frame : Up) → next_stage Wrong owner frame ≡ Wrong
-wrong_next owner frame = refl
-
 wrong_stays : (sents : List Sent) → stages Wrong sents ≡ Wrong
 wrong_stays [] = refl
 wrong_stays (sent ∷ sents) = wrong_stays sents
@@ -155,19 +152,6 @@ any_one {A} p (x ∷ xs) any = by (or_cases (p x) (list_any p xs) any) (λ later
     by : (p x ≡ true) ⊎ (list_any p xs ≡ true) → (list_any p xs ≡ true → (y : A) × (p y ≡ true)) → (y : A) × (p y ≡ true)
     by (inl here) again = (x, here)
     by (inr later) again = again later
-
-owned_from : (courses : List Course) (start : ℕ) (links : List Link) (index number : ℕ) (link : Link) → number ≡ start + index → owned_rightly courses start links ≡ true → slice_get links index ≡ Some link
-    → list_all (λ sent. option_map_or (is_held_by courses number) sent.owner true) link.sent ≡ true
-owned_from courses start [] index number link same all there = absurd (let none : ⊥ = cc in none)
-owned_from courses start (first ∷ links) zero number link same all there =
-    let equal : first ≡ link = cc in
-    let now : start ≡ number = omega arith in
-    subst (λ (l : Link). list_all (λ sent. option_map_or (is_held_by courses number) sent.owner true) l.sent ≡ true) equal
-    (subst (λ (n : ℕ). list_all (λ sent. option_map_or (is_held_by courses n) sent.owner true) first.sent ≡ true) now
-    (and_parts (list_all (λ sent. option_map_or (is_held_by courses start) sent.owner true) first.sent) (owned_rightly courses (start + 1) links) all).0)
-owned_from courses start (first ∷ links) (suc index) number link same all there =
-    let next : number ≡ (start + 1) + index = omega arith in
-    owned_from courses (start + 1) links index number link next (and_parts (list_all (λ sent. option_map_or (is_held_by courses start) sent.owner true) first.sent) (owned_rightly courses (start + 1) links) all).1 there
 
 pub owned_at : (t : Traced) (number : ℕ) (link : Link) → owned_rightly (courses_of t) 1 t.machine.links ≡ true → link_at t.machine.links number ≡ Some link → list_all (λ sent. option_map_or (is_held_by (courses_of t) number) sent.owner true) link.sent ≡ true
 owned_at t zero link all there = absurd (let none : ⊥ = cc in none)

@@ -35,13 +35,9 @@ use Rattle.world_model.proofs.SlotsAll.{try_slot, held_by}
 use Rattle.world_model.proofs.SlotsLent.{slot_now, holds_slot_now, slots_count}
 use Rattle.world_model.proofs.Strangers.{frame_now}
 use Rattle.world_model.proofs.TalkRests.{frame_holds}
-use Rattle.world_model.proofs.Tests.{eq_from}
+use Rattle.world_model.proofs.Tests.{eq_from, one_if}
 
 -- SLOTS -------------------------------------------------------------------------------------------
-
-one_if : (test : Bool) → test ≡ true → ◌≡◌ {A = ℕ} (cond test 1 0) 1
-one_if true is = refl
-one_if false is = absurd (let none : ⊥ = cc in none)
 
 slots_some : (clients : List Client) (number : ℕ) (client : Client) → client_at clients number ≡ Some client → holds_slot_now client ≡ true → 0 < count_by holds_slot_now clients
 slots_some clients number client here slot =

@@ -1,5 +1,5 @@
 -- A request that steps has a call left.
-use Rattle.std.proofs.Common.{◌≡◌, refl, sym, ap, ◌∙◌, Bool, true, false, length, List, [], ◌∷◌, Some, None, ℕ}
+use Rattle.std.proofs.Common.{◌≡◌, refl, sym, ap, ◌∙◌, Bool, true, false, length, Some, None, ℕ}
 use Rattle.std.specs.Prelude.{◌==◌, not, slice_get, is_some}
 use Rattle.std.proofs.lemmas.Bool.{and_parts}
 use Rattle.svc_values.specs.declared.call.Call.{Call}
@@ -18,15 +18,12 @@ use Rattle.world_model.proofs.Happened.{at_event}
 use Rattle.world_model.proofs.KeptFailed.{idle_wants}
 use Rattle.world_model.proofs.KeptTold.{talk_is}
 use Rattle.world_model.proofs.LinkLives.{implied}
+use Rattle.world_model.proofs.LinkStage.{left_some}
 use Rattle.world_model.proofs.LostSteps.{is_doing, wanted}
 use Rattle.world_model.proofs.RowSteps.{before_fits}
 use Rattle.world_model.proofs.StepFacts.{account_now, before_talks}
 use Rattle.world_model.proofs.Strangers.{doing_ready}
 use Rattle.world_model.proofs.TalkRuns.{is_idle}
-
-first_some : (calls : List Call) → not (length calls == 0) ≡ true → is_some (slice_get calls 0) ≡ true
-first_some [] some = absurd (let none : ⊥ = cc in none)
-first_some (call ∷ calls) some = refl
 
 module _ (t : Traced) (inv : Orderly t) (who : ℕ) (n : Machine) (step : HasStepped t.setting (at_event t.machine) who n) where
   abbrev m : Machine
@@ -38,7 +35,7 @@ module _ (t : Traced) (inv : Orderly t) (who : ℕ) (n : Machine) (step : HasSte
   -- before the first Begin
   fresh_left : is_unbegun step.before.talk.phase ≡ true → is_some (next_call step.before.talk) ≡ true
   fresh_left fresh =
-      first_some step.before.talk.left
+      left_some step.before.talk.left
       (implied (is_unbegun step.before.talk.phase) (not (length step.before.talk.left == 0)) fresh
       (and_parts (implies (is_unbegun step.before.talk.phase) (not (length step.before.talk.left == 0))) _ (doing_ready t.setting m who step.before _ inv.script.ready (is_doing t inv who n step))).0)
 

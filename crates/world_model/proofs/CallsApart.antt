@@ -1,6 +1,6 @@
 -- Each call that was served on a connection is of a request that had it, and two calls that a request sent on one connection are never the same call of it.
-use Rattle.std.proofs.Common.{◌≡◌, refl, sym, ap, subst, ◌∙◌, arith, ℕ, suc, zero, ◌+◌, ◌<◌, ◌≤◌, ◌&&◌, ◌||◌, not, cond, Bool, true, false, filter, List, [], ◌∷◌, map, Option, Some, None, ◌⊎◌, inl, inr}
-use Rattle.std.specs.Prelude.{◌==◌, is_none, is_some, slice_get}
+use Rattle.std.proofs.Common.{◌≡◌, refl, sym, ap, subst, ◌∙◌, arith, ℕ, suc, zero, ◌+◌, ◌<◌, ◌≤◌, ◌&&◌, not, cond, Bool, true, false, filter, List, [], ◌∷◌, map, Option, Some, None, ◌⊎◌, inl, inr}
+use Rattle.std.specs.Prelude.{◌==◌, is_some, slice_get}
 use Rattle.std.specs.List.{list_all, list_any}
 use Rattle.std.specs.Option.{option_map_or}
 use Rattle.std.proofs.lemmas.Bool.{and_parts, and_from}
@@ -18,50 +18,19 @@ use Rattle.world_model.specs.Serving.{is_item_of}
 use Rattle.world_model.specs.Shown.{is_call, in_row, first_of, calls_on, is_row, is_current, rows_on}
 use Rattle.world_model.specs.StoredOnce.{is_call as is_call_item}
 use Rattle.world_model.specs.Traced.{Traced, Course, courses_of}
-use Rattle.world_model.specs.Wire.{up_of, is_sent_front, handled_from, stage_of, is_alter, Stage, New, Greeted, Told, Repeated, Begun, Rested, Shut, Wrong, next_stage, is_right, stage_if}
+use Rattle.world_model.specs.Wire.{up_of, is_sent_front, handled_from, stage_of, is_alter, Stage, New, Greeted, Told, Repeated, Begun, Rested, Shut, Wrong, next_stage, is_right}
 use Rattle.world_model.specs.Words.{held_in}
 use Rattle.world_model.proofs.AllLinks.{at_link}
 use Rattle.world_model.proofs.AllLists.{at_all}
 use Rattle.world_model.proofs.AskedNear.{any_all, no_owner, owned_at, owners_are, right_before, stages}
 use Rattle.world_model.proofs.FreshLists.{handled_at}
-use Rattle.world_model.proofs.KeptDraws.{get_mapped}
+use Rattle.world_model.proofs.Lists.{get_mapped}
 use Rattle.world_model.proofs.Recalling.{get_further}
-use Rattle.world_model.proofs.RepeatedGiven.{some_by, if_right}
+use Rattle.world_model.proofs.RepeatedGiven.{some_by, if_right, owned_stage, step_owned}
 use Rattle.world_model.proofs.StoredApart.{IsStoredAt, calls_apart}
 use Rattle.world_model.proofs.Tests.{eq_from}
 
 -- AN OWNER ----------------------------------------------------------------------------------------
-
-abbrev owned_stage : Stage → Bool
-owned_stage (Greeted one) = is_some one
-owned_stage (Told one) = is_some one
-owned_stage (Repeated one) = is_some one
-owned_stage (Begun one) = is_some one
-owned_stage _ = true
-
-if_known : (test : Bool) (stage : Stage) → (test ≡ true → owned_stage stage ≡ true) → owned_stage (stage_if test stage) ≡ true
-if_known true stage known = known refl
-if_known false stage known = refl
-
-step_owned : (stage : Stage) (owner : Option Owner) (frame : Up) → owned_stage stage ≡ true → owned_stage (next_stage stage owner frame) ≡ true
-step_owned New owner up.Connect owned = if_known (is_some owner) (Greeted owner) (λ some. some)
-step_owned (Greeted one) owner (up.Outcome x) owned = if_known (same_owners one owner) (Told owner) (some_by one owner owned)
-step_owned (Greeted one) owner (up.Begin settings) owned = if_known (same_owners one owner) (Begun owner) (some_by one owner owned)
-step_owned (Greeted one) owner up.Close owned = if_known (same_owners one owner) Shut (λ same. refl)
-step_owned (Told one) owner (up.Begin settings) owned = if_known (same_owners one owner) (Repeated owner) (some_by one owner owned)
-step_owned (Told one) owner up.End owned = if_known (same_owners one owner) (Rested owner) (λ same. refl)
-step_owned (Told one) owner up.Close owned = if_known (same_owners one owner) Shut (λ same. refl)
-step_owned (Repeated one) owner (up.Call true kept call) owned =
-    if_known (same_owners one owner && not (is_alter call)) (Repeated owner) (λ both. some_by one owner owned (and_parts (same_owners one owner) (not (is_alter call)) both).0)
-step_owned (Repeated one) owner (up.Call false kept call) owned = if_known (same_owners one owner) (Begun owner) (some_by one owner owned)
-step_owned (Repeated one) owner up.End owned = if_known (same_owners one owner) (Rested owner) (λ same. refl)
-step_owned (Repeated one) owner up.Close owned = if_known (same_owners one owner) Shut (λ same. refl)
-step_owned (Begun one) owner (up.Call false kept call) owned = if_known (same_owners one owner) (Begun owner) (some_by one owner owned)
-step_owned (Begun one) owner up.End owned = if_known (same_owners one owner) (Rested owner) (λ same. refl)
-step_owned (Begun one) owner up.Close owned = if_known (same_owners one owner) Shut (λ same. refl)
-step_owned (Rested one) owner (up.Begin settings) owned = if_known (is_some owner && not (same_owners one owner)) (Begun owner) (λ both. (and_parts (is_some owner) (not (same_owners one owner)) both).0)
-step_owned (Rested one) owner up.Close owned = if_known (is_none owner || same_owners one owner) Shut (λ same. refl)
-step_owned stage owner frame owned = refl
 
 call_owned : (stage : Stage) (owner : Option Owner) (frame : Up) → owned_stage stage ≡ true → is_right (next_stage stage owner frame) ≡ true → is_call frame ≡ true → is_some owner ≡ true
 call_owned (Repeated one) owner (up.Call true kept call) owned right called =

@@ -40,7 +40,8 @@ use Rattle.world_model.proofs.CallFrames.{call_answered, calls_same, unmarked_sa
 use Rattle.world_model.proofs.CallRows.{IsBetween, IsFrom, between, got_before, is_from as is_of_list, less_or, rank, rank_rises, rank_upto, ranked, row_rank}
 use Rattle.world_model.proofs.CallsApart.{WasSent, at_held}
 use Rattle.world_model.proofs.LinkLives.{implied}
-use Rattle.world_model.proofs.OpenCalls.{OpenCall, any_from, call_marked, kept_calls, lives_before, marked_plain, open_call, unmarked_above}
+use Rattle.world_model.proofs.Lists.{at_any}
+use Rattle.world_model.proofs.OpenCalls.{OpenCall, call_marked, kept_calls, lives_before, marked_plain, open_call, unmarked_above}
 use Rattle.world_model.proofs.ShownFrom.{commit_ends}
 use Rattle.world_model.proofs.ShownPlaces.{ended_rolled, never_decided, open_goes_on, rolled_ends, rolled_not_committed}
 use Rattle.world_model.proofs.StageCalls.{marks_first}
@@ -260,7 +261,7 @@ module _ (t : Traced) (inv : Invariant t) (shows : show_replies t ≡ true) (fit
         in_calls = ranked keep link.sent found.at found.sent found.there found.kept
 
         some : has_unmarked calls ≡ true
-        some = any_from is_unmarked calls (rank keep link.sent last) was_end.sent (ranked keep link.sent last was_end.sent was_end.at kept_end) plain_was
+        some = at_any is_unmarked calls (rank keep link.sent last) was_end.sent (ranked keep link.sent last was_end.sent was_end.at kept_end) plain_was
 
         earlier : (other : ℕ) (sent : Sent) → other ≤ place_in → slice_get calls other ≡ Some sent → is_marked sent.frame ≡ true
         earlier other sent most at_other = by (is_unmarked_frame sent.frame) refl

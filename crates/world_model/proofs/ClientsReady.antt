@@ -106,7 +106,7 @@ gone_out (Running state) event out = refl
 gone_out (Replaying state) event out = refl
 gone_out phase event out = out
 
-waits_unbegun : (phase : Phase) → is_waiting phase ≡ true → is_unbegun phase ≡ true
+pub waits_unbegun : (phase : Phase) → is_waiting phase ≡ true → is_unbegun phase ≡ true
 waits_unbegun Unbegun is = refl
 waits_unbegun (Queued from) is = refl
 waits_unbegun phase is = absurd (let none : ⊥ = cc in none)

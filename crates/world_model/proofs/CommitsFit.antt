@@ -26,12 +26,9 @@ use Rattle.world_model.proofs.AnsweredCalls.{tells, told_by_item, runs_hold, who
 use Rattle.world_model.proofs.CallsFit.{ends_otherwise}
 use Rattle.world_model.proofs.LoneStored.{lone_means}
 use Rattle.world_model.proofs.PlainAnswers.{work_plainly}
+use Rattle.world_model.proofs.Tests.{implied_by}
 
 -- A CALL ------------------------------------------------------------------------------------------
-
-implies_by : (first second : Bool) → (first ≡ true → second ≡ true) → implies first second ≡ true
-implies_by false second follows = refl
-implies_by true second follows = follows refl
 
 -- a lone commit has one answer
 abbrev IsOne : Call → List Answer → Type 0
@@ -39,12 +36,12 @@ IsOne called answers = is_lone_commit called ≡ true → (length answers == 1) 
 
 refused_fit : (marked : Bool) (called : Call) (answers : List Answer) → ends_with is_no_commit answers ≡ false → IsOne called answers → fit_commit marked called answers ≡ true
 refused_fit marked called answers none one =
-    and_from (implies (ends_with is_no_commit answers) marked) (implies (is_lone_commit called) (length answers == 1)) (ap (λ (b : Bool). implies b marked) none) (implies_by (is_lone_commit called) (length answers == 1) one)
+    and_from (implies (ends_with is_no_commit answers) marked) (implies (is_lone_commit called) (length answers == 1)) (ap (λ (b : Bool). implies b marked) none) (implied_by (is_lone_commit called) (length answers == 1) one)
 
 marked_fit : (marked : Bool) (called : Call) (answers : List Answer) → marked ≡ true → IsOne called answers → fit_commit marked called answers ≡ true
 marked_fit marked called answers is one =
-    and_from (implies (ends_with is_no_commit answers) marked) (implies (is_lone_commit called) (length answers == 1)) (implies_by (ends_with is_no_commit answers) marked (λ ends. is))
-    (implies_by (is_lone_commit called) (length answers == 1) one)
+    and_from (implies (ends_with is_no_commit answers) marked) (implies (is_lone_commit called) (length answers == 1)) (implied_by (ends_with is_no_commit answers) marked (λ ends. is))
+    (implied_by (is_lone_commit called) (length answers == 1) one)
 
 -- with another answer at its end it is still one
 other_one : (called : Call) (answers : List Answer) (last : Answer) → (is_lone_commit called ≡ true → answers ≡ answer.Committed ∷ []) → IsOne called (with_last answers last)

@@ -5,7 +5,7 @@ use Rattle.std.specs.Prelude.{◌==◌, not, is_some, is_none, nat_le, nat_lt}
 use Rattle.std.specs.Cmp.Lexicographic.{pointwise}
 use Rattle.std.specs.List.{list_all, list_any, last_or}
 use Rattle.std.specs.Option.{option_map_or}
-use Rattle.std.proofs.lemmas.Bool.{and_parts, and_from, or_cases, or_right}
+use Rattle.std.proofs.lemmas.Bool.{and_parts, and_from, or_cases, or_right, or_left}
 use Rattle.svc_values.specs.declared.answer.Answer.{Answer}
 use Rattle.svc_values.specs.declared.call.Call.{Call}
 use Rattle.svc_values.specs.declared.entry.Ltxid.{Ltxid}
@@ -26,32 +26,13 @@ use Rattle.world_model.specs.Sames.{owned_by, same_owners, same_sent, same_up}
 use Rattle.world_model.specs.Script.{is_call_of, is_sending_of, reverse_onto}
 use Rattle.world_model.specs.Shown.{ends_own}
 use Rattle.world_model.specs.Traced.{Traced, Course}
-use Rattle.world_model.proofs.CoursesGrow.{or_left}
 use Rattle.world_model.proofs.LinkLives.{implied}
+use Rattle.world_model.proofs.Lists.{any_with}
 use Rattle.world_model.proofs.Sendings.{calls_of, on_of}
 use Rattle.world_model.proofs.SendingsTaken.{taken_among}
 use Rattle.world_model.proofs.Tests.{eq_from, eq_to, lt_from}
 
 -- LISTS -------------------------------------------------------------------------------------------
-
--- one of which the one holds, and so the other
-pub any_goes : {A : Type 0} (p r : A → Bool) → ((x : A) → p x ≡ true → r x ≡ true) → (xs : List A) → list_any p xs ≡ true → list_any r xs ≡ true
-any_goes p r goes [] any = any
-any_goes p r goes (x ∷ xs) any = by (or_cases (p x) (list_any p xs) any) (λ later. any_goes p r goes xs later)
-  where
-    by : (p x ≡ true) ⊎ (list_any p xs ≡ true) → (list_any p xs ≡ true → list_any r xs ≡ true) → (r x || list_any r xs) ≡ true
-    by (inl here) again = or_left (r x) (list_any r xs) (goes x here)
-    by (inr later) again = or_right (r x) (list_any r xs) (again later)
-
--- one of which both hold
-pub any_with : {A : Type 0} (p q r : A → Bool) (xs : List A) → ((x : A) → p x ≡ true → q x ≡ true → r x ≡ true) → list_any p xs ≡ true → list_all q xs ≡ true → list_any r xs ≡ true
-any_with p q r [] both any all = absurd (let none : ⊥ = cc in none)
-any_with {A} p q r (x ∷ xs) both any all =
-    let parts = and_parts (q x) (list_all q xs) all in by (or_cases (p x) (list_any p xs) any) parts.0 (λ later. any_with p q r xs both later parts.1)
-  where
-    by : (p x ≡ true) ⊎ (list_any p xs ≡ true) → q x ≡ true → (list_any p xs ≡ true → list_any r xs ≡ true) → (r x || list_any r xs) ≡ true
-    by (inl here) passes again = or_left (r x) (list_any r xs) (both x here passes)
-    by (inr later) passes again = or_right (r x) (list_any r xs) (again later)
 
 -- the last one that a filter leaves in is one of the list
 pub last_found : {A : Type 0} (test keep : A → Bool) (found : Option A) (xs : List A) (x : A) → last_or found (filter keep xs) ≡ Some x → test x ≡ true → (found ≡ Some x) ⊎ (list_any test xs ≡ true)

@@ -18,14 +18,11 @@ use Rattle.run_clauses.specs.Outcomes.{completed_of}
 use Rattle.server_model.specs.Outcomes.{down_of}
 use Rattle.world_model.specs.Number.{numbered_after}
 use Rattle.world_model.proofs.Blocks.{commits_count}
+use Rattle.world_model.proofs.Lists.{none_of}
 use Rattle.world_model.proofs.Numbered.{entries_cons, numbered_parts}
 use Rattle.world_model.proofs.Tests.{eq_from, eq_to, ne_to, same_session_is}
 
 -- THE LAST ENTRY ----------------------------------------------------------------------------------
-
-none_of : {A : Type 0} (xs : List A) → length xs ≡ 0 → xs ≡ []
-none_of [] is = refl
-none_of (x ∷ xs) is = absurd (let never : ⊥ = omega arith in never)
 
 last_behind : (first : Committed) (rest : List Committed) → 1 ≤ length rest → last_completed (first ∷ rest) ≡ last_completed rest
 last_behind first [] some = absurd (let never : ⊥ = omega arith in never)

@@ -32,19 +32,19 @@ use Rattle.world_model.specs.Parts.{Sending, Scan, answered, with_taken, sent_on
 use Rattle.world_model.specs.Traced.{Traced, Course, course_now, courses_of}
 use Rattle.world_model.proofs.AskedSendings.{each_flat, unfiltered, sent_one}
 use Rattle.world_model.proofs.ClientSteps.{HasStepped}
-use Rattle.world_model.proofs.CommittedSendings.{any_goes, any_with, is_unanswered}
+use Rattle.world_model.proofs.CommittedSendings.{is_unanswered}
 use Rattle.world_model.proofs.FateSteps.{IsFated, Says, Silent, CallsOne, fated, fated_from, says_at, silent_fold, called_fold}
 use Rattle.world_model.proofs.FateTops.{last_open, scan_on}
-use Rattle.world_model.proofs.Fates.{none_is}
 use Rattle.world_model.proofs.Happened.{at_event}
 use Rattle.world_model.proofs.LinkLives.{implied}
+use Rattle.world_model.proofs.Lists.{any_goes, any_with}
 use Rattle.world_model.proofs.LostSteps.{before_so}
 use Rattle.world_model.proofs.SendingSteps.{scan_by, heard_scan, after_sendings}
 use Rattle.world_model.proofs.SendingsMade.{made}
 use Rattle.world_model.proofs.StepFacts.{first_step}
 use Rattle.world_model.proofs.TalkShows.{ShowsBy, ByReply, ByOutcome, taken_shows}
 use Rattle.world_model.proofs.TalkTop.{top_open}
-use Rattle.world_model.proofs.Tests.{eq_from}
+use Rattle.world_model.proofs.Tests.{eq_from, none_is}
 use Rattle.world_model.proofs.TriedApart.{commits, is_under}
 use Rattle.world_model.proofs.Turning.{some_same}
 

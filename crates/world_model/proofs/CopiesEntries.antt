@@ -16,6 +16,7 @@ use Rattle.world_model.specs.Ready.{is_one_transaction, is_rightly_repeated}
 use Rattle.world_model.proofs.AllLists.{filter_passes}
 use Rattle.world_model.proofs.CopiesOf.{are_repeated}
 use Rattle.world_model.proofs.LinkLives.{implied}
+use Rattle.world_model.proofs.OnceLists.{none_in}
 use Rattle.world_model.proofs.Tests.{eq_from}
 use Rattle.world_model.proofs.TriedApart.{holds_append}
 
@@ -61,12 +62,8 @@ module _ (entries : List Entry) (calls : List Call) where
 
 -- ENTRIES -----------------------------------------------------------------------------------------
 
-no_ids : (entries : List Entry) → entries_in entries [] ≡ []
-no_ids [] = refl
-no_ids (entry ∷ entries) = no_ids entries
-
 pub no_reports : (entries : List Entry) → (nat_le (length (entries_in entries [])) 1 && list_all (λ entry. holds [] entry.ltxid) (entries_in entries [])) ≡ true
-no_reports entries = ap (λ (all : List Entry). nat_le (length all) 1 && list_all (λ entry. holds [] entry.ltxid) all) (no_ids entries)
+no_reports entries = ap (λ (all : List Entry). nat_le (length all) 1 && list_all (λ entry. holds [] entry.ltxid) all) (none_in entries)
 
 -- identifiers without an entry add none
 none_added : (ids more : List Ltxid) (entries : List Entry) → length (entries_in entries ids) ≡ 0 → entries_in entries (ids ++ more) ≡ entries_in entries more

@@ -1,9 +1,9 @@
 -- The entries of a request that is one transaction: it has one at most, and none where it ended in an error with which it is submitted again.
-use Rattle.std.proofs.Common.{◌≡◌, refl, sym, ap, subst, ◌∙◌, Bool, true, false, ℕ, suc, zero, ◌+◌, ◌-◌, ◌≤◌, ◌<◌, ◌&&◌, ◌||◌, length, List, [], ◌∷◌, count_by, ◌⊎◌, inl, inr, Option, Some, None, if◌then◌else◌, arith}
+use Rattle.std.proofs.Common.{◌≡◌, refl, sym, ap, subst, ◌∙◌, Bool, true, false, ℕ, suc, zero, ◌+◌, ◌-◌, ◌≤◌, ◌<◌, ◌&&◌, ◌||◌, length, List, [], ◌∷◌, count_by, Option, Some, None, if◌then◌else◌, arith}
 use Rattle.std.specs.Prelude.{◌==◌, not, slice_get, is_some}
 use Rattle.std.specs.List.{list_all, list_any}
 use Rattle.std.specs.Option.{option_map_or}
-use Rattle.std.proofs.lemmas.Bool.{and_parts, and_from, or_cases, or_left, or_right}
+use Rattle.std.proofs.lemmas.Bool.{and_parts, and_from}
 use Rattle.std.proofs.lemmas.List.{take_all}
 use Rattle.std.proofs.lemmas.Option.{slice_get_within}
 use Rattle.svc_values.specs.declared.call.Call.{Call}
@@ -30,24 +30,13 @@ use Rattle.world_model.specs.Words.{dones_of, held_in}
 use Rattle.world_model.proofs.AllLists.{filter_passes}
 use Rattle.world_model.proofs.ApartSteps.{commits}
 use Rattle.world_model.proofs.EntriesFew.{few_in, ids_sent, lists_are, over_is, sent_list}
+use Rattle.world_model.proofs.Lists.{any_with}
 use Rattle.world_model.proofs.LostKept.{both_all}
 use Rattle.world_model.proofs.Tests.{eq_from, eq_to}
 use Rattle.world_model.proofs.TransactionParts.{last_txn}
 use Rattle.world_model.proofs.TriedApart.{is_under, under_at}
 
 -- LISTS -------------------------------------------------------------------------------------------
-
--- one that meets a test, of items that all meet another
-pub any_with : {A : Type 0} (p q r : A → Bool) → ((x : A) → p x ≡ true → q x ≡ true → r x ≡ true) → (xs : List A) → list_any p xs ≡ true → list_all q xs ≡ true → list_any r xs ≡ true
-any_with p q r joins [] any all = any
-any_with {A} p q r joins (x ∷ xs) any all = by (or_cases (p x) (list_any p xs) any) (λ later. any_with p q r joins xs later parts.1)
-  where
-    parts : (q x ≡ true) × (list_all q xs ≡ true)
-    parts = and_parts (q x) (list_all q xs) all
-
-    by : (p x ≡ true) ⊎ (list_any p xs ≡ true) → (list_any p xs ≡ true → list_any r xs ≡ true) → (r x || list_any r xs) ≡ true
-    by (inl here) again = or_left (r x) (list_any r xs) (joins x here parts.0)
-    by (inr later) again = or_right (r x) (list_any r xs) (again later)
 
 -- under fewer identifiers there are no more entries
 fewer_in : (ids more : List Ltxid) → ((x : Ltxid) → holds ids x ≡ true → holds more x ≡ true) → (entries : List Entry) → length (entries_in entries ids) ≤ length (entries_in entries more)
@@ -119,9 +108,9 @@ module _ (t : Traced) (course : Course) (facts : IsWhole t course) where
   last_sent : (x : Ltxid) → holds (ids_tried course.report) x ≡ true → list_any (under_at in_last x) (commit_sendings course) ≡ true
   last_sent x held =
       let found = ids_sent course facts.tells facts.notes x held in
-      any_with (under_at (λ at. transaction_at calls at == found.0) x) (λ s. is_placed course.request.calls (held_in course.steps) s && commits s) (under_at in_last x)
+      any_with (under_at (λ at. transaction_at calls at == found.0) x) (λ s. is_placed course.request.calls (held_in course.steps) s && commits s) (under_at in_last x) (commit_sendings course)
       (λ s here so. and_from (in_last s.at) (is_under x s) (eq_to (transaction_at calls s.at) (transaction_at calls last) (ap (transaction_at calls) (sent_at s so))) (and_parts (transaction_at calls s.at == found.0) (is_under x s) here).1)
-      (commit_sendings course) found.1
+      found.1
       (both_all (is_placed course.request.calls (held_in course.steps)) commits (commit_sendings course) facts.placed (filter_passes commits (sendings_of course)))
 
   pub has_few : entries_differ t.entries ≡ true → list_all (λ entry. not (holds t.blocked entry.ltxid)) t.entries ≡ true → length (entries_in t.entries (ids_tried course.report)) ≤ 1

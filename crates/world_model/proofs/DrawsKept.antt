@@ -17,7 +17,7 @@ use Rattle.client_model.specs.Terms.{Terms, Phase, Replaying}
 use Rattle.client_model.specs.Verifying.{index_of}
 use Rattle.client_model.proofs.Offered.{Fits}
 use Rattle.world_model.specs.Clients.{Doing}
-use Rattle.world_model.specs.Frames.{Owner, Sent}
+use Rattle.world_model.specs.Frames.{Sent}
 use Rattle.world_model.specs.Links.{Link}
 use Rattle.world_model.specs.Parts.{implies}
 use Rattle.world_model.specs.Sames.{owned_by}
@@ -74,20 +74,11 @@ found_still kept shown more index here = by (slice_get shown index) refl here
     by (Some one) is here = subst (λ (found : Option ShownCall). option_map_or (λ (one : ShownCall). same_draws kept one.draws) found false ≡ true) (sym (get_further shown more index one is)) here
 
 -- where more calls are shown
-still_shown : (c d : Course) (more : List ShownCall) → d.report.calls ≡ c.report.calls ++ more → (index : ℕ) (frame : Up) → has_shown_draws c index frame ≡ true → has_shown_draws d index frame ≡ true
+pub still_shown : (c d : Course) (more : List ShownCall) → d.report.calls ≡ c.report.calls ++ more → (index : ℕ) (frame : Up) → has_shown_draws c index frame ≡ true → has_shown_draws d index frame ≡ true
 still_shown c d more same index (up.Call true kept call) here =
     subst (λ (shown : List ShownCall). option_map_or (λ (one : ShownCall). same_draws kept one.draws) (slice_get shown index) false ≡ true) (sym same) (found_still kept c.report.calls more index here)
 still_shown c d more same index (up.Call false kept call) here = here
 still_shown c d more same index frame here = refl
-
-pub still_carries : (c d : Course) (more : List ShownCall) → d.owner ≡ c.owner → d.report.calls ≡ c.report.calls ++ more → (sent : Sent) → carries c sent ≡ true → carries d sent ≡ true
-still_carries c d more owner same sent here = by (owned_by d.owner sent) refl
-  where
-    by : (mine : Bool) → owned_by d.owner sent ≡ mine → implies mine (has_shown_draws d sent.call sent.frame) ≡ true
-    by false is = refl
-    by true is =
-        let was : owned_by c.owner sent ≡ true = subst (λ (o : Owner). owned_by o sent ≡ true) owner is in
-        still_shown c d more same sent.call sent.frame (subst (λ (mine : Bool). implies mine (has_shown_draws c sent.call sent.frame) ≡ true) was here)
 
 -- A REPLAY ----------------------------------------------------------------------------------------
 

@@ -6,20 +6,15 @@ use Rattle.std.specs.List.{list_all, last_or}
 use Rattle.std.specs.Option.{option_map_or}
 use Rattle.std.proofs.lemmas.Bool.{and_parts, and_from, or_cases, or_left, or_right}
 use Rattle.std.proofs.lemmas.List.Sums.{sum_by-cons}
-use Rattle.svc_values.specs.declared.call.Call.{Call}
 use Rattle.svc_values.specs.declared.entry.Entry.{Entry}
 use Rattle.svc_values.specs.declared.entry.SessionId.{SessionId}
 use Rattle.svc_values.specs.declared.frame.Down.{Down}
-use Rattle.svc_values.specs.declared.frame.Up.{Up}
-use Rattle.svc_values.specs.declared.frame.Up.TheVariants as up
 use Rattle.svc_values.specs.Identifiers.{same_session, is_of_session}
 use Rattle.svc_values.specs.Same.{same_bool}
 use Rattle.svc_values.specs.SameLaws.{same_session_decides}
 use Rattle.commit_log.specs.Keeping.{EachKeeps}
 use Rattle.outage_schedule.specs.declared.document.Document.{Document}
 use Rattle.outage_schedule.specs.declared.event.Event.{Event}
-use Rattle.outage_schedule.specs.declared.item.Item.{Item}
-use Rattle.outage_schedule.specs.declared.item.Item.TheVariants as item
 use Rattle.outage_schedule.specs.declared.item.Served.{Served}
 use Rattle.outage_schedule.specs.declared.note.Note.{Note}
 use Rattle.outage_schedule.specs.declared.report.Report.{Report}
@@ -56,6 +51,7 @@ use Rattle.world_model.proofs.Happened.{Followed, follow_happens, at_event}
 use Rattle.world_model.proofs.LinkHandled.{commits_behind, is_commit_of, behind_is}
 use Rattle.world_model.proofs.LinkItems.{items_at, event_of_item}
 use Rattle.world_model.proofs.LinkLives.{no_test, counts_commits}
+use Rattle.world_model.proofs.LinkNumbers.{stopped_item}
 use Rattle.world_model.proofs.RunStarts.{reached_start, reached_coupled, finishing_reached}
 use Rattle.world_model.proofs.RunTells.{HasCome, reached_come}
 use Rattle.world_model.proofs.Tests.{eq_from, eq_to, le_from, le_to, lt_from, lt_to, not_both}
@@ -157,18 +153,6 @@ module _ (count : SessionId → ℕ → ℕ) where
 
 -- WHAT A SESSION HAS ------------------------------------------------------------------------------
 
-stopped_none : (frame : Up) (replay : Bool) (call : Call) → is_item_of frame (item.CrashedCall replay call) ≡ true → ⊥
-stopped_none up.Connect replay call is = let none : ⊥ = cc in none
-stopped_none (up.Begin settings) replay call is = let none : ⊥ = cc in none
-stopped_none (up.Call mark kept called) replay call is = let none : ⊥ = cc in none
-stopped_none (up.Outcome x) replay call is = let none : ⊥ = cc in none
-stopped_none up.End replay call is = let none : ⊥ = cc in none
-stopped_none up.Close replay call is = let none : ⊥ = cc in none
-
-item_runs : (frame : Up) (one : Item) → is_item_of frame one ≡ true → is_stopped_call one ≡ false
-item_runs frame (item.CrashedCall replay call) is = absurd (stopped_none frame replay call is)
-item_runs frame one is = refl
-
 some_none : (reply : Option Down) → is_some reply ≡ true → is_none reply ≡ true → ⊥
 some_none None some none = let never : ⊥ = cc in never
 some_none (Some frame) some none = let never : ⊥ = cc in never
@@ -180,7 +164,7 @@ not_stopped commits one some handled =
   where
     by : ((is_item_of one.sent.frame one.served.item && same_replies one.reply (reply_of one.served.session commits one.served.item)) ≡ true) ⊎ ((is_crashed_item one.sent.frame one.served.item && is_none one.reply) ≡ true)
         → is_stopped_call one.served.item ≡ false
-    by (inl so) = item_runs one.sent.frame one.served.item (and_parts (is_item_of one.sent.frame one.served.item) (same_replies one.reply (reply_of one.served.session commits one.served.item)) so).0
+    by (inl so) = stopped_item one.sent.frame one.served.item (and_parts (is_item_of one.sent.frame one.served.item) (same_replies one.reply (reply_of one.served.session commits one.served.item)) so).0
     by (inr so) = absurd (some_none one.reply some (and_parts (is_crashed_item one.sent.frame one.served.item) (is_none one.reply) so).1)
 
 handled_last : (commits : ℕ) (before : List Handled) (one : Handled) → handled_from commits (before ++ one ∷ []) ≡ true → is_handled (counted_with (commits_behind commits before) one.served.item) one ≡ true

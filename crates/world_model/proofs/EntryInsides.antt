@@ -38,17 +38,12 @@ use Rattle.world_model.proofs.LinkLives.{implied}
 use Rattle.world_model.proofs.LoneCalls.{none_of}
 use Rattle.world_model.proofs.LostKept.{both_all}
 use Rattle.world_model.proofs.OpenEntries.{HasRun, all_its, all_there, entry_ran, is_its, is_there, last_index, pieces_long}
+use Rattle.world_model.proofs.RanInside.{last_dropped}
 use Rattle.world_model.proofs.RanScripts.{owns, scripts_ran}
 use Rattle.world_model.proofs.RunStarts.{finishing_reached}
 use Rattle.world_model.proofs.Tests.{eq_from, eq_to, le_to}
 
 -- LISTS -------------------------------------------------------------------------------------------
-
--- all but the last one
-pub front_is : {A : Type 0} (xs : List A) (x : A) → all_but_last (xs ++ x ∷ []) ≡ xs
-front_is [] x = refl
-front_is (y ∷ []) x = refl
-front_is (y ∷ z ∷ xs) x = ap (λ rest. y ∷ rest) (front_is (z ∷ xs) x)
 
 record HasLast {A : Type 0} (xs : List A) (x : A) : Type 0 where
   front : List A
@@ -254,7 +249,7 @@ module _ (t : Traced) (whole : Invariant t) (course : Course) (runs : list_all (
 
         inside : list_all (is_inside course) ran.before ≡ true
         inside =
-            ap (list_all (is_inside course)) (sym (front_is ran.before ran.did))
+            ap (list_all (is_inside course)) (sym (last_dropped ran.before ran.did))
             ∙ implied (list_any (owns course) (ran.before ++ ran.did ∷ [])) (list_all (is_inside course) (all_but_last (ran.before ++ ran.did ∷ []))) any
             (at_all (knows_inside course) (ran_by ran.link).over entry.ltxid.number (ran.before ++ ran.did ∷ []) (and_parts (list_all (knows_inside course) (ran_by ran.link).over) (knows_inside course (ran_by ran.link).pieces) link_knows).0 ran.over)
 

@@ -20,8 +20,8 @@ use Rattle.world_model.specs.Words.{held_in}
 use Rattle.world_model.proofs.AllLists.{at_all}
 use Rattle.world_model.proofs.AskedNear.{any_all}
 use Rattle.world_model.proofs.EntryInsides.{EntryRan, on_its, ran_so}
-use Rattle.world_model.proofs.KeptDraws.{all_from_each}
 use Rattle.world_model.proofs.LinkLives.{implied}
+use Rattle.world_model.proofs.NumbersTurn.{by_index}
 use Rattle.world_model.proofs.OpenEntries.{all_its, all_there, is_its, is_there, last_index, pieces_long}
 use Rattle.world_model.proofs.RanScripts.{owns, scripts_ran}
 use Rattle.world_model.proofs.SendingLookups.{of_all}
@@ -59,8 +59,8 @@ module _ (t : Traced) (whole : Invariant t) (ran : commits_ran t ≡ true) where
 
   pub of_each : (test : Course → Sending → Entry → Bool) → ((e : EntryAt) → test e.course e.sending e.entry ≡ true) → of_entries test t ≡ true
   of_each test each =
-      all_from_each (λ course. list_all (so course) (commit_sendings course)) (courses_of t) (λ number course at_course.
-      all_from_each (so course) (commit_sendings course) (λ place sending at_sending. by_sending number course at_course place sending at_sending (is_open_or_committed sending) refl))
+      by_index (λ course. list_all (so course) (commit_sendings course)) (courses_of t) (λ number course at_course.
+      by_index (so course) (commit_sendings course) (λ place sending at_sending. by_sending number course at_course place sending at_sending (is_open_or_committed sending) refl))
     where
       entry_so : Course → Sending → Entry → Bool
       entry_so course sending entry = implies (same_ltxid entry.ltxid sending.ltxid) (test course sending entry)
@@ -71,7 +71,7 @@ module _ (t : Traced) (whole : Invariant t) (ran : commits_ran t ≡ true) where
       by_sending : (number : ℕ) (course : Course) → slice_get (courses_of t) number ≡ Some course → (place : ℕ) (sending : Sending) → slice_get (commit_sendings course) place ≡ Some sending → (may : Bool) → is_open_or_committed sending ≡ may
           → implies may (list_all (entry_so course sending) t.entries) ≡ true
       by_sending number course at_course place sending at_sending false is = refl
-      by_sending number course at_course place sending at_sending true is = all_from_each (entry_so course sending) t.entries (λ index entry at_entry. by index entry at_entry (same_ltxid entry.ltxid sending.ltxid) refl)
+      by_sending number course at_course place sending at_sending true is = by_index (entry_so course sending) t.entries (λ index entry at_entry. by index entry at_entry (same_ltxid entry.ltxid sending.ltxid) refl)
         where
           by : (index : ℕ) (entry : Entry) → slice_get t.entries index ≡ Some entry → (same : Bool) → same_ltxid entry.ltxid sending.ltxid ≡ same → implies same (test course sending entry) ≡ true
           by index entry at_entry false same = refl

@@ -19,8 +19,8 @@ use Rattle.world_model.specs.Same.{committed_entries_known, ends_with_sent, entr
 use Rattle.world_model.specs.SameLaws.{RunsFollowScripts, RunsStoreScripts, WholeRunsFollowScripts, WholeRunsStoreScripts}
 use Rattle.world_model.specs.Traced.{Traced, Course, courses_of}
 use Rattle.world_model.proofs.AllLists.{weaker_all}
-use Rattle.world_model.proofs.CommittedSendings.{any_goes}
 use Rattle.world_model.proofs.EntriesFew.{numbered_differ}
+use Rattle.world_model.proofs.Lists.{any_goes}
 use Rattle.world_model.proofs.LostKept.{both_all}
 use Rattle.world_model.proofs.OpenEntries.{open_known}
 use Rattle.world_model.proofs.Tests.{not_both}

@@ -15,11 +15,12 @@ use Rattle.world_model.specs.Words.{held_in}
 use Rattle.world_model.proofs.AllLists.{at_all}
 use Rattle.world_model.proofs.CallsAgree.{link_agrees, tells_as}
 use Rattle.world_model.proofs.CallsApart.{at_held}
-use Rattle.world_model.proofs.EntryInsides.{EntryRan, front_is}
+use Rattle.world_model.proofs.EntryInsides.{EntryRan}
 use Rattle.world_model.proofs.EntryPlaces.{EntryAt, dids, entry_ran, first, had, held_link, row}
 use Rattle.world_model.proofs.KnownLinks.{known_of}
 use Rattle.world_model.proofs.LinkCounts.{Known}
 use Rattle.world_model.proofs.RanAgrees.{did_so, did_stands, inner_so, is_told_so, items_stand, last, link_came, of_did, of_item}
+use Rattle.world_model.proofs.RanInside.{last_dropped}
 
 pub scripts_front : (course : Course) (before : List ServedCall) (did : ServedCall) (from : ℕ) → scripts_from course from (before ++ did ∷ []) ≡ true → scripts_from course from before ≡ true
 scripts_front course [] did from all = refl
@@ -62,4 +63,4 @@ module _ (t : Traced) (whole : Invariant t) (ran : commits_ran t ≡ true) (gran
 
   -- each call of its transaction but the last is as it was shown
   pub inside_told : list_all (did_so e.course (tells_as granted)) run.before ≡ true
-  inside_told = ap (list_all (did_so e.course (tells_as granted))) (sym (front_is run.before run.did)) ∙ inner_so e.course (tells_as granted) last_sent (first t whole ran e) (dids t whole ran e) (row t whole ran e) pieces_told
+  inside_told = ap (list_all (did_so e.course (tells_as granted))) (sym (last_dropped run.before run.did)) ∙ inner_so e.course (tells_as granted) last_sent (first t whole ran e) (dids t whole ran e) (row t whole ran e) pieces_told

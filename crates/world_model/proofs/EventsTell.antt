@@ -31,8 +31,8 @@ use Rattle.world_model.specs.Outside.{ticked, after_asked, follow_outside, follo
 use Rattle.world_model.specs.ServiceDid.{ServiceDid, front_served, front_telling}
 use Rattle.world_model.specs.Serving.{Front, front_at, is_of_front, is_item_of, is_ordinary, serves, after_served, outcome_frame, identifier}
 use Rattle.world_model.specs.Settings.{Setting}
-use Rattle.world_model.specs.Walking.{After, leaving, by_kind, follow}
-use Rattle.world_model.proofs.Happened.{at_event}
+use Rattle.world_model.specs.Walking.{leaving, by_kind, follow}
+use Rattle.world_model.proofs.Happened.{at_event, left_or}
 use Rattle.world_model.proofs.Items.{reaches, reaches_if, mapped}
 use Rattle.world_model.proofs.Kept.{only_is}
 use Rattle.world_model.proofs.LinkItems.{event_of_item}
@@ -57,11 +57,6 @@ pub record HasTold (m : Machine) (one : Note) (items : List Served) (happened : 
   pub now : list_all (λ served. served.event == m.event + 1) items ≡ true
   pub tells : EventTells m (event_moments (m.event + 1) one items) happened
 
--- what is left behind an event
-abbrev left_of : List Served → After → List Served
-left_of items None = items
-left_of items (Some next) = next.1
-
 module _ (setting : Setting) (m n : Machine) where
   -- a note that names what its event names
   met : (items left : List Served) (test : Bool) (kind : Noted) → option_and_then (by_kind setting (at_event m) items) (only_if test kind) ≡ Some (n, left) → by_kind setting (at_event m) items kind ≡ Some (n, left)
@@ -76,7 +71,7 @@ module _ (setting : Setting) (m n : Machine) where
 
   none_left : (items left : List Served) (next : Option Machine) → leaving items next ≡ Some (n, left) → items ≡ left
   none_left items left None is = absurd (let none : ⊥ = cc in none)
-  none_left items left (Some next) is = ap (left_of items) is
+  none_left items left (Some next) is = ap (left_or items) is
 
   -- where something is reached, the test is met
   may_be : (items : List Served) (test : Bool) (next : Machine) → leaving items (only_if test next) ≡ Some (n, []) → test ≡ true
@@ -112,7 +107,7 @@ module _ (setting : Setting) (m n : Machine) where
 
   serves_tell : (one : Note) (number : ℕ) (name : Option FrameName) (items : List Served) (happened : List Happened) (front : Option Front) → front_at m.links number ≡ front → IsSilent one
       → serves (at_event m) number name items front ≡ Some (n, []) → happened ≡ front_served m.tick front items → HasTold m one items happened
-  serves_tell one number None items happened None at silent is did = tells_none one items happened silent (ap (left_of items) is) did
+  serves_tell one number None items happened None at silent is did = tells_none one items happened silent (ap (left_or items) is) did
   serves_tell one number None items happened (Some front) at silent is did = absurd (let none : ⊥ = cc in none)
   serves_tell one number (Some name) [] happened None at silent is did = absurd (let none : ⊥ = cc in none)
   serves_tell one number (Some name) (served ∷ rest) happened None at silent is did = absurd (let none : ⊥ = cc in none)
@@ -130,18 +125,18 @@ module _ (setting : Setting) (m n : Machine) where
       → happened ≡ front_served m.tick (Some front) (served ∷ rest) → HasTold m one (served ∷ rest) happened
   stops_tell one number after failover happened front served rest true at silent stopped is did =
       let parts = and_parts (is_of_front (at_event m) front served) _ stopped in
-      tells_item one happened number front served rest at silent (ap (left_of rest) is) parts.0 (inr (and_parts (is_crashed_item front.first.frame served.item) _ parts.1).0) did
+      tells_item one happened number front served rest at silent (ap (left_or rest) is) parts.0 (inr (and_parts (is_crashed_item front.first.frame served.item) _ parts.1).0) did
   stops_tell one number after failover happened front served rest false at silent stopped is did = by (is_over (at_event m) after front served) refl is
     where
       by : (over : Bool) → is_over (at_event m) after front served ≡ over → mapped (falls failover) (reaches_if over (after_served (at_event m) number front served) rest) ≡ Some (n, []) → HasTold m one (served ∷ rest) happened
       by true over is =
           let parts = and_parts (is_of_front (at_event m) front served) (is_item_of front.first.frame served.item) (and_parts (is_ordinary (at_event m) front served) _ over).0 in
-          tells_item one happened number front served rest at silent (ap (left_of rest) is) parts.0 (inl parts.1) did
+          tells_item one happened number front served rest at silent (ap (left_or rest) is) parts.0 (inl parts.1) did
       by false over is = absurd (let none : ⊥ = cc in none)
 
   last_tells : (one : Note) (number after : ℕ) (failover : Bool) (items : List Served) (happened : List Happened) (front : Option Front) → front_at m.links number ≡ front → IsSilent one
       → mapped (falls failover) (serves_last (at_event m) number after items front) ≡ Some (n, []) → happened ≡ front_served m.tick front items → HasTold m one items happened
-  last_tells one number after failover items happened None at silent is did = tells_none one items happened silent (ap (left_of items) is) did
+  last_tells one number after failover items happened None at silent is did = tells_none one items happened silent (ap (left_or items) is) did
   last_tells one number after failover [] happened (Some front) at silent is did = absurd (let none : ⊥ = cc in none)
   last_tells one number after failover (served ∷ rest) happened (Some front) at silent is did =
       stops_tell one number after failover happened front served rest (is_stopped (at_event m) after front served) at silent refl is did
@@ -151,7 +146,7 @@ module _ (setting : Setting) (m n : Machine) where
       → happened ≡ (if is_up then front_served m.tick (front_at m.links number) items else []) → HasTold m one items happened
   crash_tells one number after failover true true items happened silent is did = absurd (let none : ⊥ = cc in none)
   crash_tells one number after failover false true items happened silent is did = last_tells one number after failover items happened (front_at m.links number) refl silent is did
-  crash_tells one number after failover true false items happened silent is did = tells_none one items happened silent (ap (left_of items) is) did
+  crash_tells one number after failover true false items happened silent is did = tells_none one items happened silent (ap (left_or items) is) did
   crash_tells one number after failover false false items happened silent is did = absurd (let none : ⊥ = cc in none)
 
   -- EACH EVENT ------------------------------------------------------------------------------------

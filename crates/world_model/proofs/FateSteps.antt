@@ -37,8 +37,8 @@ use Rattle.world_model.proofs.Fates.{Fate, Waits, fate_from, fate_to, taken_fate
 use Rattle.world_model.proofs.FateLinks.{OutOf, out_of, owned_same, next_rises}
 use Rattle.world_model.proofs.Happened.{at_event}
 use Rattle.world_model.proofs.Held.{held_now}
+use Rattle.world_model.proofs.KnownLinks.{known_of}
 use Rattle.world_model.proofs.LinkCounts.{Known}
-use Rattle.world_model.proofs.LinkSettled.{known_at}
 use Rattle.world_model.proofs.LinkLives.{implied}
 use Rattle.world_model.proofs.HeldKept.{same_none, slot_holds_none}
 use Rattle.world_model.proofs.Saying.{Spoken, Quiet, Fails, Ends, Asks, Calls, Marks, begun_in, opening, has_next, is_hushed, said, said_lent}
@@ -236,7 +236,7 @@ module _ (t : Traced) (inv : Orderly t) (apart : are_apart t ≡ true) (new : Tr
     on = sym step.connects ∙ (ap (connected step.before.connection) taking.heard ∙ taking.has)
 
     pub known : Known link
-    known = known_at t inv taking.connection link taking.there
+    known = known_of t inv taking.connection link taking.there
 
     pub out : OutOf mine step.before.talk.phase link
     out = out_of mine step.before.talk.phase link ((held_now t inv).out who step.client step.before taking.connection link step.here (in_course t inv who new.machine step taking.connection taking.has) taking.has taking.there)

@@ -1,6 +1,6 @@
 -- Where a request takes a reply its sendings are fated on: its last one is answered, and no other one waits on the connection.
-use Rattle.std.proofs.Common.{◌≡◌, refl, sym, ap, subst, ◌∙◌, Bool, true, false, ℕ, ◌+◌, ◌&&◌, ◌||◌, cond, filter, fold, length, List, [], ◌∷◌, map, Option, Some, None}
-use Rattle.std.specs.Prelude.{◌==◌, not, is_some, is_none, unwrap_or}
+use Rattle.std.proofs.Common.{◌≡◌, refl, sym, ap, subst, ◌∙◌, Bool, true, false, ℕ, ◌+◌, ◌&&◌, cond, filter, fold, length, List, [], ◌∷◌, map, Option, Some, None}
+use Rattle.std.specs.Prelude.{◌==◌, is_some, is_none, unwrap_or}
 use Rattle.std.specs.List.{list_all, list_any}
 use Rattle.std.specs.Option.{option_or, option_map_or}
 use Rattle.std.proofs.lemmas.Bool.{and_parts, and_from}
@@ -27,7 +27,7 @@ use Rattle.world_model.specs.Frames.{Owner, Sent}
 use Rattle.world_model.specs.Invariant.{Orderly}
 use Rattle.world_model.specs.Links.{Link, link_at, sends, takes, told_by}
 use Rattle.world_model.specs.Machines.{Machine}
-use Rattle.world_model.specs.Once.{share, are_apart}
+use Rattle.world_model.specs.Once.{share, are_apart, is_open_or_committed}
 use Rattle.world_model.specs.Hold.{is_awaited, is_call}
 use Rattle.world_model.specs.Parts.{Sending, Scan, answered, commit_sendings, is_commit_call, is_unmarked_frame}
 use Rattle.world_model.specs.Sames.{each_pair, all_with, owned_by}
@@ -40,13 +40,14 @@ use Rattle.world_model.proofs.FateLinks.{OutOf, runs_where, unmarked_call, block
 use Rattle.world_model.proofs.FateTops.{all_with_is, pairs_each, call_left, last_open, scan_on, last_call}
 use Rattle.world_model.proofs.Happened.{at_event}
 use Rattle.world_model.proofs.Held.{held_now}
+use Rattle.world_model.proofs.TriedApart.{share_not}
 use Rattle.world_model.proofs.Turning.{some_same}
 use Rattle.world_model.proofs.LostSteps.{before_so, in_course}
 use Rattle.world_model.proofs.Placing.{said as spoken_frames}
 use Rattle.world_model.proofs.SendingSteps.{scan_by, heard_scan}
 use Rattle.world_model.proofs.SendingsMade.{chosen_from}
 use Rattle.world_model.proofs.StepFacts.{first_step}
-use Rattle.world_model.proofs.Tests.{eq_from, eq_to}
+use Rattle.world_model.proofs.Tests.{eq_from, eq_to, none_is}
 use Rattle.svc_values.specs.Endings.{ends_committed}
 use Rattle.svc_values.specs.Identifiers.{same_ltxid}
 use Rattle.client_model.specs.Talk.{on_reply, talk_shown}
@@ -57,7 +58,6 @@ use Rattle.world_model.specs.Sames.{same_owner}
 use Rattle.world_model.specs.Wire.{is_reply_front, handled_from, is_answered_in_order}
 use Rattle.world_model.proofs.AllLinks.{at_link}
 use Rattle.world_model.proofs.FateSteps.{fated, fated_from, fated_to, committing, committing_by, committing_from, stays_at, Taking, on, known, out, waits_commits, waits_out, fate_by}
-use Rattle.world_model.proofs.Fates.{none_is}
 use Rattle.world_model.proofs.KeptUnasked.{each_among}
 use Rattle.world_model.proofs.ReplyFits.{is_expected, reply_fits}
 use Rattle.world_model.proofs.RowKept.{at_before}
@@ -84,16 +84,6 @@ scan_owned owner scan (step ∷ steps) same all =
     scan_owned owner (scanned scan step) steps same
     (frames_all (λ sending. same_owner sending.owner owner) now step.done.act.send now.sendings (λ any call x is. ap (λ (one : Owner). same_owner one owner) same ∙ owner_self owner)
     (answered_all (λ sending. same_owner sending.owner owner) (λ sending answers so. so) step.done.input step.done.act.shown scan.sendings all))
-
-share_not : (a b : Sending) → same_ltxid a.ltxid b.ltxid ≡ true → a.taken ≡ None → b.taken ≡ None → share a b ≡ true → ⊥
-share_not a b same one other here = by (same_ltxid a.ltxid b.ltxid) (option_map_or ends_committed a.taken true) (option_map_or ends_committed b.taken true) (a.connection == b.connection) same (ap (λ (t : _). option_map_or ends_committed t true) one) (ap (λ (t : _). option_map_or ends_committed t true) other) here
-  where
-    by : (alike x y on : Bool) → alike ≡ true → x ≡ true → y ≡ true → (not alike || (on && not (x && y))) ≡ true → ⊥
-    by false x y on is a b here = let none : ⊥ = cc in none
-    by true false y on is a b here = let none : ⊥ = cc in none
-    by true true false on is a b here = let none : ⊥ = cc in none
-    by true true true true is a b here = let none : ⊥ = cc in none
-    by true true true false is a b here = let none : ⊥ = cc in none
 
 pub plain_none : (input : Input) → brought input ≡ None → is_frame input ≡ false → connected None input ≡ None
 plain_none Start none plain = refl
@@ -253,7 +243,8 @@ module _ (t : Traced) (inv : Orderly t) (apart : are_apart t ≡ true) (new : Tr
               last_call t inv who new.machine step state running taking.connection taking.has link taking.there top rest are (eq_to top.connection taking.connection place) at_out.sent at_out.last at_out.own (unmarked_call at_out.sent out_commits) out_commits in
               let both : Some top.ltxid ≡ Some sending.ltxid = sym ((top_fate top_commits).waits untaken).held ∙ waits.held in
               let same : top.ltxid ≡ sending.ltxid = cc in
-              share_not top sending (ap (same_ltxid top.ltxid) (sym same) ∙ ltxid_self top.ltxid) untaken none (committing_from (share top) sending (among (committing (share top)) (shares top_commits)) commits)
+              share_not top.ltxid top sending (and_from (is_open_or_committed top) (same_ltxid top.ltxid top.ltxid) (ap (λ (taken : Option (List Answer)). option_map_or ends_committed taken true) untaken) (ltxid_self top.ltxid))
+              (and_from (is_open_or_committed sending) (same_ltxid top.ltxid sending.ltxid) (ap (λ (taken : Option (List Answer)). option_map_or ends_committed taken true) none) (ap (same_ltxid top.ltxid) (sym same) ∙ ltxid_self top.ltxid)) (committing_from (share top) sending (among (committing (share top)) (shares top_commits)) commits)
 
           others : list_all new_so rest ≡ true
           others =

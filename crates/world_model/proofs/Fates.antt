@@ -28,7 +28,7 @@ use Rattle.world_model.proofs.Placing.{SameOut}
 use Rattle.world_model.proofs.SameSelf.{owner_self, ltxid_self}
 use Rattle.world_model.proofs.Saying.{opening}
 use Rattle.world_model.proofs.SendingsMade.{made}
-use Rattle.world_model.proofs.Tests.{le_from, le_to, lt_from, lt_to, eq_to}
+use Rattle.world_model.proofs.Tests.{le_from, le_to, lt_from, lt_to, eq_to, implied_by, none_is}
 
 -- no reply was taken to it: it is what is out, or was blocked
 pub record Waits (sending : Sending) (link : Link) : Type 0 where
@@ -74,14 +74,6 @@ waits_to sending link waits =
 abbrev taken_test : Sending → ℕ → Option (List Answer) → Bool
 taken_test sending number taken = option_map_or (λ answers. implies (ends_committed answers) (nat_lt sending.ltxid.number number)) taken true
 
-pub implies_by : (a b : Bool) → (a ≡ true → b ≡ true) → implies a b ≡ true
-implies_by true b here = here refl
-implies_by false b here = refl
-
-pub none_is : {A : Type 0} (found : Option A) → is_none found ≡ true → found ≡ None
-none_is None is = refl
-none_is (Some x) is = absurd (let none : ⊥ = cc in none)
-
 pub fate_from : (sending : Sending) (link : Link) → has_fate sending link ≡ true → Fate sending link
 fate_from sending link here =
     let one = and_parts (nat_le sending.ltxid.number (held_number link)) (taken_test sending (held_number link) sending.taken && implies (is_none sending.taken) (waits_test sending link)) here in
@@ -97,11 +89,11 @@ pub fate_to : (sending : Sending) (link : Link) → Fate sending link → has_fa
 fate_to sending link fate =
     and_from (nat_le sending.ltxid.number (held_number link)) (taken_test sending (held_number link) sending.taken && implies (is_none sending.taken) (waits_test sending link)) (le_to sending.ltxid.number (held_number link) fate.low)
     (and_from (taken_test sending (held_number link) sending.taken) (implies (is_none sending.taken) (waits_test sending link)) (by sending.taken refl)
-    (implies_by (is_none sending.taken) (waits_test sending link) (λ none. waits_to sending link (fate.waits (none_is sending.taken none)))))
+    (implied_by (is_none sending.taken) (waits_test sending link) (λ none. waits_to sending link (fate.waits (none_is sending.taken none)))))
   where
     by : (taken : Option (List Answer)) → sending.taken ≡ taken → taken_test sending (held_number link) taken ≡ true
     by None is = refl
-    by (Some answers) is = implies_by (ends_committed answers) (nat_lt sending.ltxid.number (held_number link)) (λ commits. lt_to sending.ltxid.number (held_number link) (fate.told answers is commits))
+    by (Some answers) is = implied_by (ends_committed answers) (nat_lt sending.ltxid.number (held_number link)) (λ commits. lt_to sending.ltxid.number (held_number link) (fate.told answers is commits))
 
 -- WHERE NOTHING IS SAID ---------------------------------------------------------------------------
 

@@ -35,7 +35,8 @@ use Rattle.world_model.proofs.FirstBehind.{NoneBehind, any_found}
 use Rattle.world_model.proofs.Happened.{at_event}
 use Rattle.world_model.proofs.Held.{doing_course}
 use Rattle.world_model.proofs.HeldKept.{HasIt, HasNone, HasOne, has_it}
-use Rattle.world_model.proofs.LinkSettled.{known_at, none_blocked, awaits_no_call}
+use Rattle.world_model.proofs.KnownLinks.{known_of}
+use Rattle.world_model.proofs.LinkSettled.{none_blocked, awaits_no_call}
 use Rattle.world_model.proofs.LinksWork.{with_work, handled_work}
 use Rattle.world_model.proofs.Lookups.{with_own, with_others, changed_own}
 use Rattle.world_model.proofs.Others.{changed_others}
@@ -136,7 +137,7 @@ module _ (t : Traced) (inv : Orderly t) (items left : List Served) (one : Note) 
       → awaits_no_call phase ≡ true → (handled (m.event + 1) front served).is_open ≡ front.link.is_open
   served_open number front served owner phase at item out none =
       handled_case (λ l. l.is_open ≡ front.link.is_open) (m.event + 1) front served
-      (λ reply blocked. absurd (none_blocked front.link front.first front.later served.item owner phase (known_at t inv number front.link at.there) at.up item out none blocked)) (λ reply other. refl)
+      (λ reply blocked. absurd (none_blocked front.link front.first front.later served.item owner phase (known_of t inv number front.link at.there) at.up item out none blocked)) (λ reply other. refl)
 
   pub serve_falls : (number : ℕ) (front : Front) (place : Place) → front_at m.links number ≡ Some front → AllStepped m place → 1 ≤ round_work m place → follow t.setting m (event.Serve number) one items ≡ Some (n, left)
       → remaining t.setting n AtLinks < remaining t.setting m place

@@ -27,6 +27,7 @@ use Rattle.world_model.specs.RoundsLeft.{try_wait, awaits_tick, replays_left, at
 use Rattle.world_model.specs.Remaining.{once_if, calls_in, rounds_of_one, all_left, requests_left, on_open, may_serve, doing_rounds, rounds_with, client_rounds}
 use Rattle.world_model.proofs.CopiesLeft.{is_left, fewer_left, next_left}
 use Rattle.world_model.proofs.ClientRounds.{once_most}
+use Rattle.world_model.proofs.FinishLinks.{times_less}
 
 -- SCRIPTS -----------------------------------------------------------------------------------------
 
@@ -67,9 +68,6 @@ past_left script past one left =
 
 -- WHERE IT STOOD ----------------------------------------------------------------------------------
 
-times_up : (a b size : ℕ) → a ≤ b → a * size ≤ b * size
-times_up a b size less = grind arith
-
 one_less : (a size : ℕ) → 1 ≤ a → (a - 1) * size + size ≡ a * size
 one_less a size some = let split : a ≡ (a - 1) + 1 = omega arith in ap (λ (n : ℕ). n) (plus (a - 1)) ∙ ap (λ (n : ℕ). n * size) (sym split)
   where
@@ -83,7 +81,7 @@ module _ (setting : Setting) (m : Machine) (stepped : Bool) (script : List Reque
       let split : (left - 1) * rounds_of_one setting.terms script + rounds_of_one setting.terms script ≡ left * rounds_of_one setting.terms script = one_less left (rounds_of_one setting.terms script) some in
       let none : replays_left setting.terms (Queued None) ≡ setting.terms.limits.replays = unstarted in
       let more : (length request.calls + replays_left setting.terms (Queued None)) * attempt setting.terms ≤ (calls_in script + setting.terms.limits.replays) * attempt setting.terms =
-      times_up (length request.calls + replays_left setting.terms (Queued None)) (calls_in script + setting.terms.limits.replays) (attempt setting.terms) (omega (arith, none)) in
+      times_less (length request.calls + replays_left setting.terms (Queued None)) (calls_in script + setting.terms.limits.replays) (attempt setting.terms) (omega (arith, none)) in
       omega (arith, split, more)
     where
       unstarted : replays_left setting.terms (Queued None) ≡ setting.terms.limits.replays
@@ -128,7 +126,7 @@ new_most setting n who client doing held rounds some left keeps = by held keeps
     over None = omega arith
     over (Some request) =
         let fewer : requests_left script later + 1 ≤ requests_left script client.past = past_left script client.past (past_of setting.terms doing) left in
-        let times : requests_left script later * size ≤ (requests_left script client.past - 1) * size = times_up (requests_left script later) (requests_left script client.past - 1) size (omega arith) in
+        let times : requests_left script later * size ≤ (requests_left script client.past - 1) * size = times_less (requests_left script later) (requests_left script client.past - 1) size (omega arith) in
         omega (arith, times, some)
 
     by : (held : Hold) → (held ≡ hold.Keep → doing_rounds setting n true doing ≤ rounds) → client_rounds setting n true script (after_hold setting who client doing held) ≤ (requests_left script client.past - 1) * size + rounds

@@ -23,7 +23,7 @@ use Rattle.world_model.proofs.Happened.{at_event}
 
 -- NUMBERS -----------------------------------------------------------------------------------------
 
-times_less : (a b size : ℕ) → a ≤ b → a * size ≤ b * size
+pub times_less : (a b size : ℕ) → a ≤ b → a * size ≤ b * size
 times_less a b size less = grind arith
 
 -- the rounds are no more, and less is left of this one

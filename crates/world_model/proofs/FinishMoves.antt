@@ -44,7 +44,8 @@ use Rattle.world_model.proofs.HeldEvents.{waits_step, lends_step, opens_step}
 use Rattle.world_model.proofs.HeldKept.{holds_rightly}
 use Rattle.world_model.proofs.LinkOrder.{is_orderly}
 use Rattle.world_model.proofs.Lookups.{changed_own}
-use Rattle.world_model.proofs.SentLinks.{spoken_by, last_at}
+use Rattle.world_model.proofs.SentLinks.{spoken_by}
+use Rattle.world_model.proofs.Recalling.{get_last}
 use Rattle.world_model.specs.Hold.{is_held}
 
 pub long_map : {A B : Type 0} (f : A → B) (xs : List A) → length (map f xs) ≡ length xs
@@ -186,7 +187,7 @@ module _ (t : Traced) (inv : Orderly t) (who : ℕ) where
 
       found : link_at n.links (next_number now) ≡ Some (change new_link)
       found = changed_own change (t.machine.links ++ new_link ∷ []) (next_number now) new_link
-          (ap (λ (k : ℕ). link_at (t.machine.links ++ new_link ∷ []) k) (add-one (length t.machine.links)) ∙ last_at t.machine.links new_link)
+          (ap (λ (k : ℕ). link_at (t.machine.links ++ new_link ∷ []) k) (add-one (length t.machine.links)) ∙ get_last t.machine.links new_link)
 
       opens_now : on_open n.links after.connection ≡ true
       opens_now = ap (λ (one : Option Link). option_map_or (λ l. l.is_open) one true) found

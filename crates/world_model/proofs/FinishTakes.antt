@@ -1,6 +1,6 @@
 -- A step on a connection leaves its client no more rounds.
-use Rattle.client_model.specs.Talk.{Step, takes as taken_by, loses as lost_to, wants_in}
-use Rattle.client_model.specs.Terms.{Terms, Talk, Phase, Idle, Seeking, Greeting, Asked, Running, Replaying}
+use Rattle.client_model.specs.Talk.{Step, takes as taken_by, loses as lost_to}
+use Rattle.client_model.specs.Terms.{Talk, Phase, Idle}
 use Rattle.client_model.specs.declared.act.Hold.TheVariants as hold
 use Rattle.client_model.specs.declared.act.Hold.{Hold}
 use Rattle.client_model.specs.declared.input.Input.TheVariants.{Took, Gone}
@@ -33,6 +33,7 @@ use Rattle.world_model.proofs.Moves.{IsDoing, takes_one}
 use Rattle.world_model.proofs.Saying.{Spoken, Quiet, Fails, Ends, Asks, Calls, Marks, has_next, is_hushed, said}
 use Rattle.world_model.proofs.SentLinks.{awaits}
 use Rattle.world_model.proofs.Strangers.{frame_now}
+use Rattle.world_model.proofs.TalkRests.{frame_holds}
 use Rattle.world_model.proofs.TalkRounds.{behind, loss_rounds, takes_rounds, records_few}
 use Rattle.world_model.proofs.TalkRecorded.{talk_few}
 use Rattle.world_model.specs.Acting.{closing, sent_by, owner_at, connection_of, call_in}
@@ -41,7 +42,6 @@ use Rattle.world_model.specs.Clients.{Doing, Client, client_at, with_client, doi
 use Rattle.world_model.specs.Frames.{Owner, Sent, Reply}
 use Rattle.world_model.specs.Going.{lost_at_once}
 use Rattle.world_model.specs.Going.{unless_open}
-use Rattle.world_model.specs.Hold.{holds_connection}
 use Rattle.world_model.specs.Hold.{is_held, is_by_held}
 use Rattle.world_model.specs.Invariant.{Orderly}
 use Rattle.world_model.specs.Links.{Link, link_at, with_link, changed, sends, takes, is_close}
@@ -50,23 +50,9 @@ use Rattle.world_model.specs.Remaining.{on_open, doing_rounds, links_work}
 use Rattle.world_model.specs.RoundsLeft.{rounds_by, talk_rounds}
 use Rattle.world_model.specs.Traced.{Traced}
 use Rattle.world_model.specs.Conversing.{Talks, IsTalking, inputs_of, first_talk}
-use Rattle.request_bounds.specs.Limits.{has_waited}
 use Rattle.world_model.specs.Links.{ends}
 use Rattle.world_model.proofs.FinishMoves.{mapped_few, not_idle}
 use Rattle.world_model.proofs.TalksKept.{talks_at}
-
--- what a request with a connection awaits is a frame
-frame_holds : (terms : Terms) (talk : Talk) (phase : Phase) (now : ℕ) → wants_in terms talk phase now ≡ wants.Frame → holds_connection phase ≡ true
-frame_holds terms talk (Greeting lost) now is = refl
-frame_holds terms talk (Asked asking) now is = refl
-frame_holds terms talk (Running state) now is = refl
-frame_holds terms talk (Replaying state) now is = refl
-frame_holds terms talk (Seeking lost) now is = by (has_waited talk.last_try now terms.limits.delay) is
-  where
-    by : (waited : Bool) → (if waited then wants.Try else wants.Early) ≡ wants.Frame → holds_connection (Seeking lost) ≡ true
-    by true is = absurd (let none : ⊥ = cc in none)
-    by false is = absurd (let none : ⊥ = cc in none)
-frame_holds terms talk phase now is = absurd (let none : ⊥ = cc in none)
 
 -- nothing closes a connection while its request goes on
 none_close : (owner : Owner) (call : ℕ) (before : Phase) (left hushed : Bool) (phase : Phase) (send : List Up) (held : Hold) (how : Back) → Spoken before left true hushed phase send held → held ≡ hold.Keep → hushed ≡ false → awaits_no_call phase ≡ true

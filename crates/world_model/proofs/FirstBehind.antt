@@ -2,9 +2,10 @@
 use Rattle.std.proofs.Common.{◌≡◌, refl, sym, ap, subst, ◌∙◌, Bool, true, false, ℕ, suc, zero, ◌+◌, ◌-◌, ◌≤◌, ◌<◌, cond, length, drop, List, [], ◌∷◌, Option, Some, None, arith}
 use Rattle.std.specs.Prelude.{not, nat_lt, position, slice_get, option_map, ◌||◌}
 use Rattle.std.specs.List.{position_or_len, list_any}
-use Rattle.std.proofs.lemmas.Bool.{or_left, or_right}
+use Rattle.std.proofs.lemmas.Bool.{or_from}
 use Rattle.std.proofs.lemmas.Bool.Decides.{nat_tests}
 use Rattle.world_model.specs.Finishing.{first_behind}
+use Rattle.world_model.proofs.Lists.{at_any}
 
 -- what is found
 pub record IsFirst {A : Type 0} (test : A → Bool) (passed : ℕ) (all : List A) (number : ℕ) : Type 0 where
@@ -144,19 +145,10 @@ none_there {A} test passed all none = by (first_behind test passed all) refl
         let clash : true ≡ false = sym one.meets ∙ none one.index one.item one.behind one.there in
         absurd (let never : ⊥ = cc in never)
 
-none_or : (here rest : Bool) → here ≡ false → rest ≡ false → (here || rest) ≡ false
-none_or true rest is none = absurd (let never : ⊥ = cc in never)
-none_or false rest is none = none
-
 -- and none meets the test then
 pub none_any : {A : Type 0} (test : A → Bool) (all : List A) → NoneBehind test 0 all → list_any test all ≡ false
 none_any test [] none = refl
-none_any test (x ∷ xs) none = none_or (test x) (list_any test xs) (none 0 x (omega arith) refl) (none_any test xs (λ other one least at. none (suc other) one (omega arith) at))
-
-pub at_any : {A : Type 0} (test : A → Bool) (xs : List A) (index : ℕ) (x : A) → slice_get xs index ≡ Some x → test x ≡ true → list_any test xs ≡ true
-at_any test [] index x at meets = absurd (let none : ⊥ = cc in none)
-at_any test (y ∷ ys) zero x at meets = let same : y ≡ x = cc in or_left (test y) (list_any test ys) (ap test same ∙ meets)
-at_any test (y ∷ ys) (suc index) x at meets = or_right (test y) (list_any test ys) (at_any test ys index x at meets)
+none_any test (x ∷ xs) none = or_from (test x) (list_any test xs) (none 0 x (omega arith) refl) (none_any test xs (λ other one least at. none (suc other) one (omega arith) at))
 
 -- where one is found, one meets the test
 pub position_any : {A : Type 0} (test : A → Bool) (xs : List A) (index : ℕ) → position test xs ≡ Some index → list_any test xs ≡ true

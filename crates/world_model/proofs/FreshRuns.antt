@@ -95,9 +95,6 @@ module _ (orderly : RunsAreOrderly) (serve : RunsServe) (legal : RunsLegal) (fre
   abbrev names : List Link → List SessionId
   names all = filter_map (λ link. link.session) all
 
-  abbrev AtAll : (Link → ℕ) → (Link → ℕ) → Type 0
-  AtAll weight bound = (index : ℕ) (link : Link) → slice_get links index ≡ Some link → weight link ≤ bound link
-
   all_once : total all_weight links ≤ 1
   all_once =
       let all = links_within t seen.start (walk_of seen.start gained) (items_of seen.history) value all_weight links (and_parts (each_pair (λ a b. not (same_session a b)) (sessions_of t)) _ (so_far orderly serve legal fresh_new document events notes items seen t calls reached).basic.apart).0 (λ index link at. (

@@ -15,8 +15,9 @@ use Rattle.world_model.specs.Sames.{all_with, each_pair, same_owners}
 use Rattle.world_model.specs.Traced.{Traced}
 use Rattle.world_model.specs.StoredOnce.{is_call, is_stored_next, stored_of, given_to, given_in, StoredCall, stored_call, are_apart}
 use Rattle.world_model.proofs.DrawnOnce.{times, times_both, time_some}
-use Rattle.world_model.proofs.OwnedLists.{Stands, stands_any, From, from_one, one_first, owners_self, firsts}
+use Rattle.world_model.proofs.OwnedLists.{Stands, stands_any, From, from_one, one_first, firsts}
 use Rattle.world_model.proofs.AskedNear.{owners_are}
+use Rattle.world_model.proofs.SameSelf.{owners_self}
 use Rattle.world_model.proofs.Tests.{eq_from, eq_to}
 
 -- SUMS --------------------------------------------------------------------------------------------

@@ -26,8 +26,9 @@ use Rattle.world_model.specs.Wire.{is_handled, counted_with, handled_from}
 use Rattle.world_model.proofs.DrawnOnce.{times, times_both}
 use Rattle.world_model.proofs.FrameDraws.{anew, is_kept_first, are_drawn, is_drawn}
 use Rattle.world_model.proofs.LinkNumbers.{Was, Ordinary, Halted, was_so}
-use Rattle.world_model.proofs.OwnedLists.{is_origin, has_origin, owners_self, firsts, firsts_both}
+use Rattle.world_model.proofs.OwnedLists.{is_origin, has_origin, firsts, firsts_both}
 use Rattle.world_model.proofs.RepeatedGiven.{gave_before, kept_given, repeats_given}
+use Rattle.world_model.proofs.SameSelf.{owners_self}
 use Rattle.world_model.proofs.ShownGiven.{gives_draws, gives_to, is_nothing, any_served}
 use Rattle.world_model.proofs.Strangers.{owned_is}
 

@@ -3,7 +3,7 @@ use Rattle.std.proofs.Common.{◌≡◌, refl, sym, subst, ◌∙◌, Bool, true
 use Rattle.std.specs.Prelude.{◌==◌, slice_get}
 use Rattle.std.specs.List.{list_any}
 use Rattle.std.specs.Option.{option_map_or}
-use Rattle.std.proofs.lemmas.Bool.{and_parts, and_from, or_right, or_cases}
+use Rattle.std.proofs.lemmas.Bool.{and_parts, and_from, or_right, or_cases, or_left}
 use Rattle.std.proofs.lemmas.List.Folds.{list_any-append}
 use Rattle.svc_values.specs.declared.call.Call.{Call}
 use Rattle.svc_values.specs.Calls.{is_lone_commit}
@@ -14,13 +14,8 @@ use Rattle.world_model.specs.Sames.{owned_by}
 use Rattle.world_model.specs.Shown.{is_shown_item, link_shows, is_from, all_from, shows_commit}
 use Rattle.world_model.specs.Traced.{Traced, Course}
 use Rattle.world_model.specs.Words.{held_in}
-use Rattle.world_model.proofs.CoursesGrow.{or_left}
+use Rattle.world_model.proofs.Lists.{any_goes}
 use Rattle.world_model.proofs.ServedGrows.{IsLonger}
-
-pub any_more : {A : Type 0} (test next : A → Bool) (xs : List A) → ((x : A) → test x ≡ true → next x ≡ true) → list_any test xs ≡ true → list_any next xs ≡ true
-any_more test next [] keeps is = is
-any_more test next (x ∷ xs) keeps is =
-    ⊎_elim (λ first. or_left (next x) (list_any next xs) (keeps x first)) (λ later. or_right (next x) (list_any next xs) (any_more test next xs keeps later)) (or_cases (test x) (list_any test xs) is)
 
 -- an item of this request on a connection
 abbrev pub shows_by : Owner → List Link → ℕ → Call → ShownCall → ℕ → Bool
@@ -50,8 +45,8 @@ module _ (old new : Traced) (longer : (number : ℕ) (link : Link) → link_at o
         (subst (λ (numbers : List ℕ). list_any (link_shows new d index call shown) numbers ≡ true) (sym held_are)
         (list_any-append (link_shows new d index call shown) (held_in c.steps) held
         ∙ or_left (list_any (link_shows new d index call shown) (held_in c.steps)) (list_any (link_shows new d index call shown) held)
-        (any_more (link_shows old c index call shown) (link_shows new d index call shown) (held_in c.steps)
-        (λ number here. subst (λ (o : Owner). shows_by o new.machine.links index call shown number ≡ true) (sym owner) (still_shows c.owner index call shown number here)) item))))
+        (any_goes (link_shows old c index call shown) (link_shows new d index call shown)
+        (λ number here. subst (λ (o : Owner). shows_by o new.machine.links index call shown number ≡ true) (sym owner) (still_shows c.owner index call shown number here)) (held_in c.steps) item))))
         (λ lone.
         let one = and_parts (is_lone_commit call) (shows_commit shown && before) lone in
         let two = and_parts (shows_commit shown) before one.1 in

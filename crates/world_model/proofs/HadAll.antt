@@ -26,6 +26,7 @@ use Rattle.world_model.specs.Crashing.{falls, fallen_link}
 use Rattle.world_model.specs.Outside.{closed_by_drain}
 use Rattle.world_model.specs.Traced.{Traced, courses_of}
 use Rattle.world_model.specs.Hold.{is_idle, are_had, is_held}
+use Rattle.world_model.proofs.Recalling.{get_last}
 use Rattle.world_model.proofs.Tests.{eq_from, eq_to}
 use Rattle.world_model.proofs.AllLists.{at_all}
 use Rattle.world_model.proofs.AllLinks.{at_link, front_is, IsOpen, open_is}
@@ -35,7 +36,7 @@ use Rattle.world_model.proofs.Ends.{ends_case, fallen_case, cut_case}
 use Rattle.world_model.proofs.Moves.{IsDoing, next_number, opens_one, Goes, Rests, Waits, Lends, Opens, Fails, Takes, Loses, takes_one, ServesLast, LastNone, LastStopped, LastServed, Happens, Nothing, IsStep, Serves, Cuts, Reaps, Crashes, OpensUp, StopsOpening, Ticks, RunsOutside, Asks, Drains}
 use Rattle.world_model.proofs.Happened.{at_event}
 use Rattle.world_model.proofs.Others.{changed_others}
-use Rattle.world_model.proofs.SentLinks.{spoken_by, last_at}
+use Rattle.world_model.proofs.SentLinks.{spoken_by}
 use Rattle.world_model.proofs.Lookups.{with_others, with_own, changed_own, falls_there, each_others}
 use Rattle.world_model.proofs.PoolOpened.{with_long, changed_long, each_long}
 use Rattle.world_model.proofs.Saying.{has_next}
@@ -272,7 +273,7 @@ module _ (t : Traced) (had : are_had t ≡ true) (held : list_all (is_held t) (c
   goes_step number _ (Opens doing wanted pool is tries runs) =
       let none : doing.connection ≡ None = none_of number doing wanted is (not_frame now number wanted pool tries) in
       let frames : List Sent = sent_by (owner_at now number) 0 up.Connect ∷ [] in
-      let new : link_at (t.machine.links ++ new_link ∷ []) (next_number now) ≡ Some new_link = ap (λ (n : ℕ). link_at (t.machine.links ++ new_link ∷ []) n) (add-one (length t.machine.links)) ∙ last_at t.machine.links new_link in
+      let new : link_at (t.machine.links ++ new_link ∷ []) (next_number now) ≡ Some new_link = ap (λ (n : ℕ). link_at (t.machine.links ++ new_link ∷ []) n) (add-one (length t.machine.links)) ∙ get_last t.machine.links new_link in
       let step = opens_had t.setting now number doing wanted pool is none tries frames (opens_one t.setting now number doing pool) refl refl refl in
       NewHad number is.client _ is.here step.0
       (changed_long _ (t.machine.links ++ new_link ∷ []) (next_number now) ∙ length-append t.machine.links (new_link ∷ []))

@@ -39,7 +39,7 @@ use Rattle.world_model.proofs.HadSaid.{says_open, says_shut, after_none, after_o
 
 -- STEPS -------------------------------------------------------------------------------------------
 
-not_zero : (links : List Link) (number : ℕ) (link : Link) → link_at links number ≡ Some link → number ≢ 0
+pub not_zero : (links : List Link) (number : ℕ) (link : Link) → link_at links number ≡ Some link → number ≢ 0
 not_zero links number link is same =
     let none : link_at links 0 ≡ Some link = ap (link_at links) (sym same) ∙ is in
     let never : ⊥ = cc in never

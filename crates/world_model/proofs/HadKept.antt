@@ -11,7 +11,7 @@ use Rattle.world_model.specs.Machines.{Machine}
 use Rattle.world_model.specs.Traced.{Traced, Course, courses_of}
 use Rattle.world_model.specs.Hold.{holders_of, is_had, are_had, is_idle}
 use Rattle.world_model.specs.Parts.{Numbered, numbered_from}
-use Rattle.world_model.proofs.Tests.{eq_from, eq_to, le_to}
+use Rattle.world_model.proofs.Tests.{eq_from, eq_to, le_to, one_if, none_if}
 use Rattle.world_model.proofs.AllLists.{at_all}
 use Rattle.world_model.proofs.Counts.{goes_so, clients_count, with_count, count_none}
 use Rattle.world_model.proofs.Held.{numbered_at}
@@ -73,14 +73,6 @@ pub data HadMove (opens : Bool) (idle : ℕ) (had has now : Bool) (idle_now : �
   GivesBack : had ≡ true → has ≡ false → opens ≡ true → now ≡ true → idle_now ≡ idle + 1 → HadMove opens idle had has now idle_now
   IsLent : had ≡ false → has ≡ true → opens ≡ true → now ≡ true → idle ≡ idle_now + 1 → HadMove opens idle had has now idle_now
 
-one_of : (test : Bool) → test ≡ true → ◌≡◌ {A = ℕ} (cond test 1 0) 1
-one_of true is = refl
-one_of false is = absurd (let none : ⊥ = cc in none)
-
-none_of : (test : Bool) → test ≡ false → ◌≡◌ {A = ℕ} (cond test 1 0) 0
-none_of true is = absurd (let none : ⊥ = cc in none)
-none_of false is = refl
-
 fewer : (has had : Bool) → (has ≡ true → had ≡ true) → cond has 1 0 ≤ cond had 1 0
 fewer true true follows = omega arith
 fewer true false follows = absurd (let never : false ≡ true = follows refl in let none : ⊥ = cc in none)
@@ -111,13 +103,13 @@ had_moves opens idle had has now idle_now before after (Closes now_is follows) c
     as_closed now after idle_now now_is (none now_is) (omega arith)
 had_moves opens idle had has now idle_now before after (GivesBack had_is has_is opens_is now_is idle_is) count none old =
     let sum : before + idle ≡ 1 = open_sum opens before idle opens_is old in
-    let one : ◌≡◌ {A = ℕ} (cond had 1 0) 1 = one_of had had_is in
-    let zero_is : ◌≡◌ {A = ℕ} (cond has 1 0) 0 = none_of has has_is in
+    let one : ◌≡◌ {A = ℕ} (cond had 1 0) 1 = one_if had had_is in
+    let zero_is : ◌≡◌ {A = ℕ} (cond has 1 0) 0 = none_if has has_is in
     as_open now after idle_now now_is (omega arith)
 had_moves opens idle had has now idle_now before after (IsLent had_is has_is opens_is now_is idle_is) count none old =
     let sum : before + idle ≡ 1 = open_sum opens before idle opens_is old in
-    let one : ◌≡◌ {A = ℕ} (cond has 1 0) 1 = one_of has has_is in
-    let zero_is : ◌≡◌ {A = ℕ} (cond had 1 0) 0 = none_of had had_is in
+    let one : ◌≡◌ {A = ℕ} (cond has 1 0) 1 = one_if has has_is in
+    let zero_is : ◌≡◌ {A = ℕ} (cond had 1 0) 0 = none_if had had_is in
     as_open now after idle_now now_is (omega arith)
 
 -- ALL CONNECTIONS ---------------------------------------------------------------------------------

@@ -4,30 +4,20 @@ use Rattle.std.specs.Prelude.{option_and_then, not}
 use Rattle.std.proofs.lemmas.Bool.{and_parts, not-true}
 use Rattle.svc_values.specs.declared.entry.Ltxid.{Ltxid}
 use Rattle.svc_values.specs.Same.{same_bool}
-use Rattle.pool_core.specs.declared.answers.Take.{Take}
-use Rattle.pool_core.specs.declared.answers.Take.TheVariants as take
-use Rattle.pool_core.specs.Slots.{Slots, take_answer, after_take}
-use Rattle.client_model.specs.declared.input.Wants.{Wants}
-use Rattle.client_model.specs.declared.input.Wants.TheVariants as wants
-use Rattle.client_model.specs.Talk.{wants_of}
 use Rattle.outage_schedule.specs.declared.event.Event.{Event}
 use Rattle.outage_schedule.specs.declared.note.Note.{Note}
 use Rattle.outage_schedule.specs.declared.note.GoNote.{GoNote}
-use Rattle.outage_schedule.specs.declared.note.GoNote.TheVariants as go
 use Rattle.outage_schedule.specs.declared.note.FrameName.{FrameName}
 use Rattle.outage_schedule.specs.declared.note.Reached.{Reached}
 use Rattle.outage_schedule.specs.declared.note.AskResult.{AskResult}
 use Rattle.outage_schedule.specs.declared.note.OutsideNote.{OutsideNote}
 use Rattle.outage_schedule.specs.declared.item.Served.{Served}
 use Rattle.world_model.specs.Settings.{Setting}
-use Rattle.world_model.specs.Frames.{Reply}
-use Rattle.world_model.specs.Links.{Link, link_at, changed}
-use Rattle.world_model.specs.Clients.{Client, Doing, client_at, doing_of}
+use Rattle.world_model.specs.Links.{Link, changed}
 use Rattle.world_model.specs.Machines.{Machine, next_session}
-use Rattle.world_model.specs.Acting.{loses}
-use Rattle.world_model.specs.Noting.{only_if, same_did, same_name, name_of}
+use Rattle.world_model.specs.Noting.{only_if, same_name, name_of}
 use Rattle.world_model.specs.Matching.{Noted, Went, ServedOn, CutOff, Reaped, Crashed, Opened, OpeningStopped, Ticked, RanOutside, Asked, Drained, matched}
-use Rattle.world_model.specs.Going.{noted, tries_while, lends, takes_slot, looks, looks_at, goes_by, goes, follow_go}
+use Rattle.world_model.specs.Going.{follow_go}
 use Rattle.world_model.specs.Serving.{Front, front_at, is_ordinary, serves, after_served, identifier}
 use Rattle.world_model.specs.Cutting.{open_at, cuts, follow_cut, after_cut, follow_reap, has_orphan, reaped_link}
 use Rattle.world_model.specs.Crashing.{is_stopped, is_over, serves_last, crashes, falls, after_stopped}
@@ -39,86 +29,18 @@ use Rattle.svc_values.specs.Identifiers.{same_ltxid}
 use Rattle.world_model.specs.Walking.{After, leaving, by_kind, follow}
 use Rattle.world_model.proofs.Items.{reaches, reaches_if, mapped}
 use Rattle.world_model.proofs.Kept.{only_is, pair_is, reached_is}
-use Rattle.world_model.proofs.Moves.{only_met, IsDoing, with_pool, Tries, FromQueue, Again, IsOn, Goes, Rests, Waits, Lends, Opens, Fails, Takes, Loses, ServesLast, LastNone, LastStopped, LastServed, Happens, Nothing, IsStep, Serves, Cuts, Reaps, Crashes, OpensUp, StopsOpening, Ticks, RunsOutside, Asks, Drains}
+use Rattle.world_model.proofs.Moves.{only_met, Goes, ServesLast, LastNone, LastStopped, LastServed, Happens, Nothing, IsStep, Serves, Cuts, Reaps, Crashes, OpensUp, StopsOpening, Ticks, RunsOutside, Asks, Drains}
+use Rattle.world_model.proofs.Resting.{goes_of, going_by}
 
 -- A STEP OF A CLIENT ------------------------------------------------------------------------------
 
-noted_goes : (setting : Setting) (m : Machine) (number : ℕ) (did expected : GoNote) (a n : Machine) → Goes setting m number a → noted did expected a ≡ Some n → Goes setting m number n
-noted_goes setting m number did expected a n moves e = subst (Goes setting m number) (only_is (same_did did expected) a n e) moves
-
-tries_goes : (setting : Setting) (m : Machine) (number : ℕ) (did : GoNote) (doing : Doing) (wanted : Wants) (pool : Slots) → IsDoing setting m number doing wanted → Tries m number wanted pool
-    → (is_up : Bool) → m.server.is_up ≡ is_up → (n : Machine) → tries_while setting (with_pool m pool) number did doing is_up ≡ Some n → Goes setting m number n
-tries_goes setting m number did doing wanted pool is_doing tries true is n e = noted_goes setting m number did _ _ n (Opens doing wanted pool is_doing tries is) e
-tries_goes setting m number did doing wanted pool is_doing tries false is n e = noted_goes setting m number did _ _ n (Fails doing wanted pool is_doing tries is) e
-
-lends_held : (setting : Setting) (m : Machine) (number : ℕ) (did : GoNote) (doing : Doing) → IsDoing setting m number doing wants.Slot → (connection : ℕ) → take_answer m.pool number ≡ take.Lent connection
-    → (link : Link) → link_at m.links connection ≡ Some link → (held : Option Ltxid) → link.held ≡ held → (n : Machine)
-    → lends setting (with_pool m (after_take m.pool number)) number did doing connection held ≡ Some n → Goes setting m number n
-lends_held setting m number did doing is_doing connection answer link there None is n e = absurd (let none : ⊥ = cc in none)
-lends_held setting m number did doing is_doing connection answer link there (Some ltxid) is n e = noted_goes setting m number did _ _ n (Lends doing connection link ltxid is_doing answer there is) e
-
-lends_goes : (setting : Setting) (m : Machine) (number : ℕ) (did : GoNote) (doing : Doing) → IsDoing setting m number doing wants.Slot → (connection : ℕ) → take_answer m.pool number ≡ take.Lent connection
-    → (found : Option Link) → link_at m.links connection ≡ found → (n : Machine)
-    → lends setting (with_pool m (after_take m.pool number)) number did doing connection (option_and_then (λ (link : Link). link.held) found) ≡ Some n → Goes setting m number n
-lends_goes setting m number did doing is_doing connection answer None there n e = absurd (let none : ⊥ = cc in none)
-lends_goes setting m number did doing is_doing connection answer (Some link) there n e = lends_held setting m number did doing is_doing connection answer link there link.held refl n e
-
-slot_goes : (setting : Setting) (m : Machine) (number : ℕ) (did : GoNote) (doing : Doing) → IsDoing setting m number doing wants.Slot → (answer : Take) → take_answer m.pool number ≡ answer → (n : Machine)
-    → takes_slot setting (with_pool m (after_take m.pool number)) number did doing answer ≡ Some n → Goes setting m number n
-slot_goes setting m number did doing is_doing take.Waiting answer n e = noted_goes setting m number did _ _ n (Waits doing is_doing answer) e
-slot_goes setting m number did doing is_doing (take.Lent connection) answer n e = lends_goes setting m number did doing is_doing connection answer (link_at m.links connection) refl n e
-slot_goes setting m number did doing is_doing take.Open answer n e = tries_goes setting m number did doing wants.Slot (after_take m.pool number) is_doing (FromQueue answer) m.server.is_up refl n e
-
-finds_goes : (setting : Setting) (m : Machine) (number : ℕ) (did : GoNote) (doing : Doing) → IsDoing setting m number doing wants.Frame → (connection : ℕ) (link : Link) → IsOn m doing connection link
-    → link.down ≡ [] → (is_open : Bool) → link.is_open ≡ is_open → (n : Machine)
-    → (if is_open then noted did go.NoFrame m else noted did (go.Lost connection) (loses setting m number doing link.ended)) ≡ Some n → Goes setting m number n
-finds_goes setting m number did doing is_doing connection link on none true is n e = noted_goes setting m number did _ m n Rests e
-finds_goes setting m number did doing is_doing connection link on none false is n e = noted_goes setting m number did _ _ n (Loses doing connection link is_doing on none is) e
-
-looks_goes : (setting : Setting) (m : Machine) (number : ℕ) (did : GoNote) (doing : Doing) → IsDoing setting m number doing wants.Frame → (connection : ℕ) (link : Link) → IsOn m doing connection link
-    → (down : List Reply) → link.down ≡ down → (n : Machine) → looks setting m number did doing connection link down ≡ Some n → Goes setting m number n
-looks_goes setting m number did doing is_doing connection link on [] is n e = finds_goes setting m number did doing is_doing connection link on is link.is_open refl n e
-looks_goes setting m number did doing is_doing connection link on (reply ∷ left) is n e = noted_goes setting m number did _ _ n (Takes doing connection link reply left is_doing on is) e
-
-found_goes : (setting : Setting) (m : Machine) (number : ℕ) (did : GoNote) (doing : Doing) → IsDoing setting m number doing wants.Frame → (connection : ℕ) → doing.connection ≡ Some connection
-    → (found : Option Link) → link_at m.links connection ≡ found → (n : Machine)
-    → option_and_then (λ (one : Link). looks setting m number did doing connection one one.down) found ≡ Some n → Goes setting m number n
-found_goes setting m number did doing is_doing connection has None there n e = absurd (let none : ⊥ = cc in none)
-found_goes setting m number did doing is_doing connection has (Some link) there n e =
-    looks_goes setting m number did doing is_doing connection link (record { has = has; there = there }) link.down refl n e
-
-connected_goes : (setting : Setting) (m : Machine) (number : ℕ) (did : GoNote) (doing : Doing) → IsDoing setting m number doing wants.Frame → (connection : Option ℕ) → doing.connection ≡ connection
-    → (n : Machine) → option_and_then (looks_at setting m number did doing) connection ≡ Some n → Goes setting m number n
-connected_goes setting m number did doing is_doing None has n e = absurd (let none : ⊥ = cc in none)
-connected_goes setting m number did doing is_doing (Some connection) has n e = found_goes setting m number did doing is_doing connection has (link_at m.links connection) refl n e
-
-by_wants : (setting : Setting) (m : Machine) (number : ℕ) (did : GoNote) (doing : Doing) (wanted : Wants) → IsDoing setting m number doing wanted → (n : Machine)
-    → goes_by setting m number did doing wanted ≡ Some n → Goes setting m number n
-by_wants setting m number did doing wants.Idle is_doing n e = absurd (let none : ⊥ = cc in none)
-by_wants setting m number did doing wants.Request is_doing n e = absurd (let none : ⊥ = cc in none)
-by_wants setting m number did doing wants.Slot is_doing n e = slot_goes setting m number did doing is_doing (take_answer m.pool number) refl n e
-by_wants setting m number did doing wants.Try is_doing n e = tries_goes setting m number did doing wants.Try m.pool is_doing Again m.server.is_up refl n e
-by_wants setting m number did doing wants.Early is_doing n e = noted_goes setting m number did _ m n Rests e
-by_wants setting m number did doing wants.Frame is_doing n e = connected_goes setting m number did doing is_doing doing.connection refl n e
-
-doing_goes : (setting : Setting) (m : Machine) (number : ℕ) (did : GoNote) (client : Client) → client_at m.clients number ≡ Some client
-    → (doing : Option Doing) → doing_of setting.terms m.event m.tick client ≡ doing → (n : Machine) → goes setting m number did doing ≡ Some n → Goes setting m number n
-doing_goes setting m number did client here None does n e = noted_goes setting m number did _ m n Rests e
-doing_goes setting m number did client here (Some doing) does n e =
-    by_wants setting m number did doing (wants_of setting.terms doing.talk m.tick) (record { client = client; here = here; does = does; wants = refl }) n e
-
-client_goes : (setting : Setting) (m : Machine) (number : ℕ) (did : GoNote) (client : Option Client) → client_at m.clients number ≡ client → (n : Machine)
-    → option_and_then (λ (one : Client). goes setting m number did (doing_of setting.terms m.event m.tick one)) client ≡ Some n → Goes setting m number n
-client_goes setting m number did None here n e = absurd (let none : ⊥ = cc in none)
-client_goes setting m number did (Some client) here n e = doing_goes setting m number did client here (doing_of setting.terms m.event m.tick client) refl n e
-
 go_goes : (setting : Setting) (m : Machine) (number : ℕ) (did : GoNote) (n : Machine) → follow_go setting m number did ≡ Some n → Goes setting m number n
-go_goes setting m number did n e = client_goes setting m number did (client_at m.clients number) refl n e
+go_goes setting m number did n e = goes_of setting m number n (going_by setting m number did n e)
 
 -- SERVE AND CRASH ---------------------------------------------------------------------------------
 
 -- the items that are left, or else these
-abbrev left_or : List Served → After → List Served
+abbrev pub left_or : List Served → After → List Served
 left_or items None = items
 left_or items (Some next) = next.1
 

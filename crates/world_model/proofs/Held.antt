@@ -94,7 +94,7 @@ no_more number (other ∷ numbers) none =
     let parts = one_less (other == number) number other (count_by (λ one. one == number) numbers) refl (sym (sum_by-cons (λ (one : ℕ). cond (one == number) 1 0) other numbers) ∙ none) in
     and_from (differ number other) (all_with (differ number) numbers) parts.0 (no_more number numbers parts.1)
 
-counted_self : (test : Bool) (count : ℕ) → test ≡ true → cond test 1 0 + count ≡ count + 1
+pub counted_self : (test : Bool) (count : ℕ) → test ≡ true → cond test 1 0 + count ≡ count + 1
 counted_self true count is = omega arith
 counted_self false count is = absurd (let never : ⊥ = cc in never)
 

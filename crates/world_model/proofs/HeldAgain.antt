@@ -1,5 +1,5 @@
 -- The reply to a repeated call brings the identifier that is held: what is out commits nothing.
-use Rattle.std.proofs.Common.{◌≡◌, refl, sym, ap, subst, ◌∙◌, Bool, true, false, ℕ, ◌+◌, ◌≤◌, ◌&&◌, length, List, ◌∷◌, Option, Some, None, ◌⊎◌, inl, inr, arith, if◌then◌else◌}
+use Rattle.std.proofs.Common.{◌≡◌, refl, sym, ap, subst, ◌∙◌, Bool, true, false, ℕ, ◌+◌, ◌≤◌, ◌&&◌, length, List, ◌∷◌, Option, Some, None, ◌⊎◌, inl, inr, arith}
 use Rattle.std.specs.Prelude.{◌==◌, ◌||◌, not, nat_le, is_some}
 use Rattle.std.specs.List.{list_any, last_or}
 use Rattle.std.specs.Option.{option_map_or}
@@ -28,6 +28,7 @@ use Rattle.world_model.specs.Number.{is_near, is_ahead, ahead_rightly, is_counte
 use Rattle.world_model.specs.Parts.{is_answered, is_rep, is_out, out_frame, is_commit_frame, is_commit_call, served_reps, number_of, held_number, implies}
 use Rattle.world_model.specs.Sames.{same_up, same_sent, same_owners, owned_by}
 use Rattle.world_model.specs.Traced.{Traced}
+use Rattle.world_model.proofs.LinkCounts.{extra_few}
 use Rattle.world_model.proofs.Tests.{eq_from, le_from, same_session_is}
 use Rattle.world_model.proofs.AllLinks.{at_link}
 use Rattle.world_model.proofs.FrontLists.{last_kept}
@@ -95,10 +96,6 @@ made_none sent (Some one) marked made =
 few_held : (number held extra : ℕ) (ahead : Bool) → (number == held + 1) ≡ ahead → ahead ≡ false → number ≤ held + extra → extra ≤ 1 → number ≤ held
 few_held number held extra true is none most few = absurd (let never : ⊥ = cc in never)
 few_held number held extra false is none most few = grind (arith, nat_tests)
-
-extra_few : (held : Bool) → (if held then 1 else 0) ≤ 1
-extra_few true = omega arith
-extra_few false = omega arith
 
 not_ahead : (t : Traced) (link : Link) (sent : Sent) → out_frame link ≡ Some sent → is_marked sent.frame ≡ true → ahead_rightly t link ≡ true → is_near t link ≡ true → number_of t.entries link ≤ held_number link
 not_ahead t link sent out marked ahead near =

@@ -26,6 +26,7 @@ use Rattle.world_model.proofs.LinkCounts.{Known}
 use Rattle.world_model.proofs.LinkHandled.{commits_behind}
 use Rattle.world_model.proofs.LinkNumbers.{Was, Ordinary, Halted, was_so, rep_of, stopped_item, stopped_silent, all_told, alike_told}
 use Rattle.world_model.proofs.HeldAgain.{told_same}
+use Rattle.world_model.proofs.Lists.{none_of}
 use Rattle.world_model.proofs.ServedNear.{reply_rep, few_replies, front_long}
 use Rattle.world_model.proofs.Tests.{eq_from, le_from, same_session_is, not_both}
 
@@ -79,10 +80,6 @@ fewer commits (one ∷ others) handled any =
     (λ later. few_more one one.reply (rep_of one) (filter_map reply_to others) (filter rep_of others) (reply_rep now one parts.0) (fewer now others parts.1 later)) (or_cases (is_stop one) (list_any is_stop others) any)
 
 -- ALL REPLIES WERE TAKEN --------------------------------------------------------------------------
-
-none_of : {A : Type 0} (xs : List A) → length xs ≡ 0 → xs ≡ []
-none_of [] is = refl
-none_of (x ∷ xs) is = absurd (let none : ⊥ = omega (arith, is) in none)
 
 pub stopped_number : (link : Link) → Known link → list_any is_stop link.served ≡ true → held_number link ≡ commits_behind 0 link.served
 stopped_number link known stopped =

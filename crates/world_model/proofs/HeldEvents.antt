@@ -1,5 +1,5 @@
 -- On the connection of each request is out what it waits for, event by event.
-use Rattle.std.proofs.Common.{◌≡◌, ◌≢◌, refl, sym, ap, subst, ◌∙◌, Bool, true, false, ℕ, suc, zero, ◌+◌, ◌≤◌, ◌&&◌, cond, length, List, [], ◌∷◌, ◌++◌, count_by, Option, Some, None, if◌then◌else◌, arith, add-one}
+use Rattle.std.proofs.Common.{◌≡◌, ◌≢◌, refl, sym, ap, subst, ◌∙◌, Bool, true, false, ℕ, ◌+◌, ◌≤◌, ◌&&◌, cond, length, List, [], ◌∷◌, ◌++◌, count_by, Option, Some, None, if◌then◌else◌, arith, add-one}
 use Rattle.std.specs.Prelude.{◌==◌, option_map, option_and_then, unwrap_or, is_some}
 use Rattle.std.specs.List.{list_all, last_or}
 use Rattle.std.specs.Option.{option_or, option_map_or}
@@ -30,6 +30,8 @@ use Rattle.world_model.specs.Going.{lost_at_once}
 use Rattle.world_model.specs.Hold.{holds_connection, is_idle, is_awaited, goes_by, same_held}
 use Rattle.world_model.specs.Parts.{is_answered, count_reps}
 use Rattle.world_model.specs.Sames.{owned_by}
+use Rattle.world_model.proofs.HadEvents.{not_zero}
+use Rattle.world_model.proofs.Recalling.{get_last}
 use Rattle.world_model.proofs.Tests.{eq_to}
 use Rattle.world_model.proofs.AllClients.{stepped_client, client_set, client_twice}
 use Rattle.world_model.proofs.AllLinks.{at_link}
@@ -39,7 +41,7 @@ use Rattle.world_model.proofs.LinkSent.{open_living}
 use Rattle.world_model.proofs.Moves.{IsDoing, next_number}
 use Rattle.world_model.proofs.Others.{changed_others}
 use Rattle.world_model.proofs.Strangers.{frame_now}
-use Rattle.world_model.proofs.SentLinks.{awaits, spoken_by, last_at, lent_idle}
+use Rattle.world_model.proofs.SentLinks.{awaits, spoken_by, lent_idle}
 use Rattle.world_model.proofs.Lookups.{IsSaid, with_others, with_own, changed_own, new_others}
 use Rattle.world_model.proofs.Saying.{is_hushed}
 use Rattle.world_model.proofs.Ends.{sends_alike}
@@ -54,10 +56,6 @@ awaits_same owner phase a b said out = ap (λ (sent : List Sent). test sent b.ta
   where
     test : List Sent → List Reply → Bool
     test sent taken = (count_reps sent == length taken + 1) && option_map_or (λ one. is_answered one.frame && (owned_by owner one && is_awaited phase one)) (last_or None sent) false
-
-pub not_zero : (links : List Link) (number : ℕ) (link : Link) → link_at links number ≡ Some link → number ≢ 0
-not_zero links zero link is same = let none : ⊥ = cc in none
-not_zero links (suc index) link is same = let none : ⊥ = omega arith in none
 
 -- the connection that is lent is among those that are idle
 first_count : (idle : List ℕ) (connection : ℕ) → lends idle ≡ take.Lent connection → 1 ≤ count_by (λ one. one == connection) idle
@@ -104,7 +102,7 @@ by_lent : (phase : Phase) {x : Ltxid} {held : Option Ltxid} → goes_by phase �
 by_lent phase {x} {held} is has = ap (λ (one : Option Ltxid). same_held one held) is ∙ (ap (same_held (Some x)) has ∙ (same_ltxid_decides x x).1 refl)
 
 -- what is held stays where frames are sent
-sends_held : (event : ℕ) (frames : List Sent) (link : Link) → (sends event frames link).held ≡ link.held
+pub sends_held : (event : ℕ) (frames : List Sent) (link : Link) → (sends event frames link).held ≡ link.held
 sends_held event frames link = sends_alike (λ one. one.held ≡ link.held) event frames link refl refl
 
 module _ (setting : Setting) (m : Machine)
@@ -199,7 +197,7 @@ module _ (setting : Setting) (m : Machine)
   opens_step who doing wanted a is clients links =
       let next : Doing = heard setting.terms m.event m.tick (record doing { connection = Some (next_number m) }) (Opened (next_number m)) in
       let change : Link → Link = sends m.event (sent_by (owner_at m who) 0 up.Connect ∷ []) in
-      let new : link_at (m.links ++ new_link ∷ []) (next_number m) ≡ Some new_link = ap (λ (n : ℕ). link_at (m.links ++ new_link ∷ []) n) (add-one (length m.links)) ∙ last_at m.links new_link in
+      let new : link_at (m.links ++ new_link ∷ []) (next_number m) ≡ Some new_link = ap (λ (n : ℕ). link_at (m.links ++ new_link ∷ []) n) (add-one (length m.links)) ∙ get_last m.links new_link in
       record {
         next = after_hold setting who is.client next hold.Keep;
         clients = clients ∙ stepped_client setting m.clients who is.client next hold.Keep is.here;

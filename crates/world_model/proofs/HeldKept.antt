@@ -7,7 +7,6 @@ use Rattle.svc_values.specs.declared.entry.Ltxid.{Ltxid}
 use Rattle.svc_values.specs.declared.frame.Up.TheVariants as up
 use Rattle.svc_values.specs.Same.{same_bool}
 use Rattle.pool_core.specs.Slots.{Slots, give_back_answer}
-use Rattle.client_model.specs.declared.act.Hold.{Hold}
 use Rattle.client_model.specs.declared.act.Hold.TheVariants as hold
 use Rattle.client_model.specs.declared.act.Failed.TheVariants.{Retries, PoolWait}
 use Rattle.client_model.specs.declared.input.Input.TheVariants.{Took}
@@ -19,7 +18,7 @@ use Rattle.client_model.specs.Talk.{Step, stands, quiet, fails, on_hello, on_wai
 use Rattle.world_model.specs.Settings.{Setting}
 use Rattle.world_model.specs.Frames.{Owner, Reply}
 use Rattle.world_model.specs.Links.{Link, new_link, link_at, sends, takes}
-use Rattle.world_model.specs.Clients.{Doing, Client, after_hold}
+use Rattle.world_model.specs.Clients.{Doing}
 use Rattle.world_model.specs.Acting.{sent_by}
 use Rattle.world_model.specs.Machines.{Machine}
 use Rattle.world_model.specs.Hold.{holds_connection, is_idle}
@@ -38,7 +37,7 @@ holds_rightly links owner doing =
     same_bool (is_some doing.connection) (holds_connection doing.talk.phase)
     && option_map_or (λ number. option_map_or (awaits owner doing.talk.phase) (link_at links number) false) doing.connection true
 
-same_from : (a b : Bool) → a ≡ b → same_bool a b ≡ true
+pub same_from : (a b : Bool) → a ≡ b → same_bool a b ≡ true
 same_from true true is = refl
 same_from false false is = refl
 same_from true false is = absurd (let none : ⊥ = cc in none)
@@ -111,12 +110,6 @@ gone_none (Replaying state) event = refl
 gone_none phase event = refl
 
 -- THE REQUEST THAT GOES ON ------------------------------------------------------------------------
-
--- a request that goes on is the client's now
-kept_now : (setting : Setting) (number : ℕ) (client : Client) (doing one : Doing) (held : Hold) → (after_hold setting number client doing held).now ≡ Some one → (held ≡ hold.Keep) × (doing ≡ one)
-kept_now setting number client doing one hold.Keep is = (refl, (let same : doing ≡ one = cc in same))
-kept_now setting number client doing one hold.GiveBack is = absurd (let none : ⊥ = cc in none)
-kept_now setting number client doing one hold.Drop is = absurd (let none : ⊥ = cc in none)
 
 module _ (setting : Setting) (m : Machine) where
   pub waits_none : (talk : Talk) (from now : ℕ) → (on_waiting setting.terms talk from now).1.hold ≡ hold.Keep → holds_connection (on_waiting setting.terms talk from now).0.phase ≡ false

@@ -1,5 +1,5 @@
 -- Along a legal history a session draws anew what its connection's calls were given anew, and each other value of a marked call is a kept one.
-use Rattle.std.proofs.Common.{◌≡◌, refl, sym, ap, subst, ◌∙◌, ℕ, ◌+◌, ◌&&◌, Bool, true, false, not, List, [], ◌∷◌, ◌++◌, length, map, Option, Some, None, if◌then◌else◌, arith}
+use Rattle.std.proofs.Common.{◌≡◌, refl, sym, ap, subst, ◌∙◌, ℕ, ◌+◌, ◌&&◌, ◌||◌, Bool, true, false, not, List, [], ◌∷◌, ◌++◌, length, map, Option, Some, None, if◌then◌else◌, arith}
 use Rattle.std.specs.Prelude.{flat_map}
 use Rattle.std.specs.List.{list_all, list_any, last_or}
 use Rattle.std.proofs.lemmas.Bool.{and_parts, and_from, or_left, or_right}
@@ -22,17 +22,20 @@ use Rattle.server_model.specs.Legal.{deed_holds, is_of_now, item_holds, items_ho
 use Rattle.server_model.specs.Outcomes.{Telling, Silent, Says, Stopped}
 use Rattle.server_model.specs.Runs.{Happened, Served, Asked}
 use Rattle.server_model.specs.Walk.{Walk, next_of, number_of, Performed, stands, if_stands, performed_by, deed, deed_of, after_deed, after_thing, entered, after}
-use Rattle.world_model.specs.Basic.{none_behind}
+use Rattle.world_model.specs.Basic.{is_stopped, none_behind}
 use Rattle.world_model.specs.Frames.{Handled}
 use Rattle.world_model.specs.Number.{is_stopped_call, numbered_after}
 use Rattle.world_model.specs.Same.{Ran as RanBy, ran_item}
+use Rattle.world_model.specs.Serving.{is_last}
 use Rattle.world_model.specs.SessionHistory.{served_in, told_with, told_of}
+use Rattle.world_model.specs.Shown.{is_call}
 use Rattle.world_model.specs.Wire.{is_handled, counted_with, handled_from}
 use Rattle.world_model.proofs.DrawnFor.{is_by, new_by, drawn_for, is_session}
 use Rattle.world_model.proofs.HeldAtStop.{is_stop}
 use Rattle.world_model.proofs.LinkHandled.{commits_behind}
-use Rattle.world_model.proofs.RanFrames.{Deals, DealsBegin, DealsEnd, DealsCall, DealsStop, DealsQuietly, is_quiet_item, handled_deals, rests_behind, is_call, rests_rightly}
-use Rattle.world_model.proofs.RanHistory.{whole_of, same_whole, moved_whole, asked_same, Rest, both_hold, done_all, stopped_last, lone_later}
+use Rattle.world_model.proofs.LinkLives.{lone_later, none_later}
+use Rattle.world_model.proofs.RanFrames.{Deals, DealsBegin, DealsEnd, DealsCall, DealsStop, DealsQuietly, is_quiet_item, handled_deals, rests_behind, rests_rightly}
+use Rattle.world_model.proofs.RanHistory.{whole_of, same_whole, moved_whole, asked_same, Rest, both_hold, done_all}
 use Rattle.world_model.proofs.RanSessions.{Stands, GoesTo, GoesOn, IsDone, same_stands, same_stored, others_stand, own_stands}
 use Rattle.world_model.proofs.RanWalks.{IsSameWalk, Moved, enters, thing_moved}
 use Rattle.world_model.proofs.StoppedDraws.{stopped_in, last_drawn, found_in, none_in}
@@ -234,7 +237,7 @@ module _ (base : Base) (all : List Entry) (session : SessionId) (stopped : List 
           by : GoesTo later session (ran_item ran one.sent one.served.item) (rests_behind resting one.sent.frame) one.served.item → Told later rest others
           by (GoesOn goes) =
               again later (n + 1) others (ran_item ran one.sent one.served.item) (rests_behind resting one.sent.frame) both.1 whole_later
-              (record { has = has; handled = subst (λ (k : ℕ). handled_from k others ≡ true) (sym counts) parts.1; lone = lone_later base all session one others lone; rests = frames.1 }) goes
+              (record { has = has; handled = subst (λ (k : ℕ). handled_from k others ≡ true) (sym counts) parts.1; lone = lone_later one others lone; rests = frames.1 }) goes
               (λ any. subst (λ (k : ℕ). (stopped ≡ stopped_in all (ltxid_of session (commits_behind k others))) × (stood ≡ has_entry all (ltxid_of session (commits_behind k others)))) (sym counts) (stop (or_right (is_stop one) (list_any is_stop others) any)))
           by (IsDone marked called crashed right) = absurd (not_both (is_stop one) (ap is_stopped_call crashed) is)
 
@@ -255,7 +258,7 @@ module _ (base : Base) (all : List Entry) (session : SessionId) (stopped : List 
           crashed = is_crashed one.served.item is
 
           none : others ≡ []
-          none = stopped_last base all session one others crashed.0 crashed.1 lone crashed.2
+          none = none_later one others lone (ap (λ i. is_last i || is_stopped i) crashed.2)
 
           empty : served_in history session ≡ []
           empty = has ∙ ap (map told_of) none

@@ -52,7 +52,7 @@ rest_links links later pool keeps all =
 
 -- SLOTS -------------------------------------------------------------------------------------------
 
-never_waits : (idle : List ℕ) → lends idle ≡ take.Waiting → ⊥
+pub never_waits : (idle : List ℕ) → lends idle ≡ take.Waiting → ⊥
 never_waits [] is = let none : ⊥ = cc in none
 never_waits (first ∷ later) is = let none : ⊥ = cc in none
 

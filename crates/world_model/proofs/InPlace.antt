@@ -12,6 +12,7 @@ use Rattle.world_model.specs.Sames.{all_with, each_pair}
 use Rattle.world_model.specs.Settings.{Setting}
 use Rattle.world_model.specs.Traced.{Course, course_over, course_now, courses_from, courses_of_clients}
 use Rattle.world_model.proofs.ClientSteps.{HasStepped}
+use Rattle.world_model.proofs.QueueLists.{with_parts, with_append}
 
 pub data InPlace {A : Type 0} (was now : List A) : List A → List A → Type 0 where
   Here : (back : List A) → InPlace was now (was ++ back) (now ++ back)
@@ -37,15 +38,6 @@ in_flat parts was now _ _ (Here back) =
 in_flat parts was now _ _ (There x old new is) = in_front (flat_map parts was) (flat_map parts now) (parts x) (flat_map parts old) (flat_map parts new) (in_flat parts was now old new is)
 
 -- EACH TWO ----------------------------------------------------------------------------------------
-
-with_split : {A : Type 0} (test : A → Bool) (xs ys : List A) → all_with test (xs ++ ys) ≡ true → (all_with test xs ≡ true) × (all_with test ys ≡ true)
-with_split test [] ys all = (refl, all)
-with_split test (x ∷ xs) ys all =
-    let both = and_parts (test x) (all_with test (xs ++ ys)) all in let rest = with_split test xs ys both.1 in (and_from (test x) (all_with test xs) both.0 rest.0, rest.1)
-
-with_join : {A : Type 0} (test : A → Bool) (xs ys : List A) → all_with test xs ≡ true → all_with test ys ≡ true → all_with test (xs ++ ys) ≡ true
-with_join test [] ys one other = other
-with_join test (x ∷ xs) ys one other = let both = and_parts (test x) (all_with test xs) one in and_from (test x) (all_with test (xs ++ ys)) both.0 (with_join test xs ys both.1 other)
 
 -- `fits`: what stands so to the old ones stands so to the new ones
 module _ {A : Type 0} (test : A → A → Bool) (turned : (a b : A) → test a b ≡ true → test b a ≡ true) (ok : A → Bool) (was now : List A) (fits : (a : A) → ok a ≡ true → all_with (test a) was ≡ true → all_with (test a) now ≡ true)
@@ -74,7 +66,7 @@ module _ {A : Type 0} (test : A → A → Bool) (turned : (a b : A) → test a b
       every (y ∷ ys) = every ys
   column (x ∷ xs) back pairs =
       let both = and_parts (all_with (test x) (xs ++ back)) (each_pair test (xs ++ back)) pairs in
-      let halves = with_split (test x) xs back both.0 in
+      let halves = with_parts (test x) xs back both.0 in
       let rest = column xs back both.1 in
       (and_from (all_with (test x) xs) (each_pair test xs) halves.0 rest.0, (rest.1.0, more back halves.1 rest.1.1))
     where
@@ -90,7 +82,7 @@ module _ {A : Type 0} (test : A → A → Bool) (turned : (a b : A) → test a b
   joined (x ∷ xs) back one other all =
       let both = and_parts (all_with (test x) xs) (each_pair test xs) one in
       let halves = heads back all in
-      and_from (all_with (test x) (xs ++ back)) (each_pair test (xs ++ back)) (with_join (test x) xs back both.0 halves.0) (joined xs back both.1 other halves.1)
+      and_from (all_with (test x) (xs ++ back)) (each_pair test (xs ++ back)) (with_append (test x) xs back both.0 halves.0) (joined xs back both.1 other halves.1)
     where
       heads : (ys : List A) → list_all (λ y. all_with (test y) (x ∷ xs)) ys ≡ true → (all_with (test x) ys ≡ true) × (list_all (λ y. all_with (test y) xs) ys ≡ true)
       heads [] all = (refl, refl)
@@ -107,7 +99,7 @@ module _ {A : Type 0} (test : A → A → Bool) (turned : (a b : A) → test a b
       and_from (all_with (test y) was) (list_all (λ z. all_with (test z) was) ys) (turned_all y was both.0) (columns_turned ys both.1)
 
   with_in : (x : A) → ok x ≡ true → (old new : List A) → InPlace was now old new → all_with (test x) old ≡ true → all_with (test x) new ≡ true
-  with_in x okay _ _ (Here back) all = let halves = with_split (test x) was back all in with_join (test x) now back (fits x okay halves.0) halves.1
+  with_in x okay _ _ (Here back) all = let halves = with_parts (test x) was back all in with_append (test x) now back (fits x okay halves.0) halves.1
   with_in x okay _ _ (There y old new is) all = let both = and_parts (test x y) (all_with (test x) old) all in and_from (test x y) (all_with (test x) new) both.0 (with_in x okay old new is both.1)
 
   -- `oks`: of the others, which are in both

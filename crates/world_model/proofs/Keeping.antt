@@ -81,7 +81,7 @@ first_some : {A : Type 0} (one other : Option A) → is_some one ≡ true → is
 first_some (Some x) other is = refl
 first_some None other is = absurd (let none : ⊥ = cc in none)
 
-second_some : {A : Type 0} (one other : Option A) → is_some other ≡ true → is_some (option_or one other) ≡ true
+pub second_some : {A : Type 0} (one other : Option A) → is_some other ≡ true → is_some (option_or one other) ≡ true
 second_some (Some x) other is = refl
 second_some None other is = is
 

@@ -1,5 +1,5 @@
 -- Which parts of the state each kind of event leaves as they are.
-use Rattle.std.proofs.Common.{◌≡◌, refl, sym, ap, subst, ◌∙◌, Bool, true, false, ℕ, ◌+◌, List, [], ◌∷◌, Option, Some, None, if◌then◌else◌}
+use Rattle.std.proofs.Common.{◌≡◌, refl, ap, subst, Bool, true, false, ℕ, List, [], ◌∷◌, Option, Some, None, if◌then◌else◌}
 use Rattle.std.specs.Prelude.{option_and_then}
 use Rattle.svc_values.specs.declared.entry.Ltxid.{Ltxid}
 use Rattle.pool_core.specs.declared.answers.Take.{Take}
@@ -9,26 +9,18 @@ use Rattle.client_model.specs.declared.input.Wants.{Wants}
 use Rattle.client_model.specs.declared.input.Wants.TheVariants as wants
 use Rattle.client_model.specs.Talk.{wants_of}
 use Rattle.outage_schedule.specs.declared.note.GoNote.{GoNote}
-use Rattle.outage_schedule.specs.declared.note.FrameName.{FrameName}
-use Rattle.outage_schedule.specs.declared.note.Reached.{Reached}
-use Rattle.outage_schedule.specs.declared.note.AskResult.{AskResult}
-use Rattle.outage_schedule.specs.declared.note.OutsideNote.{OutsideNote}
 use Rattle.outage_schedule.specs.declared.item.Served.{Served}
-use Rattle.svc_values.specs.Same.{same_bool}
 use Rattle.world_model.specs.Settings.{Setting}
 use Rattle.world_model.specs.Frames.{Reply}
-use Rattle.world_model.specs.Links.{Link, link_at, changed}
-use Rattle.world_model.specs.Clients.{Client, Doing, client_at, doing_of}
-use Rattle.world_model.specs.Machines.{Server, Machine}
+use Rattle.world_model.specs.Links.{Link, link_at}
+use Rattle.world_model.specs.Clients.{Doing}
+use Rattle.world_model.specs.Machines.{Machine}
 use Rattle.world_model.specs.Noting.{only_if, same_did}
-use Rattle.world_model.specs.Going.{noted, tries_while, lends, takes_slot, lost_at_once, looks, looks_at, goes_by, goes, follow_go}
-use Rattle.world_model.specs.Serving.{Front, front_at, serves, follow_serve, after_served}
-use Rattle.world_model.specs.Cutting.{open_at, cuts, follow_cut, follow_reap, has_orphan, reaped_link}
-use Rattle.world_model.specs.Crashing.{is_stopped, is_over, serves_last, crashes, falls, follow_crash, after_stopped}
-use Rattle.world_model.specs.Opening.{follow_up, follow_upcrash}
+use Rattle.world_model.specs.Going.{noted, tries_while, lends, takes_slot, lost_at_once, looks, looks_at, goes_by, goes}
+use Rattle.world_model.specs.Serving.{Front, after_served}
+use Rattle.world_model.specs.Crashing.{is_stopped, is_over, serves_last, after_stopped}
 use Rattle.world_model.specs.Walking.{After}
-use Rattle.world_model.proofs.Items.{reaches, reaches_if, mapped}
-use Rattle.world_model.specs.Outside.{follow_outside, follow_ask, follow_drain, drained}
+use Rattle.world_model.proofs.Items.{reaches, reaches_if}
 
 -- where the test is met, it is that
 pub only_is : {A : Type 0} (test : Bool) (a b : A) → only_if test a ≡ Some b → a ≡ b
@@ -36,9 +28,6 @@ only_is true a b e = let same : a ≡ b = cc in same
 only_is false a b e = absurd (let none : ⊥ = cc in none)
 
 -- GO ----------------------------------------------------------------------------------------------
-
-noted_kept : {X : Type 0} (part : Machine → X) (x : X) (did expected : GoNote) (a b : Machine) → part a ≡ x → noted did expected a ≡ Some b → part b ≡ x
-noted_kept part x did expected a b is e = ap part (sym (only_is (same_did did expected) a b e)) ∙ is
 
 -- the server and the clock
 pub record IsSameServer (a b : Machine) : Type 0 where
@@ -113,15 +102,6 @@ goes_same : (setting : Setting) (m : Machine) (client : ℕ) (did : GoNote) (doi
 goes_same setting m client did None n e = noted_same m did _ m n (record { server = refl; tick = refl; event = refl }) e
 goes_same setting m client did (Some doing) n e = by_same_wants setting m client did doing (wants_of setting.terms doing.talk m.tick) n e
 
-client_same : (setting : Setting) (m : Machine) (number : ℕ) (did : GoNote) (client : Option Client) (n : Machine)
-    → option_and_then (λ (one : Client). goes setting m number did (doing_of setting.terms m.event m.tick one)) client ≡ Some n → IsSameServer m n
-client_same setting m number did None n e = absurd (let none : ⊥ = cc in none)
-client_same setting m number did (Some client) n e = goes_same setting m number did (doing_of setting.terms m.event m.tick client) n e
-
--- A step of a client leaves the server alone.
-pub go_server : (setting : Setting) (m : Machine) (number : ℕ) (did : GoNote) (n : Machine) → follow_go setting m number did ≡ Some n → IsSameServer m n
-go_server setting m number did n e = client_same setting m number did (client_at m.clients number) n e
-
 -- SERVE, CUT, REAP, CRASH -------------------------------------------------------------------------
 
 -- the clients and the clock
@@ -146,20 +126,6 @@ reached_is a n items left e = ap (machine_or a) e
 with_clients : (m a n : Machine) → IsSameClients m a → a ≡ n → IsSameClients m n
 with_clients m a n same e = subst (IsSameClients m) e same
 
-serves_clients : (m : Machine) (number : ℕ) (frame : Option FrameName) (items left : List Served) (front : Option Front) (n : Machine)
-    → serves m number frame items front ≡ Some (n, left) → IsSameClients m n
-serves_clients m number None items left None n e = with_clients m m n (record { clients = refl; tick = refl; event = refl }) (reached_is m n items left e)
-serves_clients m number None items left (Some front) n e = absurd (let none : ⊥ = cc in none)
-serves_clients m number (Some name) [] left None n e = absurd (let none : ⊥ = cc in none)
-serves_clients m number (Some name) (served ∷ items) left None n e = absurd (let none : ⊥ = cc in none)
-serves_clients m number (Some name) [] left (Some front) n e = absurd (let none : ⊥ = cc in none)
-serves_clients m number (Some name) (served ∷ items) left (Some front) n e =
-    with_clients m (after_served m number front served) n (record { clients = refl; tick = refl; event = refl }) (pair_is _ (after_served m number front served) n items left e)
-
--- A frame that is served leaves the clients alone.
-pub serve_clients : (m : Machine) (number : ℕ) (frame : Option FrameName) (items left : List Served) (n : Machine) → follow_serve m number frame items ≡ Some (n, left) → IsSameClients m n
-serve_clients m number frame items left n e = serves_clients m number frame items left (front_at m.links number) n e
-
 stops_clients : (m a b n : Machine) (stopped over : Bool) (items left : List Served) → IsSameClients m a → IsSameClients m b
     → (if stopped then reaches a items else reaches_if over b items) ≡ Some (n, left) → IsSameClients m n
 stops_clients m a b n true over items left first second e = with_clients m a n first (reached_is a n items left e)
@@ -172,40 +138,12 @@ last_clients m number after (served ∷ items) left (Some front) n e =
     stops_clients m (after_stopped m number front served) (after_served m number front served) n (is_stopped m after front served) (is_over m after front served) items left
     (record { clients = refl; tick = refl; event = refl }) (record { clients = refl; tick = refl; event = refl }) e
 
-falls_clients : (m : Machine) (failover : Bool) (so : After) (n : Machine) (left : List Served)
-    → ((a : Machine) (rest : List Served) → so ≡ Some (a, rest) → IsSameClients m a) → mapped (falls failover) so ≡ Some (n, left) → IsSameClients m n
-falls_clients m failover None n left same e = absurd (let none : ⊥ = cc in none)
-falls_clients m failover (Some (a, rest)) n left same e =
-    let first : IsSameClients m a = same a rest refl in
-    with_clients m (falls failover a) n (record { clients = first.clients; tick = first.tick; event = first.event }) (reached_is (falls failover a) n rest left e)
-
-crash_by_clients : (m : Machine) (number after : ℕ) (failover is_up down : Bool) (items left : List Served) (n : Machine)
-    → (if is_up then (if down then None else crashes m number after failover items) else reaches_if down m items) ≡ Some (n, left) → IsSameClients m n
-crash_by_clients m number after failover true true items left n e = absurd (let none : ⊥ = cc in none)
-crash_by_clients m number after failover true false items left n e =
-    falls_clients m failover (serves_last m number after items (front_at m.links number)) n left (λ a rest is. last_clients m number after items rest (front_at m.links number) a is) e
-crash_by_clients m number after failover false down items left n e = with_clients m m n (record { clients = refl; tick = refl; event = refl }) (pair_is down m n items left e)
-
--- A crash leaves the clients alone.
-pub crash_clients : (m : Machine) (number after : ℕ) (failover down : Bool) (items left : List Served) (n : Machine) → follow_crash m number after failover down items ≡ Some (n, left) → IsSameClients m n
-crash_clients m number after failover down items left n e = crash_by_clients m number after failover m.server.is_up down items left n e
-
 -- the clients and the server
 pub record IsSameSides (a b : Machine) : Type 0 where
   pub clients : b.clients ≡ a.clients
   pub server : b.server ≡ a.server
   pub tick : b.tick ≡ a.tick
   pub event : b.event ≡ a.event
-
-cuts_sides : (m : Machine) (number up down : ℕ) (reached : Option Reached) (link : Option Link) (n : Machine) → cuts m number up down reached link ≡ Some n → IsSameSides m n
-cuts_sides m number up down None None n e = let same : m ≡ n = cc in subst (IsSameSides m) same (record { clients = refl; server = refl; tick = refl; event = refl })
-cuts_sides m number up down None (Some link) n e = absurd (let none : ⊥ = cc in none)
-cuts_sides m number up down (Some reached) None n e = absurd (let none : ⊥ = cc in none)
-cuts_sides m number up down (Some reached) (Some link) n e = subst (IsSameSides m) (only_is _ _ n e) (record { clients = refl; server = refl; tick = refl; event = refl })
-
--- A cut leaves the clients and the server alone.
-pub cut_sides : (m : Machine) (number up down : ℕ) (reached : Option Reached) (n : Machine) → follow_cut m number up down reached ≡ Some n → IsSameSides m n
-cut_sides m number up down reached n e = cuts_sides m number up down reached (open_at m.links number) n e
 
 -- all but the connections
 pub record IsSameButLinks (a b : Machine) : Type 0 where
@@ -219,15 +157,7 @@ reaps : (m : Machine) (links : List Link) (reaped : Bool) → IsSameButLinks m (
 reaps m links true = record { clients = refl; server = refl; pool = refl; tick = refl; event = refl }
 reaps m links false = record { clients = refl; server = refl; pool = refl; tick = refl; event = refl }
 
--- A reap touches a connection alone.
-pub reap_links : (m : Machine) (number : ℕ) (reaped : Bool) (n : Machine) → follow_reap m number reaped ≡ Some n → IsSameButLinks m n
-reap_links m number reaped n e = subst (IsSameButLinks m) (only_is (same_bool reaped (has_orphan m.links number)) _ n e) (reaps m (changed reaped_link m.links number) reaped)
-
 -- DRAIN -------------------------------------------------------------------------------------------
-
--- A drain leaves the clients and the server alone.
-pub drain_sides : (m : Machine) (closed : ℕ) (n : Machine) → follow_drain m closed ≡ Some n → IsSameSides m n
-drain_sides m closed n e = subst (IsSameSides m) (only_is _ (drained m) n e) (record { clients = refl; server = refl; tick = refl; event = refl })
 
 -- THE SERVER ALONE --------------------------------------------------------------------------------
 
@@ -238,25 +168,3 @@ pub record IsSameButServer (a b : Machine) : Type 0 where
   pub pool : b.pool ≡ a.pool
   pub tick : b.tick ≡ a.tick
   pub event : b.event ≡ a.event
-
-server_only : (m a n : Machine) (test : Bool) → IsSameButServer m a → only_if test a ≡ Some n → IsSameButServer m n
-server_only m a n test same e = subst (IsSameButServer m) (only_is test a n e) same
-
-made_or_not : (m : Machine) (server : Server) (made : Bool) → IsSameButServer m (if made then record m { server = server } else m)
-made_or_not m server true = record { clients = refl; links = refl; pool = refl; tick = refl; event = refl }
-made_or_not m server false = record { clients = refl; links = refl; pool = refl; tick = refl; event = refl }
-
-pub up_server : (m : Machine) (incarnation : Option ℕ) (n : Machine) → follow_up m incarnation ≡ Some n → IsSameButServer m n
-up_server m None n e = server_only m m n _ (record { clients = refl; links = refl; pool = refl; tick = refl; event = refl }) e
-up_server m (Some incarnation) n e = server_only m _ n _ (record { clients = refl; links = refl; pool = refl; tick = refl; event = refl }) e
-
-pub upcrash_server : (m : Machine) (made : Bool) (n : Machine) → follow_upcrash m made ≡ Some n → IsSameButServer m n
-upcrash_server m made n e = server_only m _ n _ (made_or_not m (record m.server { stopped = m.server.stopped + 1 }) made) e
-
-pub outside_server : (m : Machine) (ran : Option OutsideNote) (n : Machine) → follow_outside m ran ≡ Some n → IsSameButServer m n
-outside_server m None n e = server_only m m n _ (record { clients = refl; links = refl; pool = refl; tick = refl; event = refl }) e
-outside_server m (Some ran) n e = server_only m _ n _ (record { clients = refl; links = refl; pool = refl; tick = refl; event = refl }) e
-
-pub ask_server : (m : Machine) (ltxid : Ltxid) (told : Option AskResult) (n : Machine) → follow_ask m ltxid told ≡ Some n → IsSameButServer m n
-ask_server m ltxid None n e = server_only m m n _ (record { clients = refl; links = refl; pool = refl; tick = refl; event = refl }) e
-ask_server m ltxid (Some result) n e = server_only m _ n _ (record { clients = refl; links = refl; pool = refl; tick = refl; event = refl }) e

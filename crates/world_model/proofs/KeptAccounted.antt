@@ -4,7 +4,7 @@ use Rattle.std.proofs.Common.{◌≡◌, refl, sym, ap, subst, ◌∙◌, Bool, 
 use Rattle.std.specs.Prelude.{not, unwrap_or, option_and_then}
 use Rattle.std.specs.List.{list_all, list_any}
 use Rattle.std.specs.Option.{option_map_or}
-use Rattle.std.proofs.lemmas.Bool.{and_parts, and_from, or_right}
+use Rattle.std.proofs.lemmas.Bool.{and_parts, and_from, or_right, or_left}
 use Rattle.std.proofs.lemmas.List.{append-nil}
 use Rattle.std.proofs.lemmas.List.Folds.{list_any-append}
 use Rattle.svc_values.specs.declared.entry.Ltxid.{Ltxid}
@@ -41,7 +41,6 @@ use Rattle.world_model.proofs.AllLists.{append_all, weaker_all}
 use Rattle.world_model.proofs.AskedAnswers.{never_ahead}
 use Rattle.world_model.proofs.Awaiting.{dead_sends_none}
 use Rattle.world_model.proofs.ClientSteps.{HasStepped, GoesOn, AtOnce, LostToo, HeardOn, OfNone, OfIdle, OfNew, OfReply, OfEnded, Behind, AsFirst, LostBehind, is_frame}
-use Rattle.world_model.proofs.CoursesGrow.{or_left}
 use Rattle.world_model.proofs.Happened.{at_event}
 use Rattle.world_model.proofs.KeptEvents.{kept_unfailed}
 use Rattle.world_model.proofs.KeptFailed.{kept_hold}

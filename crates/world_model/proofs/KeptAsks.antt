@@ -3,7 +3,7 @@ use Rattle.std.proofs.Common.{◌≡◌, ◌≢◌, refl, sym, ap, subst, ◌∙
 use Rattle.std.specs.Prelude.{◌==◌, not, unwrap_or, option_map}
 use Rattle.std.specs.List.{list_all}
 use Rattle.std.specs.Option.{option_or, option_map_or}
-use Rattle.std.proofs.lemmas.Bool.{and_parts, and_from, or_right}
+use Rattle.std.proofs.lemmas.Bool.{and_parts, and_from, or_right, or_left}
 use Rattle.svc_values.specs.declared.entry.Ltxid.{Ltxid}
 use Rattle.svc_values.specs.declared.frame.Up.{Up}
 use Rattle.svc_values.specs.declared.frame.Up.TheVariants as up
@@ -28,20 +28,19 @@ use Rattle.world_model.specs.Wanted.{Wanted, wanted_in}
 use Rattle.world_model.specs.Words.{held_in}
 use Rattle.world_model.proofs.AllLists.{map_all, weaker_all}
 use Rattle.world_model.proofs.ClientSteps.{HasStepped, MayStep, Still, Closed, Stepped, happens_step}
-use Rattle.world_model.proofs.CoursesGrow.{or_left}
 use Rattle.world_model.proofs.CoursesStep.{all_step}
 use Rattle.world_model.proofs.DrawsKept.{all_sent_so, by_links, said_so, each_said, grown_so}
 use Rattle.world_model.proofs.Happened.{Followed, follow_happens, at_event}
 use Rattle.world_model.proofs.Held.{doing_course}
-use Rattle.world_model.proofs.KeptDraws.{all_from_each, other_owner}
 use Rattle.world_model.proofs.KeptOutcomes.{holds_one, holds_alike, any_weaker, wanted_kept}
 use Rattle.world_model.proofs.KeptSendings.{resting_none}
 use Rattle.world_model.proofs.LostKept.{any_link, any_still, any_kept, any_ended, both_all, course_before, course_kept, course_ended}
 use Rattle.world_model.proofs.Moves.{Happens}
+use Rattle.world_model.proofs.NumbersTurn.{by_index}
 use Rattle.world_model.proofs.SentLinks.{is_strange}
 use Rattle.world_model.proofs.SentLists.{sent_lists}
 use Rattle.world_model.proofs.StepFacts.{first_step, first_doing, step_owner}
-use Rattle.world_model.proofs.Strangers.{doing_strange}
+use Rattle.world_model.proofs.Strangers.{doing_strange, other_owner}
 use Rattle.world_model.proofs.TalkAsks.{is_asking, frames_ask}
 
 -- FRAMES ------------------------------------------------------------------------------------------
@@ -184,7 +183,7 @@ module _ (t : Traced) (inv : Orderly t) (pending : are_pending t ≡ true) (new 
       by None is (Some request) does =
           let same : begun t.setting.terms now.event now.tick request ≡ step.before = cc in
           and_from (gone_all before) (old_test before) (subst (λ (doing : Doing). gone_all (course_now t.setting who (length step.client.past) doing) ≡ true) same refl)
-          (all_from_each (asks_rightly t before) t.machine.links
+          (by_index (asks_rightly t before) t.machine.links
           (λ index link at. strange_asks t before link
           (doing_strange t who step.client (suc index) link inv.script.owned step.here (ap (λ (one : Option Doing). option_map_or (λ doing. length (held_in doing.steps) == 0) one true) is) at)))
       by None is None does = absurd (let none : ⊥ = cc in none)

@@ -3,7 +3,7 @@ use Rattle.std.proofs.Common.{◌≡◌, refl, sym, ap, subst, ◌∙◌, Bool, 
 use Rattle.std.specs.Prelude.{◌==◌, nat_le, slice_get}
 use Rattle.std.specs.List.{list_all}
 use Rattle.std.specs.Option.{option_map_or}
-use Rattle.std.proofs.lemmas.Bool.{and_parts, and_from, or_right}
+use Rattle.std.proofs.lemmas.Bool.{and_parts, and_from}
 use Rattle.std.proofs.lemmas.List.{append-nil}
 use Rattle.std.proofs.lemmas.List.Elements.{filter-append}
 use Rattle.commit_log.specs.Keeping.{EachKeeps}
@@ -17,7 +17,7 @@ use Rattle.outage_schedule.specs.declared.document.Request.{Request}
 use Rattle.outage_schedule.specs.declared.request.RequestReport.{RequestReport}
 use Rattle.run_clauses.specs.Copies.{Copies, copies_of, may_be_repeated, next_of}
 use Rattle.run_clauses.specs.Once.{copies_have_one, entries_in, request_ends}
-use Rattle.run_clauses.specs.Tried.{holds, ids_tried}
+use Rattle.run_clauses.specs.Tried.{ids_tried}
 use Rattle.server_model.specs.Laws.{EntryNumbers}
 use Rattle.world_model.specs.Clients.{Past, Doing, Client, reports_of, resting, script_at}
 use Rattle.world_model.specs.KeptLaws.{IsKeptOfAll}
@@ -34,7 +34,7 @@ use Rattle.world_model.specs.Words.{held_in}
 use Rattle.world_model.proofs.AllLists.{append_all, filter_all, weaker_all}
 use Rattle.world_model.proofs.ApartSteps.{commits}
 use Rattle.world_model.proofs.ClientsReady.{script_all}
-use Rattle.world_model.proofs.CopiesEntries.{are_full, full_last, is_clear, is_few, last_few, no_reports, one_entry, one_last}
+use Rattle.world_model.proofs.CopiesEntries.{are_full, full_last, is_clear, is_few, last_few, one_entry, one_last}
 use Rattle.world_model.proofs.CopiesFew.{IsWhole, has_few, has_none}
 use Rattle.world_model.proofs.CopiesOf.{are_repeated, copies_repeated, one_copy, requests_all}
 use Rattle.world_model.proofs.EntriesFew.{numbered_differ}
@@ -48,6 +48,7 @@ use Rattle.world_model.proofs.KeptSettled.{settled_law}
 use Rattle.world_model.proofs.KeptTried.{tried_law}
 use Rattle.world_model.proofs.LinkLives.{implied}
 use Rattle.world_model.proofs.LostKept.{both_all}
+use Rattle.world_model.proofs.OnceLists.{no_copies}
 use Rattle.world_model.proofs.ScriptsKept.{follows_get, scripts_law}
 use Rattle.world_model.proofs.Tests.{eq_to, le_to, ne_back, ne_to}
 
@@ -279,12 +280,6 @@ module _ (t : Traced) (scripts : list_all (list_all is_right_request) t.setting.
 no_courses_yet : (setting : Setting) (start : ℕ) (clients : List Scripted) → courses_of_clients setting start (map (λ (client : Scripted). resting client.requests []) clients) ≡ []
 no_courses_yet setting start [] = refl
 no_courses_yet setting start (client ∷ clients) = no_courses_yet setting (start + 1) clients
-
-no_copies : (entries : List Entry) (script : List Request) → list_all (copies_have_one entries) (copies_of script []) ≡ true
-no_copies entries [] = refl
-no_copies entries (request ∷ requests) =
-    and_from (copies_have_one entries (record { request = request; reports = [] })) (list_all (copies_have_one entries) (copies_of requests []))
-    (or_right (request.again == 0) (nat_le (length (entries_in entries [])) 1 && list_all (λ entry. holds [] entry.ltxid) (entries_in entries [])) (no_reports entries)) (no_copies entries requests)
 
 starts_once : (document : Document) → copies_once (traced_start document) ≡ true
 starts_once document =

@@ -54,7 +54,7 @@ use Rattle.world_model.proofs.AskedAnswers.{never_ahead, told_now}
 use Rattle.world_model.proofs.AskedSendings.{each_flat, sent_one}
 use Rattle.world_model.proofs.CallLeft.{call_left}
 use Rattle.world_model.proofs.ClientSteps.{HasStepped, happens_step, is_frame}
-use Rattle.world_model.proofs.CommittedSendings.{any_goes, filter_any, is_unanswered}
+use Rattle.world_model.proofs.CommittedSendings.{filter_any, is_unanswered}
 use Rattle.world_model.proofs.FateSteps.{IsFated, Taking, fated, fated_from}
 use Rattle.world_model.proofs.FateTaken.{shown_ending, waits_at}
 use Rattle.world_model.proofs.Fates.{Fate}
@@ -69,6 +69,7 @@ use Rattle.world_model.proofs.KeptPlaced.{step_placed}
 use Rattle.world_model.proofs.KeptSendings.{resting_none}
 use Rattle.world_model.proofs.KeptTold.{talk_is}
 use Rattle.world_model.proofs.KnownSteps.{taking_at}
+use Rattle.world_model.proofs.Lists.{any_goes}
 use Rattle.world_model.proofs.LostBlocked.{not_last}
 use Rattle.world_model.proofs.LostKept.{both_all, course_before, course_ended, KeepsLost, lost_kept}
 use Rattle.world_model.proofs.LostSteps.{act_on, before_so, has_one, held_none, last_is, lent_keeps, over_failed, over_first, over_lets, same_held, tried_has, wanted}

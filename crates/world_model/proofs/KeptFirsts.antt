@@ -47,10 +47,10 @@ use Rattle.world_model.proofs.Held.{held_now}
 use Rattle.world_model.proofs.LinkStage.{keeps_grammar}
 use Rattle.world_model.proofs.RowCourses.{ask_opens, connect_opens}
 use Rattle.world_model.proofs.RowLast.{is_opening, opening_none, row_of}
+use Rattle.world_model.proofs.RunStarts.{finishing_reached}
 use Rattle.world_model.proofs.Saying.{Spoken, Quiet, Fails, Ends, Asks, Calls, Marks, begun_in, has_next, is_hushed, opening, said, said_lent}
 use Rattle.world_model.proofs.SentLinks.{awaits, spoken_by, KeepsSent, sent_keep}
 use Rattle.world_model.proofs.SentLists.{sends_more}
-use Rattle.world_model.proofs.WholeInvariant.{finishing_reached}
 
 -- FRAMES ------------------------------------------------------------------------------------------
 

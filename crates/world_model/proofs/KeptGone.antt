@@ -3,7 +3,7 @@ use Rattle.std.proofs.Common.{◌≡◌, ◌≢◌, refl, sym, ap, subst, ◌∙
 use Rattle.std.specs.Prelude.{◌==◌, not, nat_le}
 use Rattle.std.specs.List.{list_all}
 use Rattle.std.specs.Option.{option_map_or}
-use Rattle.std.proofs.lemmas.Bool.{and_parts, and_from}
+use Rattle.std.proofs.lemmas.Bool.{and_parts, and_from, not-true}
 use Rattle.std.proofs.lemmas.Option.{slice_get_within}
 use Rattle.outage_schedule.specs.declared.item.Served.{Served}
 use Rattle.client_model.specs.declared.act.Hold.{Hold}
@@ -51,16 +51,12 @@ pub record GoneAt (links : List Link) (courses : List Course) (number : ℕ) : T
   pub shut : link.is_open ≡ false
   pub free : list_all (is_without number) courses ≡ true
 
-not_true : (test : Bool) → not test ≡ true → test ≡ false
-not_true true is = absurd (let none : ⊥ = cc in none)
-not_true false is = refl
-
 pub gone_at : (links : List Link) (courses : List Course) (number : ℕ) → is_gone links courses number ≡ true → GoneAt links courses number
 gone_at links courses number is = by (link_at links number) refl (and_parts (option_map_or (λ link. not link.is_open) (link_at links number) false) (list_all (is_without number) courses) is)
   where
     by : (found : Option Link) → link_at links number ≡ found → (option_map_or (λ link. not link.is_open) found false ≡ true) × (list_all (is_without number) courses ≡ true) → GoneAt links courses number
     by None there parts = absurd (let never : false ≡ true = parts.0 in let none : ⊥ = cc in none)
-    by (Some link) there parts = record { link = link; there = there; shut = not_true link.is_open parts.0; free = parts.1 }
+    by (Some link) there parts = record { link = link; there = there; shut = not-true link.is_open parts.0; free = parts.1 }
 
 gone_by : (links : List Link) (courses : List Course) (number : ℕ) (link : Link) → link_at links number ≡ Some link → link.is_open ≡ false → list_all (is_without number) courses ≡ true → is_gone links courses number ≡ true
 gone_by links courses number link there shut free =
@@ -73,7 +69,7 @@ without_not number None is same = let none : ⊥ = cc in none
 without_not number (Some other) is same =
     let equal : other ≡ number = cc in
     let self : (other == number) ≡ true = eq_to other number equal in
-    not_both (other == number) self (not_true (other == number) is)
+    not_both (other == number) self (not-true (other == number) is)
 
 without_by : (number : ℕ) (found : Option ℕ) → (found ≡ Some number → ⊥) → option_map_or (λ other. not (other == number)) found true ≡ true
 without_by number None free = refl

@@ -5,6 +5,7 @@ use Rattle.outage_schedule.specs.declared.document.Client.{Client as Scripted}
 use Rattle.outage_schedule.specs.declared.document.Document.{Document}
 use Rattle.world_model.specs.Settings.{Setting, setting_of}
 use Rattle.world_model.specs.Clients.{Client, Doing, client_at, resting}
+use Rattle.world_model.proofs.ClientsReady.{waits_unbegun}
 use Rattle.world_model.proofs.Tests.{le_to}
 use Rattle.std.proofs.lemmas.Bool.{and_from}
 use Rattle.std.proofs.lemmas.List.Sums.{sum_by-cons}
@@ -26,7 +27,7 @@ use Rattle.world_model.proofs.SentLinks.{IsHeld, slot_waits}
 use Rattle.world_model.proofs.Strangers.{frame_now}
 use Rattle.world_model.proofs.BasicSessions.{all_wired}
 use Rattle.world_model.proofs.LinkOut.{awaits_out}
-use Rattle.world_model.proofs.LinkStage.{ready_left, waiting_unbegun}
+use Rattle.world_model.proofs.LinkStage.{ready_left}
 use Rattle.world_model.proofs.IdleAll.{happens_rest}
 use Rattle.world_model.specs.Frames.{Owner}
 use Rattle.world_model.proofs.Courses.{all_courses_by, held_busy}
@@ -93,7 +94,7 @@ idle_law = record {
       awaits_out owner doing.talk.phase link (known.out number is.client doing connection link is.here (frame_now old.setting (at_event old.machine) number doing is) has there))
       (λ number doing connection link is has there. held_busy old connection link number is.client doing inv.hold.had there is.here (frame_now old.setting (at_event old.machine) number doing is) has)
       (λ number doing is.
-      ready_left old.setting.terms doing (known.ready number doing wants.Slot is) (waiting_unbegun doing.talk.phase (slot_waits old.setting.terms doing.talk doing.talk.phase old.machine.tick is.wants)))
+      ready_left old.setting.terms doing (known.ready number doing wants.Slot is) (waits_unbegun doing.talk.phase (slot_waits old.setting.terms doing.talk doing.talk.phase old.machine.tick is.wants)))
       items left by.kind new.machine by.happens;
 }
 
@@ -106,7 +107,7 @@ had_law = record {
       had_all new
       (had_after old inv.hold.had inv.hold.held known.idle (all_orderly old.machine.links inv.wire.sent inv.wire.replies inv.wire.handled inv.basic.life) inv.basic.ended
       (λ number doing is.
-      ready_left old.setting.terms doing (known.ready number doing wants.Slot is) (waiting_unbegun doing.talk.phase (slot_waits old.setting.terms doing.talk doing.talk.phase old.machine.tick is.wants)))
+      ready_left old.setting.terms doing (known.ready number doing wants.Slot is) (waits_unbegun doing.talk.phase (slot_waits old.setting.terms doing.talk doing.talk.phase old.machine.tick is.wants)))
       items left by.kind new.machine by.happens (idle_law.at_event before after old new event note items left one inv));
 }
 

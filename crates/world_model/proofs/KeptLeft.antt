@@ -4,7 +4,7 @@ use Rattle.std.proofs.Common.{◌≡◌, refl, sym, ap, subst, ◌∙◌, Bool, 
 use Rattle.std.specs.Prelude.{not, is_some, slice_get, unwrap_or}
 use Rattle.std.specs.List.{list_all, list_any, last_or}
 use Rattle.std.specs.Option.{option_map_or}
-use Rattle.std.proofs.lemmas.Bool.{and_parts, and_from, or_right}
+use Rattle.std.proofs.lemmas.Bool.{and_parts, and_from, or_right, or_from, not-true}
 use Rattle.std.proofs.lemmas.List.{length-append}
 use Rattle.std.proofs.lemmas.List.Elements.{filter-append}
 use Rattle.std.proofs.lemmas.List.Folds.{list_any-append}
@@ -43,7 +43,6 @@ use Rattle.world_model.proofs.CoursesStep.{all_step}
 use Rattle.world_model.proofs.FrontLists.{front_filter}
 use Rattle.world_model.proofs.Happened.{Followed, follow_happens, at_event}
 use Rattle.world_model.proofs.Held.{held_now}
-use Rattle.world_model.proofs.KeptDraws.{other_owner}
 use Rattle.world_model.proofs.KeptSendings.{resting_none}
 use Rattle.world_model.proofs.KeptUnasked.{each_among}
 use Rattle.world_model.proofs.LostKept.{course_ended}
@@ -54,8 +53,9 @@ use Rattle.world_model.proofs.LinkOrder.{same_reps}
 use Rattle.world_model.proofs.ServedNear.{few_replies, front_long, reps_sent}
 use Rattle.world_model.proofs.SentLinks.{awaits}
 use Rattle.world_model.proofs.StepFacts.{first_step, first_doing}
+use Rattle.world_model.proofs.Strangers.{other_owner}
 use Rattle.world_model.proofs.Tests.{eq_from}
-use Rattle.world_model.proofs.UpsLess.{HasLess, or_false_from, sends_less, happens_less}
+use Rattle.world_model.proofs.UpsLess.{HasLess, sends_less, happens_less}
 
 -- LISTS -------------------------------------------------------------------------------------------
 
@@ -180,10 +180,6 @@ last_none links course last = option_map_or (λ number. option_map_or (λ link. 
 abbrev left_on : List Link → Course → Bool
 left_on links course = not (course.is_over && has_last course) || last_none links course (last_or None (held_in course.steps))
 
-not_from : (test : Bool) → not test ≡ true → test ≡ false
-not_from true is = absurd (let none : ⊥ = cc in none)
-not_from false is = refl
-
 module _ (t : Traced) (inv : Orderly t) (new : Traced) (setting : new.setting ≡ t.setting) (items left : List Served) (kind : Noted) (happens : Happens t.setting (at_event t.machine) items left kind new.machine) where
   abbrev now : Machine
   now = at_event t.machine
@@ -201,7 +197,7 @@ module _ (t : Traced) (inv : Orderly t) (new : Traced) (setting : new.setting �
       by (Some link) there none =
           let less : HasLess (is_its_call course) new.machine.links number link = happens_less (is_its_call course) t.setting now refl quiet items left kind new.machine happens number link there in
           ap (λ (found : Option Link). option_map_or (λ (one : Link). not (list_any (is_its_call course) one.up)) found false) less.there
-          ∙ ap not (less.same.less (not_from (list_any (is_its_call course) link.up) none))
+          ∙ ap not (less.same.less (not-true (list_any (is_its_call course) link.up) none))
 
   over_still : (course : Course) → ((all : Course → Bool) → list_all all (courses_of t) ≡ true → all course ≡ true) → left_on t.machine.links course ≡ true → left_on new.machine.links course ≡ true
   over_still course among here = by course.is_over (has_last course) (λ who. among (not_owner (owner_at now who)) (all_over t who)) here
@@ -210,7 +206,7 @@ module _ (t : Traced) (inv : Orderly t) (new : Traced) (setting : new.setting �
           → (not (over && last) || last_none new.machine.links course (last_or None (held_in course.steps))) ≡ true
       by false last apart here = refl
       by true false apart here = refl
-      by true true apart here = last_still course (λ who. not_from (same_owner course.owner (owner_at now who)) (apart who)) (last_or None (held_in course.steps)) here
+      by true true apart here = last_still course (λ who. not-true (same_owner course.owner (owner_at now who)) (apart who)) (last_or None (held_in course.steps)) here
 
   module _ (who : ℕ) (step : HasStepped t.setting now who new.machine) (lets : step.held ≡ hold.Keep → ⊥) where
     abbrev ended : Course
@@ -268,7 +264,7 @@ module _ (t : Traced) (inv : Orderly t) (new : Traced) (setting : new.setting �
             said_none =
                 frames_none ended (owner_at now who) (call_in (first_doing t.setting now inv.script.talks who new.machine step).talk.phase) (frames_of step.pool (unwrap_or step.connection 0) (first_step t.setting now inv.script.talks who new.machine step).done.act)
                 (list_any-append is_unmarked_frame (first_step t.setting now inv.script.talks who new.machine step).done.act.send (closing (first_step t.setting now inv.script.talks who new.machine step).done.act.hold (give_back_answer step.pool (unwrap_or step.connection 0)))
-                ∙ or_false_from (list_any is_unmarked_frame (first_step t.setting now inv.script.talks who new.machine step).done.act.send) (list_any is_unmarked_frame (closing (first_step t.setting now inv.script.talks who new.machine step).done.act.hold (give_back_answer step.pool (unwrap_or step.connection 0)))) act_none (closing_none (first_step t.setting now inv.script.talks who new.machine step).done.act.hold (give_back_answer step.pool (unwrap_or step.connection 0))))
+                ∙ or_from (list_any is_unmarked_frame (first_step t.setting now inv.script.talks who new.machine step).done.act.send) (list_any is_unmarked_frame (closing (first_step t.setting now inv.script.talks who new.machine step).done.act.hold (give_back_answer step.pool (unwrap_or step.connection 0)))) act_none (closing_none (first_step t.setting now inv.script.talks who new.machine step).done.act.hold (give_back_answer step.pool (unwrap_or step.connection 0))))
 
             taken : (found : Option ℕ) → step.before.connection ≡ found → left_on new.machine.links ended ≡ true
             taken None none = absurd (let never : false ≡ true = sym (ap is_some none) ∙ has_one t inv who new.machine step (ap is_frame is) in let nothing : ⊥ = cc in nothing)

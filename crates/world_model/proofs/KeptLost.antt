@@ -4,7 +4,7 @@ use Rattle.std.proofs.Common.{◌≡◌, refl, sym, ap, subst, ◌∙◌, Bool, 
 use Rattle.std.specs.Prelude.{◌==◌, not, is_some, nat_lt, find, option_map}
 use Rattle.std.specs.List.{list_all, list_any}
 use Rattle.std.specs.Option.{option_map_or}
-use Rattle.std.proofs.lemmas.Bool.{and_parts, and_from, or_cases, or_right}
+use Rattle.std.proofs.lemmas.Bool.{and_parts, and_from, or_cases, or_right, or_left}
 use Rattle.svc_values.specs.declared.entry.Entry.{Entry}
 use Rattle.svc_values.specs.declared.entry.Ltxid.{Ltxid}
 use Rattle.svc_values.specs.Identifiers.{same_ltxid, session_of}
@@ -32,7 +32,6 @@ use Rattle.world_model.proofs.AllLinks.{at_link}
 use Rattle.world_model.proofs.AllLists.{weaker_all, filter_all, filter_passes}
 use Rattle.world_model.proofs.AskedNear.{IsNear, held_count, held_near}
 use Rattle.world_model.proofs.ClientSteps.{happens_step}
-use Rattle.world_model.proofs.CoursesGrow.{or_left}
 use Rattle.world_model.proofs.Happened.{Followed, follow_happens, at_event}
 use Rattle.world_model.proofs.KeptAccounted.{keeps_accounted}
 use Rattle.world_model.proofs.KeptGone.{gone_law}
@@ -70,10 +69,6 @@ entry_counts entries x completed here numbered = by (find (λ entry. same_ltxid 
 some_of : (test : Outcome → Bool) (found : Option Outcome) → option_map_or test found false ≡ true → is_some found ≡ true
 some_of test None here = absurd (let none : ⊥ = cc in none)
 some_of test (Some outcome) here = refl
-
-not_from : (test : Bool) → not test ≡ true → test ≡ false
-not_from true is = absurd (let none : ⊥ = cc in none)
-not_from false is = refl
 
 -- ONE CONNECTION ----------------------------------------------------------------------------------
 

@@ -2,7 +2,7 @@
 use Rattle.std.proofs.Common.{◌≡◌, refl, sym, ap, subst, ◌∙◌, Bool, true, false, ℕ, ◌||◌, List, [], ◌∷◌, ◌++◌, Option, Some, None}
 use Rattle.std.specs.List.{list_all}
 use Rattle.std.specs.Option.{option_map_or}
-use Rattle.std.proofs.lemmas.Bool.{and_parts, or_right}
+use Rattle.std.proofs.lemmas.Bool.{and_parts, or_right, or_left}
 use Rattle.svc_values.specs.declared.entry.Ltxid.{Ltxid}
 use Rattle.svc_values.specs.declared.frame.Down.TheVariants as down
 use Rattle.svc_values.specs.Identifiers.{same_ltxid}
@@ -25,7 +25,6 @@ use Rattle.world_model.specs.Wanted.{Wanted, wanted_in}
 use Rattle.world_model.specs.Words.{dones_of}
 use Rattle.world_model.proofs.AllLists.{append_all, one_all, weaker_all}
 use Rattle.world_model.proofs.ClientSteps.{HasStepped, happens_step}
-use Rattle.world_model.proofs.CoursesGrow.{or_left}
 use Rattle.world_model.proofs.Happened.{Followed, follow_happens, at_event}
 use Rattle.world_model.proofs.KeptSendings.{resting_none}
 use Rattle.world_model.proofs.LostKept.{any_link, any_still, any_kept, any_ended, course_before, course_kept, course_ended, KeepsLost, lost_kept}

@@ -3,7 +3,7 @@ use Rattle.std.proofs.Common.{◌≡◌, refl, sym, ap, subst, ◌∙◌, Bool, 
 use Rattle.std.specs.Prelude.{◌==◌, slice_get}
 use Rattle.std.specs.List.{list_all, list_any, cons_option}
 use Rattle.std.specs.Option.{option_map_or}
-use Rattle.std.proofs.lemmas.Bool.{and_parts, and_from}
+use Rattle.std.proofs.lemmas.Bool.{and_parts, and_from, or_left}
 use Rattle.std.proofs.lemmas.List.Folds.{list_any-append}
 use Rattle.std.proofs.lemmas.List.Elements.{filter_map-append}
 use Rattle.svc_values.specs.declared.call.Call.{Call}
@@ -28,7 +28,6 @@ use Rattle.world_model.specs.Words.{brought, held_in}
 use Rattle.world_model.proofs.AllLists.{weaker_all}
 use Rattle.world_model.proofs.ApartSteps.{PushedAs, NoMore, OneMade, pushed_as, made_calls}
 use Rattle.world_model.proofs.ClientSteps.{HasStepped}
-use Rattle.world_model.proofs.CoursesGrow.{or_left}
 use Rattle.world_model.proofs.CoursesStep.{all_step}
 use Rattle.world_model.proofs.FateSteps.{called_at}
 use Rattle.world_model.proofs.FateTops.{last_any}

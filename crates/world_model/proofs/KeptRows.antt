@@ -40,7 +40,6 @@ use Rattle.world_model.proofs.ClientSteps.{HasStepped, GoesOn, AtOnce, LostToo, 
 use Rattle.world_model.proofs.CoursesStep.{all_step}
 use Rattle.world_model.proofs.Happened.{Followed, follow_happens, at_event}
 use Rattle.world_model.proofs.Held.{doing_course}
-use Rattle.world_model.proofs.KeptDraws.{other_owner}
 use Rattle.world_model.proofs.KeptSendings.{spoken_passes, each_passes, before_sent, resting_none}
 use Rattle.world_model.proofs.Moves.{IsDoing}
 use Rattle.world_model.proofs.RowCourses.{row_test, others_row, row_append, strange_row, OnIt, awaits_last}
@@ -52,7 +51,7 @@ use Rattle.world_model.proofs.SentAt.{sents_pass, PassesAt, passes_from, passes_
 use Rattle.world_model.proofs.SentLinks.{is_strange}
 use Rattle.world_model.proofs.SentLists.{sent_lists}
 use Rattle.world_model.proofs.StepFacts.{account_now, first_step, first_doing, step_owner, request_after}
-use Rattle.world_model.proofs.Strangers.{slot_strange}
+use Rattle.world_model.proofs.Strangers.{slot_strange, other_owner}
 use Rattle.world_model.proofs.Tests.{eq_from}
 
 -- OF A REQUEST ------------------------------------------------------------------------------------

@@ -33,7 +33,6 @@ use Rattle.world_model.proofs.ClientSteps.{HasStepped, Brings, NoneNew, IdleOne,
 use Rattle.world_model.proofs.CoursesStep.{all_step}
 use Rattle.world_model.proofs.Happened.{Followed, follow_happens, at_event}
 use Rattle.world_model.proofs.Held.{doing_course}
-use Rattle.world_model.proofs.KeptDraws.{other_owner}
 use Rattle.world_model.proofs.Moves.{IsDoing, next_number}
 use Rattle.world_model.proofs.SendingSteps.{scan_by, sent_so, sent_on_held, by_lists, course_sent, slot_wanted, after_sendings, after_held, goes_so, fresh_so}
 use Rattle.world_model.proofs.Sendings.{calls_of, on_of, agrees, strangers_agree}
@@ -41,7 +40,7 @@ use Rattle.world_model.proofs.SentAt.{sents_at, sents_pass, PassesAt, passes_fro
 use Rattle.world_model.proofs.SentLinks.{is_strange}
 use Rattle.world_model.proofs.SentLists.{sent_lists, spoken}
 use Rattle.world_model.proofs.StepFacts.{first_step, first_doing, step_owner}
-use Rattle.world_model.proofs.Strangers.{slot_strange}
+use Rattle.world_model.proofs.Strangers.{slot_strange, other_owner}
 use Rattle.world_model.proofs.Tests.{eq_from, eq_to, ne_to}
 
 -- among those of which it holds

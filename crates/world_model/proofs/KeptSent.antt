@@ -39,11 +39,10 @@ use Rattle.world_model.specs.Settings.{Setting}
 use Rattle.world_model.specs.Traced.{Traced, courses_of_clients}
 use Rattle.world_model.proofs.AllLinks.{at_link}
 use Rattle.world_model.proofs.AllLists.{append_all, every_all, weaker_all}
-use Rattle.world_model.proofs.CommittedSendings.{any_goes, commit_out}
+use Rattle.world_model.proofs.CommittedSendings.{commit_out}
 use Rattle.world_model.proofs.Ends.{sends_alike}
 use Rattle.world_model.proofs.EntriesStay.{right_of, still_sent}
 use Rattle.world_model.proofs.EntrySendings.{any_sent, is_sent, sent_by_one}
-use Rattle.world_model.proofs.Fates.{none_is}
 use Rattle.world_model.proofs.GainedQuiet.{number_named}
 use Rattle.world_model.proofs.Gaining.{none_in, DidOf}
 use Rattle.world_model.proofs.Happened.{Followed, follow_happens, at_event}
@@ -58,11 +57,12 @@ use Rattle.world_model.proofs.KeptUnasked.{held_session}
 use Rattle.world_model.proofs.LinkCounts.{Right, extra_few}
 use Rattle.world_model.proofs.LinkLives.{implied}
 use Rattle.world_model.proofs.LinksStay.{Becomes, is_went}
+use Rattle.world_model.proofs.Lists.{any_goes}
 use Rattle.world_model.proofs.LostKept.{both_all}
 use Rattle.world_model.proofs.Numbered.{all_below, entries_cons, numbered_parts}
 use Rattle.world_model.proofs.NumbersEvent.{did, right_now}
 use Rattle.world_model.proofs.Placing.{SameOut, Moving, Quietly, Stepping, moving, quiet_stay}
-use Rattle.world_model.proofs.Tests.{eq_to, le_from, le_to, lt_from, same_session_is, not_both}
+use Rattle.world_model.proofs.Tests.{eq_to, le_from, le_to, lt_from, same_session_is, not_both, none_is}
 use Rattle.world_model.proofs.TriedApart.{is_under}
 use Rattle.world_model.proofs.Turning.{ComesFrom, IsNew, IsOld, all_turn, some_same}
 

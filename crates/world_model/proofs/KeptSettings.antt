@@ -1,178 +1,61 @@
 -- Each Begin of a request carries its settings, changed by each `set` before the call that follows it: at the start and behind each event.
-use Rattle.std.proofs.Common.{◌≡◌, ◌≢◌, refl, sym, ap, subst, ◌∙◌, Bool, true, false, ℕ, suc, length, List, [], ◌∷◌, map, Option, Some, None}
-use Rattle.std.specs.Prelude.{◌==◌, unwrap_or, not, option_map}
+use Rattle.std.proofs.Common.{◌≡◌, refl, sym, ap, subst, ◌∙◌, Bool, true, ℕ}
+use Rattle.std.specs.Prelude.{unwrap_or}
 use Rattle.std.specs.List.{list_all}
-use Rattle.std.specs.Option.{option_or, option_map_or}
-use Rattle.std.proofs.lemmas.Bool.{and_from, or_right}
-use Rattle.svc_values.specs.declared.frame.Up.{Up}
 use Rattle.outage_schedule.specs.declared.document.Request.{Request}
 use Rattle.pool_core.specs.declared.answers.Back.{Back}
 use Rattle.pool_core.specs.declared.answers.Back.TheVariants as back
 use Rattle.pool_core.specs.Slots.{give_back_answer}
+use Rattle.client_model.specs.declared.act.Act.{Act}
 use Rattle.client_model.specs.declared.act.Hold.{Hold}
 use Rattle.client_model.specs.declared.act.Hold.TheVariants.{GiveBack}
-use Rattle.world_model.specs.Acting.{closing, frames_of, sent_by, call_in, owner_at}
-use Rattle.world_model.specs.Begins.{carries_settings, carries_on, carry_settings}
-use Rattle.world_model.specs.Clients.{Doing, Client, begun, client_at, past_of}
+use Rattle.world_model.specs.Acting.{closing, frames_of, call_in}
+use Rattle.world_model.specs.Begins.{carries_settings, carry_settings}
 use Rattle.world_model.specs.Conversing.{AllTalk}
-use Rattle.world_model.specs.Frames.{Owner, Sent}
+use Rattle.world_model.specs.Frames.{Sent}
 use Rattle.world_model.specs.KeptLaws.{StaysTrue}
-use Rattle.world_model.specs.Links.{Link}
 use Rattle.world_model.specs.Machines.{Machine}
-use Rattle.world_model.specs.Outside.{closed_by_drain}
 use Rattle.world_model.specs.Parts.{implies}
-use Rattle.world_model.specs.Reached.{traced_start}
-use Rattle.world_model.specs.Sames.{same_owner, owned_by}
-use Rattle.world_model.specs.Script.{owned_rightly}
+use Rattle.world_model.specs.Sames.{owned_by}
 use Rattle.world_model.specs.Settings.{Setting}
-use Rattle.world_model.specs.Traced.{Traced, Course, course_now, course_over, courses_of_clients, courses_of}
-use Rattle.world_model.specs.Words.{held_in}
-use Rattle.world_model.proofs.AllLists.{append_all, map_all, weaker_all}
+use Rattle.world_model.specs.Traced.{Course}
+use Rattle.world_model.proofs.AllLists.{append_all}
 use Rattle.world_model.proofs.BeginsStep.{IsRule, begins_rightly, rule_of}
-use Rattle.world_model.proofs.ClientSteps.{HasStepped, MayStep, Still, Closed, Stepped, happens_step}
-use Rattle.world_model.proofs.CoursesStep.{all_step}
-use Rattle.world_model.proofs.DrawsKept.{all_sent_so, by_links, said_so, each_said, grown_so}
-use Rattle.world_model.proofs.Happened.{Followed, follow_happens, at_event}
-use Rattle.world_model.proofs.Held.{doing_course}
-use Rattle.world_model.proofs.KeptDraws.{all_from_each, other_owner}
-use Rattle.world_model.proofs.SentLinks.{is_strange}
-use Rattle.world_model.proofs.SentLists.{sent_lists}
-use Rattle.world_model.proofs.StepFacts.{first_step, first_doing, request_after, step_owner}
-use Rattle.world_model.proofs.Strangers.{doing_strange}
-
--- ONE FRAME ---------------------------------------------------------------------------------------
+use Rattle.world_model.proofs.ClientSteps.{HasStepped}
+use Rattle.world_model.proofs.FramesKept.{StepPasses, frames_start, frames_event}
+use Rattle.world_model.proofs.Happened.{at_event}
+use Rattle.world_model.proofs.StepFacts.{first_step, first_doing, request_after}
 
 abbrev pub carries : Course → Sent → Bool
 carries course sent = implies (owned_by course.owner sent) (carries_settings course.request sent.call sent.frame)
-
--- frames of another request
-others_carry : (course : Course) (owner : Owner) (call : ℕ) (frames : List Up) → course.owner ≢ owner → list_all (carries course) (map (sent_by owner call) frames) ≡ true
-others_carry course owner call [] differs = refl
-others_carry course owner call (frame ∷ frames) differs =
-    and_from (implies (same_owner course.owner owner) (carries_settings course.request call frame)) (list_all (carries course) (map (sent_by owner call) frames))
-    (ap (λ (mine : Bool). implies mine (carries_settings course.request call frame)) (other_owner course.owner owner differs)) (others_carry course owner call frames differs)
-
-strange_carries : (course : Course) (link : Link) → is_strange course.owner link ≡ true → carries_on course link ≡ true
-strange_carries course link strange =
-    weaker_all (λ (sent : Sent). not (owned_by course.owner sent)) (carries course) link.sent (λ sent here. by (owned_by course.owner sent) (carries_settings course.request sent.call sent.frame) here) strange
-  where
-    by : (mine so : Bool) → not mine ≡ true → implies mine so ≡ true
-    by true so here = absurd (let none : ⊥ = cc in none)
-    by false so here = refl
-
-still_carries : (c d : Course) → d.owner ≡ c.owner → d.request ≡ c.request → (sent : Sent) → carries c sent ≡ true → carries d sent ≡ true
-still_carries c d owner request sent here =
-    ap (λ (one : Owner). implies (owned_by one sent) (carries_settings d.request sent.call sent.frame)) owner ∙ ap (λ (one : Request). implies (owned_by c.owner sent) (carries_settings one sent.call sent.frame)) request ∙ here
-
--- A STEP ------------------------------------------------------------------------------------------
 
 closing_carries : (request : Request) (index : ℕ) (held : Hold) (how : Back) → list_all (carries_settings request index) (closing held how) ≡ true
 closing_carries request index GiveBack back.Closed = refl
 closing_carries request index held how = refl
 
-module _ (setting : Setting) (m : Machine) (talks : AllTalk setting.terms m.clients) (number : ℕ) (n : Machine) (step : HasStepped setting m number n) where
-  abbrev mine : Owner
-  mine = record { client = number; place = length step.client.past }
-
-  abbrev first : Doing
-  first = first_doing setting m talks number n step
-
-  abbrev frames : List Up
-  frames = frames_of step.pool (unwrap_or step.connection 0) (first_step setting m talks number n step).done.act
-
-  abbrev said : List Sent
-  said = map (sent_by (owner_at m number) (call_in first.talk.phase)) frames
-
-  frames_carry : IsRule setting.terms.rules → list_all (carries_settings step.before.request (call_in first.talk.phase)) frames ≡ true
-  frames_carry rule =
-      append_all (carries_settings step.before.request (call_in first.talk.phase)) (first_step setting m talks number n step).done.act.send
-      (closing (first_step setting m talks number n step).done.act.hold (give_back_answer step.pool (unwrap_or step.connection 0))) (begins_rightly setting m talks number n step rule)
-      (closing_carries step.before.request (call_in first.talk.phase) (first_step setting m talks number n step).done.act.hold (give_back_answer step.pool (unwrap_or step.connection 0)))
-
-  -- what it sends
-  said_carries : IsRule setting.terms.rules → (course : Course) → course.request ≡ step.before.request → list_all (carries course) said ≡ true
-  said_carries rule course request =
-      map_all (carries_settings step.before.request (call_in first.talk.phase)) (carries course) (sent_by (owner_at m number) (call_in first.talk.phase)) frames
-      (λ frame so. or_right (not (owned_by course.owner (sent_by (owner_at m number) (call_in first.talk.phase) frame))) (carries_settings course.request (call_in first.talk.phase) frame)
-      (ap (λ (one : Request). carries_settings one (call_in first.talk.phase) frame) request ∙ so))
-      (frames_carry rule)
-
-  -- all frames behind it
-  all_carry : (course : Course) → list_all (carries course) said ≡ true → all_sent_so (carries course) (sent_lists m.links) ≡ true → list_all (carries_on course) n.links ≡ true
-  all_carry course says old =
-      by_links (carries course) n.links
-      ∙ subst (λ (lists : List (List Sent)). all_sent_so (carries course) lists ≡ true) (sym step.sent_are)
-      (said_so (carries course) step.lists (unwrap_or step.connection 0) said (grown_so (carries course) (sent_lists m.links) step.lists step.grows old) says)
-
-  others_so : (course : Course) → course.owner ≢ mine → list_all (carries_on course) m.links ≡ true → list_all (carries_on course) n.links ≡ true
-  others_so course differs old =
-      all_carry course (others_carry course (owner_at m number) (call_in first.talk.phase) frames (λ same. differs (same ∙ step_owner setting m talks number n step))) (sym (by_links (carries course) m.links) ∙ old)
-
-  -- its own frames before
-  abbrev before_course : Course
-  before_course = course_now setting number (length step.client.past) step.before
-
-  mine_so : IsRule setting.terms.rules → (course : Course) → course.owner ≡ mine → course.request ≡ step.after.request → list_all (carries_on before_course) m.links ≡ true → list_all (carries_on course) n.links ≡ true
-  mine_so rule course owner request old =
-      let same : course.request ≡ step.before.request = request ∙ request_after setting m talks number n step in
-      all_carry course (said_carries rule course same)
-      (weaker_all (list_all (carries before_course)) (list_all (carries course)) (sent_lists m.links) (λ sents. weaker_all (carries before_course) (carries course) sents (still_carries before_course course owner same))
-      (sym (by_links (carries before_course) m.links) ∙ old))
-
--- EVENTS ------------------------------------------------------------------------------------------
-
--- the request that steps, before it does
-before_carries : (t : Traced) (m : Machine) (number : ℕ) (n : Machine) (step : HasStepped t.setting m number n) → m.clients ≡ t.machine.clients → m.links ≡ t.machine.links → owned_rightly (courses_of t) 1 t.machine.links ≡ true
-    → carry_settings t ≡ true → list_all (carries_on (course_now t.setting number (length step.client.past) step.before)) t.machine.links ≡ true
-before_carries t m number n step clients links owned old = by step.client.now refl step.client.next step.does
+-- at a step
+step_carries : (setting : Setting) (m : Machine) (talks : AllTalk setting.terms m.clients) (number : ℕ) (n : Machine) (step : HasStepped setting m number n) → IsRule setting.terms.rules → StepPasses (λ course. carries_settings course.request) setting m talks number n step
+step_carries setting m talks number n step rule course request shown = record {
+  says =
+      subst (λ (one : Request). list_all (carries_settings one index) (frames_of step.pool (unwrap_or step.connection 0) act) ≡ true) (sym same)
+      (append_all (carries_settings step.before.request index) act.send (closing act.hold (give_back_answer step.pool (unwrap_or step.connection 0))) (begins_rightly setting m talks number n step rule)
+      (closing_carries step.before.request index act.hold (give_back_answer step.pool (unwrap_or step.connection 0))));
+  still = λ at frame is. ap (λ (one : Request). carries_settings one at frame) same ∙ is;
+}
   where
-    here : client_at t.machine.clients number ≡ Some step.client
-    here = subst (λ (all : List Client). client_at all number ≡ Some step.client) clients step.here
+    act : Act
+    act = (first_step setting m talks number n step).done.act
 
-    by : (now : Option Doing) → step.client.now ≡ now → (next : Option Request) → option_or now (option_map (begun t.setting.terms m.event m.tick) next) ≡ Some step.before
-        → list_all (carries_on (course_now t.setting number (length step.client.past) step.before)) t.machine.links ≡ true
-    by (Some one) is next does =
-        let same : one ≡ step.before = cc in
-        doing_course (λ (course : Course). list_all (carries_on course) t.machine.links) t number step.client step.before old here (is ∙ ap Some same)
-    by None is next does =
-        all_from_each (carries_on (course_now t.setting number (length step.client.past) step.before)) t.machine.links
-        (λ index link at. strange_carries (course_now t.setting number (length step.client.past) step.before) link
-        (doing_strange t number step.client (suc index) link owned here (ap (λ (one : Option Doing). option_map_or (λ doing. length (held_in doing.steps) == 0) one true) is) at))
+    index : ℕ
+    index = call_in (first_doing setting m talks number n step).talk.phase
 
-may_carry : (t : Traced) (m n : Machine) → IsRule t.setting.terms.rules → m.clients ≡ t.machine.clients → m.links ≡ t.machine.links → AllTalk t.setting.terms m.clients → owned_rightly (courses_of t) 1 t.machine.links ≡ true → MayStep t.setting m n
-    → carry_settings t ≡ true → list_all (λ (course : Course). list_all (carries_on course) n.links) (courses_of_clients t.setting 1 n.clients) ≡ true
-may_carry t m n rule clients links talks owned (Still same sent) old =
-    subst (λ (c : List Client). list_all (λ (course : Course). list_all (carries_on course) n.links) (courses_of_clients t.setting 1 c) ≡ true) (sym (same ∙ clients))
-    (weaker_all (λ (course : Course). list_all (carries_on course) t.machine.links) (λ (course : Course). list_all (carries_on course) n.links) (courses_of t)
-    (λ course here. by_links (carries course) n.links
-    ∙ (ap (λ (lists : List (List Sent)). all_sent_so (carries course) lists) (sent ∙ ap sent_lists links) ∙ (sym (by_links (carries course) t.machine.links) ∙ here))) old)
-may_carry t m n rule clients links talks owned (Closed same sent) old =
-    subst (λ (c : List Client). list_all (λ (course : Course). list_all (carries_on course) n.links) (courses_of_clients t.setting 1 c) ≡ true) (sym (same ∙ clients))
-    (weaker_all (λ (course : Course). list_all (carries_on course) t.machine.links) (λ (course : Course). list_all (carries_on course) n.links) (courses_of t)
-    (λ course here. by_links (carries course) n.links
-    ∙ (ap (λ (lists : List (List Sent)). all_sent_so (carries course) lists) sent
-    ∙ each_said (carries course) (closed_by_drain ∷ []) (sent_lists m.links) m.pool.idle refl
-    (ap (λ (all : List Link). all_sent_so (carries course) (sent_lists all)) links ∙ (sym (by_links (carries course) t.machine.links) ∙ here)))) old)
-may_carry t m n rule clients links talks owned (Stepped number step) old =
-    let before : list_all (carries_on (course_now t.setting number (length step.client.past) step.before)) m.links ≡ true =
-    subst (λ (all : List Link). list_all (carries_on (course_now t.setting number (length step.client.past) step.before)) all ≡ true) (sym links) (before_carries t m number n step clients links owned old) in
-    all_step t.setting (λ (course : Course). list_all (carries_on course) m.links) (λ (course : Course). list_all (carries_on course) n.links) (record { client = number; place = length step.client.past })
-    (others_so t.setting m talks number n step) m number n step refl
-    (λ keep. mine_so t.setting m talks number n step rule (course_now t.setting number (length step.client.past) step.after) refl refl before)
-    (λ over. mine_so t.setting m talks number n step rule (course_over number (length step.client.past) (past_of t.setting.terms step.after)) refl refl before)
-    (subst (λ (all : List Link). list_all (λ (course : Course). list_all (carries_on course) all) (courses_of_clients t.setting 1 m.clients) ≡ true) (sym links)
-    (subst (λ (c : List Client). list_all (λ (course : Course). list_all (carries_on course) t.machine.links) (courses_of_clients t.setting 1 c) ≡ true) (sym clients) old))
-
-start_carries : (courses : List Course) → list_all (λ (course : Course). list_all (carries_on course) []) courses ≡ true
-start_carries [] = refl
-start_carries (course ∷ courses) = start_carries courses
+    same : course.request ≡ step.before.request
+    same = request ∙ request_after setting m talks number n step
 
 pub settings_law : StaysTrue carry_settings
 settings_law = record {
-  at_start = λ document. start_carries (courses_of (traced_start document));
+  at_start = frames_start (λ course. carries_settings course.request);
   at_event = λ before after old new event note items left one inv carry.
-      let by : Followed old.setting old.machine event note items left new.machine = follow_happens old.setting old.machine event note items left new.machine one.follows in
       let rule : IsRule old.setting.terms.rules = subst (λ (setting : Setting). IsRule setting.terms.rules) (sym inv.setting.same) (rule_of inv.setting.document.service.failover inv.setting.document.service.consistency) in
-      subst (λ (setting : Setting). list_all (λ (course : Course). list_all (carries_on course) new.machine.links) (courses_of_clients setting 1 new.machine.clients) ≡ true) (sym one.setting)
-      (may_carry old (at_event old.machine) new.machine rule refl refl inv.script.talks inv.script.owned (happens_step old.setting (at_event old.machine) items left by.kind new.machine by.happens) carry);
+      frames_event (λ course. carries_settings course.request) before after old new event note items left one inv (λ number step. step_carries old.setting (at_event old.machine) inv.script.talks number new.machine step rule) carry;
 }

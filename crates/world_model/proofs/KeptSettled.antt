@@ -48,7 +48,6 @@ use Rattle.world_model.proofs.ClientSteps.{HasStepped, happens_step}
 use Rattle.world_model.proofs.EndedCalls.{committed_ends, ended_before, shown_same, shows_weaker}
 use Rattle.world_model.proofs.FateSteps.{IsFated, called_fold, fated, fated_from}
 use Rattle.world_model.proofs.FateTaken.{scan_owned}
-use Rattle.world_model.proofs.Fates.{implies_by}
 use Rattle.world_model.proofs.Happened.{Followed, follow_happens, at_event}
 use Rattle.world_model.proofs.Held.{doing_course}
 use Rattle.world_model.proofs.KeptApart.{answered_old}
@@ -76,7 +75,7 @@ use Rattle.world_model.proofs.SettledLists.{all_but_answered, all_but_further, a
 use Rattle.world_model.proofs.StepFacts.{account_now, first_step, first_doing, first_talks_on}
 use Rattle.world_model.proofs.Strangers.{same_owner_is}
 use Rattle.world_model.proofs.TalkRuns.{is_idle, running_unfailed}
-use Rattle.world_model.proofs.Tests.{eq_from, not_both, or_second}
+use Rattle.world_model.proofs.Tests.{eq_from, not_both, or_second, implied_by}
 
 -- what holds of all but the first
 pub without_first : (test : Sending → Bool) (first : Sending) (list : List Sending) → list_all test (filter commits (first ∷ list)) ≡ true → list_all test (filter commits list) ≡ true
@@ -241,7 +240,7 @@ module _ (t : Traced) (whole : Invariant t) (new : Traced) (setting : new.settin
       told_of s = is_known new.blocked kept.report.calls kept.report.outcomes s && lies_so s
 
       one_settled : (s : Sending) → told_of s ≡ true → is_later new shown (transaction_at shown scan_now.shown) s ≡ true
-      one_settled s here = implies_by (transaction_at shown s.at == transaction_at shown scan_now.shown) (is_settled new s) (λ same. by same (known_from new.blocked kept.report.calls kept.report.outcomes s parts.0))
+      one_settled s here = implied_by (transaction_at shown s.at == transaction_at shown scan_now.shown) (is_settled new s) (λ same. by same (known_from new.blocked kept.report.calls kept.report.outcomes s parts.0))
         where
           parts : (is_known new.blocked kept.report.calls kept.report.outcomes s ≡ true) × (lies_so s ≡ true)
           parts = and_parts (is_known new.blocked kept.report.calls kept.report.outcomes s) (lies_so s) here

@@ -60,11 +60,13 @@ use Rattle.world_model.proofs.FateSteps.{Taking, out}
 use Rattle.world_model.proofs.FateTops.{call_left}
 use Rattle.world_model.proofs.Happened.{Followed, follow_happens, at_event}
 use Rattle.world_model.proofs.Held.{doing_course, held_now}
-use Rattle.world_model.proofs.KeptDraws.{all_from_each, get_mapped}
 use Rattle.world_model.proofs.LinksStay.{Becomes}
+use Rattle.world_model.proofs.Lists.{get_mapped}
+use Rattle.world_model.proofs.NumbersTurn.{by_index}
 use Rattle.world_model.proofs.Placing.{SameOut, Moving, Quietly, Stepping, moving}
 use Rattle.world_model.proofs.Recalling.{ShownMore, get_last}
 use Rattle.world_model.proofs.RowSteps.{before_fits, shown_after, shown_more}
+use Rattle.world_model.proofs.RunStarts.{finishing_reached}
 use Rattle.world_model.proofs.SameSelf.{ltxid_self}
 use Rattle.world_model.proofs.ShowsReplies.{runs_unmarked, still_shown, strange_shown, strange_taken}
 use Rattle.world_model.proofs.StepFacts.{account_now, shown_later, first_step, request_after, behind_first}
@@ -72,7 +74,6 @@ use Rattle.world_model.proofs.Strangers.{doing_strange}
 use Rattle.world_model.proofs.TakenOn.{answers_out, TookOn, NoneTaken, OneTaken, took_on}
 use Rattle.world_model.proofs.TalkShows.{next_shows}
 use Rattle.world_model.proofs.Turning.{ComesFrom, IsNew, IsOld, all_turn, some_same}
-use Rattle.world_model.proofs.WholeInvariant.{finishing_reached}
 
 -- on a new connection nothing was taken
 new_shows : (course : Course) (event : ℕ) (frames : List Sent) → shows_taken course (sends event frames new_link) ≡ true
@@ -173,7 +174,7 @@ module _ (t : Traced) (inv : Orderly t) (apart : are_apart t ≡ true) (new : Tr
 
   module _ (items left : List Served) (kind : Noted) (comes : (number : ℕ) (next : Link) → link_at new.machine.links number ≡ Some next → ComesFrom m items left kind number next) where
     all_took : (course : Course) → ((taking : Taking t inv apart new who step) → is_shown_reply course taking.reply ≡ true) → list_all (shows_taken course) t.machine.links ≡ true → list_all (shows_taken course) new.machine.links ≡ true
-    all_took course taken old = all_from_each (shows_taken course) new.machine.links (λ index next there. by index next there (comes (suc index) next there))
+    all_took course taken old = by_index (shows_taken course) new.machine.links (λ index next there. by index next there (comes (suc index) next there))
       where
         by : (index : ℕ) (next : Link) → slice_get new.machine.links index ≡ Some next → ComesFrom m items left kind (suc index) next → shows_taken course next ≡ true
         by index next there (IsNew owner same) = ap (shows_taken course) same ∙ new_shows course m.event (sent_by owner 0 up.Connect ∷ [])
@@ -206,7 +207,7 @@ module _ (t : Traced) (inv : Orderly t) (apart : are_apart t ≡ true) (new : Tr
         by (Some doing) is next does =
             let same : doing ≡ step.before = cc in doing_course (λ (course : Course). list_all (shows_taken course) t.machine.links) t who step.client step.before old step.here (is ∙ ap Some same)
         by None is next does =
-            all_from_each (shows_taken before_course) t.machine.links
+            by_index (shows_taken before_course) t.machine.links
             (λ index link at.
             strange_taken before_course link
             (doing_strange t who step.client (suc index) link inv.script.owned step.here (ap (λ (doing : Option Doing). option_map_or (λ d. length (held_in d.steps) == 0) doing true) is) at)
@@ -229,7 +230,7 @@ by_move t inv apart new items left kind comes (Stepping who step) old = step_sho
 by_move t inv apart new items left kind comes (Quietly same stays) old =
     subst (λ (clients : List Client). list_all (λ (course : Course). list_all (shows_taken course) new.machine.links) (courses_of_clients t.setting 1 clients) ≡ true) (sym same)
     (weaker_all (λ (course : Course). list_all (shows_taken course) t.machine.links) (λ (course : Course). list_all (shows_taken course) new.machine.links) (courses_of t)
-    (λ course so. all_from_each (shows_taken course) new.machine.links (λ index next there. by course so index next there (comes (suc index) next there))) old)
+    (λ course so. by_index (shows_taken course) new.machine.links (λ index next there. by course so index next there (comes (suc index) next there))) old)
   where
     by : (course : Course) → list_all (shows_taken course) t.machine.links ≡ true → (index : ℕ) (next : Link) → slice_get new.machine.links index ≡ Some next → ComesFrom (at_event t.machine) items left kind (suc index) next → shows_taken course next ≡ true
     by course so index next there (IsNew owner equal) = ap (shows_taken course) equal ∙ new_shows course (at_event t.machine).event (sent_by owner 0 up.Connect ∷ [])

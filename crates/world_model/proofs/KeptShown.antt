@@ -3,7 +3,7 @@ use Rattle.std.proofs.Common.{◌≡◌, refl, sym, ap, subst, ◌∙◌, Bool, 
 use Rattle.std.specs.Prelude.{◌==◌, slice_get, option_map}
 use Rattle.std.specs.List.{list_all, list_any, cons_option}
 use Rattle.std.specs.Option.{option_or, option_map_or}
-use Rattle.std.proofs.lemmas.Bool.{and_parts, and_from, or_right}
+use Rattle.std.proofs.lemmas.Bool.{and_parts, and_from, or_right, or_left}
 use Rattle.std.proofs.lemmas.List.{append-nil, map-append, length-map}
 use Rattle.std.proofs.lemmas.List.Folds.{list_any-append}
 use Rattle.svc_values.specs.declared.answer.Answer.TheVariants as answer
@@ -39,9 +39,8 @@ use Rattle.world_model.specs.Traced.{Traced, Course, course_now, course_over, co
 use Rattle.world_model.specs.Words.{brought, held_in}
 use Rattle.world_model.proofs.AllLists.{weaker_all}
 use Rattle.world_model.proofs.ClientSteps.{HasStepped, MayStep, Still, Closed, Stepped, happens_step}
-use Rattle.world_model.proofs.CommittedSendings.{filter_any, any_filtered, any_goes}
+use Rattle.world_model.proofs.CommittedSendings.{filter_any, any_filtered}
 use Rattle.world_model.proofs.CompletedSendings.{completed_new, completed_sent, completed_still, may_be, told_by}
-use Rattle.world_model.proofs.CoursesGrow.{or_left}
 use Rattle.world_model.proofs.CoursesStep.{all_step}
 use Rattle.world_model.proofs.GivenMore.{shows_by, all_more, all_push, all_weaker}
 use Rattle.world_model.proofs.Happened.{Followed, follow_happens, at_event}
@@ -51,6 +50,7 @@ use Rattle.world_model.proofs.KeptSendings.{any_of_all, resting_none}
 use Rattle.world_model.proofs.KeptTried.{tried_law}
 use Rattle.world_model.proofs.KnownLinks.{known_of}
 use Rattle.world_model.proofs.LinkCounts.{Known}
+use Rattle.world_model.proofs.Lists.{any_goes}
 use Rattle.world_model.proofs.LoneCalls.{lone_now}
 use Rattle.world_model.proofs.LostKept.{both_all}
 use Rattle.world_model.proofs.OutcomesTold.{told_more, outcomes_are}

@@ -45,13 +45,13 @@ use Rattle.world_model.proofs.ApartSteps.{PushedAs, NoMore, OneMade, commits, pu
 use Rattle.world_model.proofs.AskedAnswers.{told_now}
 use Rattle.world_model.proofs.AskedSendings.{sent_one}
 use Rattle.world_model.proofs.ClientSteps.{HasStepped, happens_step}
-use Rattle.world_model.proofs.CommittedSendings.{CommitOut, any_goes, commit_out, filter_any, is_unanswered}
+use Rattle.world_model.proofs.CommittedSendings.{CommitOut, commit_out, filter_any, is_unanswered}
 use Rattle.world_model.proofs.FateLinks.{OutOf, committed_above}
 use Rattle.world_model.proofs.FateSteps.{Taking, known, out}
 use Rattle.world_model.proofs.FateTops.{last_call, last_open, scan_on}
-use Rattle.world_model.proofs.Fates.{implies_by, none_is}
 use Rattle.world_model.proofs.Happened.{Followed, follow_happens, at_event}
 use Rattle.world_model.proofs.InPlace.{InPlace, Here, There, in_flat, step_in}
+use Rattle.world_model.proofs.Lists.{any_goes}
 use Rattle.world_model.proofs.SendingsPlaced.{now_is}
 use Rattle.world_model.proofs.KeptBasic.{basic_is_kept}
 use Rattle.world_model.proofs.KeptEnded.{completed_there, more_entries}
@@ -69,7 +69,7 @@ use Rattle.world_model.proofs.SendingSteps.{scan_by, heard_scan, after_sendings}
 use Rattle.world_model.proofs.SendingsMade.{made}
 use Rattle.world_model.proofs.StepFacts.{account_now, first_step, first_doing}
 use Rattle.world_model.proofs.TalkTop.{top_open}
-use Rattle.world_model.proofs.Tests.{eq_from, eq_to, le_from}
+use Rattle.world_model.proofs.Tests.{eq_from, eq_to, le_from, implied_by, none_is}
 
 -- LISTS -------------------------------------------------------------------------------------------
 
@@ -238,7 +238,7 @@ module _ (t : Traced) (whole : Invariant t) (new : Traced) (setting : new.settin
         by _ _ (Quietly none) has = old
         by _ _ (Completed shown_one asking alive heard asked committed) has =
             stored_push new.entries (filter commits sendings) 0 (length calls) calls (shown_call shown_one) length_is
-            (implies_by (ends_committed shown_one.answers) (list_any (is_stored_at new.entries (length calls)) (filter commits sendings)) (λ ends.
+            (implied_by (ends_committed shown_one.answers) (list_any (is_stored_at new.entries (length calls)) (filter commits sendings)) (λ ends.
             filter_any (is_stored_at new.entries (length calls)) commits sendings
             (any_goes (is_unanswered asking.ltxid (length calls)) (λ s. is_stored_at new.entries (length calls) s && commits s) sent_so sendings (sent_one t whole who new.machine step asking true alive heard asked))))
             old
@@ -257,7 +257,7 @@ module _ (t : Traced) (whole : Invariant t) (new : Traced) (setting : new.settin
                 (ap (has_entry new.entries) ((same_ltxid_decides s.ltxid asking.ltxid).0 one_so.0) ∙ there))) three.0
         by _ _ (Replied shown_one state taking top rest runs says are place) has =
             stored_push new.entries (filter commits (record top { taken = Some shown_one.answers } ∷ rest)) 0 (length calls) calls (shown_call shown_one) length_is
-            (implies_by (ends_committed shown_one.answers) (list_any (is_stored_at new.entries (length calls)) (filter commits (record top { taken = Some shown_one.answers } ∷ rest))) (λ ends. last_one ends (has_commit top.call) (commits_top shown_one state taking top rest runs says are ends) has))
+            (implied_by (ends_committed shown_one.answers) (list_any (is_stored_at new.entries (length calls)) (filter commits (record top { taken = Some shown_one.answers } ∷ rest))) (λ ends. last_one ends (has_commit top.call) (commits_top shown_one state taking top rest runs says are ends) has))
             (stored_weaker new.entries new.entries (filter commits (top ∷ rest)) (filter commits (record top { taken = Some shown_one.answers } ∷ rest)) 0 calls (λ at least less any. earlier at less (has_commit top.call) any)
             (subst (λ (list : List Sending). stored_from new.entries (filter commits list) 0 calls ≡ true) are old))
           where

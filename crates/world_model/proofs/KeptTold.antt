@@ -39,10 +39,11 @@ use Rattle.world_model.specs.Traced.{Traced, Course, courses_of}
 use Rattle.world_model.specs.Words.{dones_of}
 use Rattle.world_model.proofs.AllLists.{append_all, weaker_all}
 use Rattle.world_model.proofs.ClientSteps.{HasStepped, happens_step}
-use Rattle.world_model.proofs.CommittedSendings.{any_with, is_unanswered}
+use Rattle.world_model.proofs.CommittedSendings.{is_unanswered}
 use Rattle.world_model.proofs.Happened.{Followed, follow_happens, at_event}
 use Rattle.world_model.proofs.KeptFailed.{failed_law}
 use Rattle.world_model.proofs.KeptSendings.{resting_none}
+use Rattle.world_model.proofs.Lists.{any_with}
 use Rattle.world_model.proofs.LostKept.{both_all, course_before, KeepsLost, lost_kept}
 use Rattle.world_model.proofs.Moves.{Happens}
 use Rattle.world_model.proofs.OutcomesTold.{told_more, outcomes_are}

@@ -24,16 +24,13 @@ use Rattle.run_clauses.specs.Reports.{shown_call}
 use Rattle.world_model.specs.Script.{same_digests, same_ticks, recorded_from, keeps, is_kept, are_kept}
 use Rattle.world_model.specs.Traced.{Traced, Course, course_now}
 use Rattle.world_model.specs.Words.{dones_of}
+use Rattle.world_model.proofs.HeldKept.{same_from}
 use Rattle.world_model.proofs.Keeping.{IsRuled, Never, Purges, Stops, ruled, few_so, stands_so, Counts, counts_purging, counts_stopping}
 use Rattle.world_model.proofs.KeptTalks.{talks_begin, talks_are_kept}
-use Rattle.world_model.proofs.SameSelf.{each_self, bool_self, bytes_self, draw_self}
-use Rattle.world_model.proofs.TalkReady.{unless}
+use Rattle.world_model.proofs.SameSelf.{each_self, bytes_self, draw_self}
 use Rattle.world_model.proofs.TalkTests.{courses_talk}
 use Rattle.world_model.proofs.TalkTracks.{IsOfTracks, talk_good}
-use Rattle.world_model.proofs.Tests.{eq_to}
-
-same_is : (a b : Bool) → a ≡ b → same_bool a b ≡ true
-same_is a b is = subst (λ (c : Bool). same_bool a c ≡ true) is (bool_self a)
+use Rattle.world_model.proofs.Tests.{eq_to, implied_by, none_is, none_some}
 
 ticks_self : (tick : Option ℕ) → same_ticks tick tick ≡ true
 ticks_self None = refl
@@ -44,14 +41,6 @@ digests_self calls =
     each_self _
     (λ one. and_from (bytes_eq one.seen.digest one.seen.digest && same_call one.call one.call) (same_draws one.draws one.draws)
     (and_from (bytes_eq one.seen.digest one.seen.digest) (same_call one.call one.call) (bytes_self one.seen.digest) ((same_call_decides one.call one.call).1 refl)) (each_self _ draw_self one.draws)) calls
-
-none_is : {A : Type 0} (one : Option A) → is_none one ≡ true → one ≡ None
-none_is None is = refl
-none_is (Some x) is = absurd (let never : ⊥ = cc in never)
-
-none_some : {A : Type 0} (one : Option A) → is_none one ≡ true → is_some one ≡ true → ⊥
-none_some None is other = let never : ⊥ = cc in never
-none_some (Some x) is other = let never : ⊥ = cc in never
 
 -- A REQUEST IN COURSE -----------------------------------------------------------------------------
 
@@ -100,12 +89,12 @@ module _ (setting : Setting) (doing : Doing) (talks : Talks setting.terms false 
       && (nat_le track.replays setting.terms.limits.replays && (same_ticks track.first told.first && same_bool track.set_shown (set_shown doing.request.calls told))))))) ≡ true
   keeps_so =
       and_from (track.call == length told.shown) _ (eq_to track.call (length told.shown) kept.call)
-      (and_from (same_bool (is_some track.why) (is_some told.reason)) _ (same_is (is_some track.why) (is_some told.reason) (ap is_some kept.why))
-      (and_from (implies (is_none track.why) (same_digests track.recorder.calls told.since_purge && (length track.recorder.calls + recorded_from (map shown_call told.shown) == track.call))) _ (unless (is_none track.why) _ records)
+      (and_from (same_bool (is_some track.why) (is_some told.reason)) _ (same_from (is_some track.why) (is_some told.reason) (ap is_some kept.why))
+      (and_from (implies (is_none track.why) (same_digests track.recorder.calls told.since_purge && (length track.recorder.calls + recorded_from (map shown_call told.shown) == track.call))) _ (implied_by (is_none track.why) _ records)
       (and_from (track.replays == count_uncommitted told) _ (eq_to track.replays (count_uncommitted told) kept.replays)
       (and_from (nat_le track.replays setting.terms.limits.replays) _ (good_track (λ (one : Track). nat_le one.replays setting.terms.limits.replays) (few_so setting.terms))
       (and_from (same_ticks track.first told.first) (same_bool track.set_shown (set_shown doing.request.calls told))
-      (subst (λ (tick : Option ℕ). same_ticks track.first tick ≡ true) kept.first (ticks_self track.first)) (same_is track.set_shown (set_shown doing.request.calls told) kept.set_shown))))))
+      (subst (λ (tick : Option ℕ). same_ticks track.first tick ≡ true) kept.first (ticks_self track.first)) (same_from track.set_shown (set_shown doing.request.calls told) kept.set_shown))))))
 
 doing_keeps : (t : Traced) (client place : ℕ) (doing : Doing) → IsRuled t.setting.terms.rules → Talks t.setting.terms false doing → is_kept t (course_now t.setting client place doing) ≡ true
 doing_keeps t client place doing rules talks = by (track_of doing.talk.phase) refl

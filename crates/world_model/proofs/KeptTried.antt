@@ -1,10 +1,10 @@
 -- Of Once: what a report has as tried is what the sendings of its request tell, and no identifier stands there twice, at the start and behind each
 -- event.
-use Rattle.std.proofs.Common.{◌≡◌, refl, sym, subst, ◌∙◌, Bool, true, ℕ, length, List, [], ◌∷◌}
+use Rattle.std.proofs.Common.{◌≡◌, refl, sym, subst, ◌∙◌, true, ℕ, length, List}
 use Rattle.std.specs.Prelude.{◌==◌, ◌&&◌}
 use Rattle.std.specs.Cmp.Lexicographic.{pointwise}
 use Rattle.std.specs.List.{list_all}
-use Rattle.std.proofs.lemmas.Bool.{and_parts, and_from}
+use Rattle.std.proofs.lemmas.Bool.{and_parts}
 use Rattle.svc_values.specs.declared.entry.Ltxid.{Ltxid}
 use Rattle.svc_values.specs.Identifiers.{same_ltxid}
 use Rattle.client_model.specs.Tried.{Trying, trying_of, tried_of}
@@ -29,13 +29,9 @@ use Rattle.world_model.proofs.LostSteps.{before_so}
 use Rattle.world_model.proofs.NotedLists.{told}
 use Rattle.world_model.proofs.NotedParts.{lists_told}
 use Rattle.world_model.proofs.Placing.{Moving, Quietly, Stepping, moving}
-use Rattle.world_model.proofs.SameSelf.{ltxid_self}
+use Rattle.world_model.proofs.SameSelf.{ltxid_self, each_self}
 use Rattle.world_model.proofs.Tests.{eq_from}
 use Rattle.world_model.proofs.TriedApart.{lists_apart}
-
-same_list : {A : Type 0} (same : A → A → Bool) → ((x : A) → same x x ≡ true) → (xs : List A) → pointwise same xs xs ≡ true
-same_list same self [] = refl
-same_list same self (x ∷ xs) = and_from (same x x) (pointwise same xs xs) (self x) (same_list same self xs)
 
 -- of a request that notes its sendings as they are
 tells_so : (course : Course) → course.report.tried ≡ tried_of (dones_of course.steps) → notes_sendings course ≡ true → tells_tried course ≡ true
@@ -47,7 +43,7 @@ tells_so course is notes =
     let two = and_parts (trying.over == transaction_at course.report.calls count) (pointwise (is_noted course.report.calls) trying.sendings scan.sendings) one.1 in
     let lists : course.report.tried ≡ told_of course.report.calls (told course.report.calls trying.sendings scan.sendings two.1) =
     is ∙ lists_told course.report.calls trying.sendings scan.sendings two.1 trying.over (eq_from trying.over (transaction_at course.report.calls count) two.0) in
-    subst (λ (all : List (List Ltxid)). pointwise (pointwise same_ltxid) course.report.tried all ≡ true) lists (same_list (pointwise same_ltxid) (same_list same_ltxid ltxid_self) course.report.tried)
+    subst (λ (all : List (List Ltxid)). pointwise (pointwise same_ltxid) course.report.tried all ≡ true) lists (each_self (pointwise same_ltxid) (each_self same_ltxid ltxid_self) course.report.tried)
 
 by_step : (t : Traced) (inv : Orderly t) (new : Traced) → are_by_held new ≡ true → Moving t.setting (at_event t.machine) new.machine → note_sendings t ≡ true → tell_tried t ≡ true
     → list_all tells_tried (courses_of_clients t.setting 1 new.machine.clients) ≡ true

@@ -50,27 +50,19 @@ use Rattle.world_model.proofs.LinkLives.{implied}
 use Rattle.world_model.proofs.LinkOrder.{same_reps}
 use Rattle.world_model.proofs.LinkOut.{idle_none}
 use Rattle.world_model.proofs.LinkSent.{idle_open}
+use Rattle.world_model.proofs.LinkStarts.{begin_alike}
 use Rattle.world_model.proofs.LostKept.{both_all}
+use Rattle.world_model.proofs.RunStarts.{finishing_reached}
 use Rattle.world_model.proofs.SameSelf.{owner_self}
 use Rattle.world_model.proofs.SentLinks.{awaits, sends_none, KeepsSent, sent_keep}
 use Rattle.world_model.proofs.ServedNear.{front_long, reps_sent}
 use Rattle.world_model.proofs.Strangers.{owned_is}
 use Rattle.world_model.proofs.Tests.{eq_from, le_from}
-use Rattle.world_model.proofs.WholeInvariant.{finishing_reached}
 
 -- WHAT IS NOT SERVED YET --------------------------------------------------------------------------
 
 abbrev plain : Sent → Bool
 plain sent = not (is_begin_frame sent.frame)
-
-begins_same : (a b : Up) → same_up a b ≡ true → is_begin_frame a ≡ is_begin_frame b
-begins_same (up.Begin a) (up.Begin b) same = refl
-begins_same (up.Call r k c) (up.Call s l d) same = refl
-begins_same up.Connect up.Connect same = refl
-begins_same (up.Outcome x) (up.Outcome y) same = refl
-begins_same up.End up.End same = refl
-begins_same up.Close up.Close same = refl
-begins_same a b same = absurd (let none : ⊥ = cc in none)
 
 less_none : (sent : Sent) (sents : List Sent) → filter is_rep (sent ∷ sents) ≡ [] → (is_rep sent ≡ false) × (filter is_rep sents ≡ [])
 less_none sent sents none = by (is_rep sent) refl none
@@ -100,7 +92,7 @@ none_begin begin (u ∷ ups) (y ∷ ys) front long follow none =
     let rest = less_none u ups none in
     let follows : followed_at_once (begin_in y) ys ≡ true = (and_parts (option_map_or (λ one. follows_begin one y) begin true) (followed_at_once (begin_in y) ys) follow).1 in
     and_from (plain u) (list_all plain ups)
-    (by (is_begin_frame u.frame) (is_begin_frame y.frame) (begins_same u.frame y.frame (same_frames u y parts.0)) follows (λ told. begin_called y ups ys parts.1 later told rest.1))
+    (by (is_begin_frame u.frame) (is_begin_frame y.frame) (begin_alike u.frame y.frame (same_frames u y parts.0)) follows (λ told. begin_called y ups ys parts.1 later told rest.1))
     (none_begin (begin_in y) ups ys parts.1 later follows rest.1)
   where
     by : (mine its : Bool) → mine ≡ its → followed_at_once (if its then Some y else None) ys ≡ true → (followed_at_once (Some y) ys ≡ true → ⊥) → not mine ≡ true

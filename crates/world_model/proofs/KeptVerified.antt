@@ -36,7 +36,6 @@ use Rattle.world_model.proofs.ClientSteps.{HasStepped, Brings, NoneNew, IdleOne,
 use Rattle.world_model.proofs.CoursesStep.{all_step}
 use Rattle.world_model.proofs.Happened.{Followed, follow_happens, at_event}
 use Rattle.world_model.proofs.Held.{held_now}
-use Rattle.world_model.proofs.KeptDraws.{other_owner}
 use Rattle.world_model.proofs.KeptRows.{before_on}
 use Rattle.world_model.proofs.KeptSendings.{each_passes, resting_none, spoken_passes}
 use Rattle.world_model.proofs.KnownLinks.{known_of}
@@ -51,7 +50,7 @@ use Rattle.world_model.proofs.SentLinks.{is_strange}
 use Rattle.world_model.proofs.SentLists.{sent_lists}
 use Rattle.world_model.proofs.ServingTurns.{Serving, NothingYet, AsMuch, OneMore, comes_serving}
 use Rattle.world_model.proofs.StepFacts.{account_now, first_doing, first_step, step_owner}
-use Rattle.world_model.proofs.Strangers.{slot_strange}
+use Rattle.world_model.proofs.Strangers.{slot_strange, other_owner}
 use Rattle.world_model.proofs.Turning.{all_turn}
 use Rattle.world_model.proofs.VerifiedLists.{calls_few, calls_many, take_all, take_before}
 use Rattle.world_model.proofs.VerifiedSteps.{no_one, step_verifies, still}

@@ -4,7 +4,7 @@ use Rattle.std.proofs.Common.{◌≡◌, refl, sym, ap, subst, ◌∙◌, Bool, 
 use Rattle.std.specs.Prelude.{is_none, is_some, unwrap_or, not, ◌==◌}
 use Rattle.std.specs.List.{list_all, list_any, last_or}
 use Rattle.std.specs.Option.{option_map_or}
-use Rattle.std.proofs.lemmas.Bool.{and_parts, and_from, or_right}
+use Rattle.std.proofs.lemmas.Bool.{and_parts, and_from, or_right, or_left}
 use Rattle.std.proofs.lemmas.List.Folds.{list_any-append}
 use Rattle.svc_values.specs.declared.entry.Ltxid.{Ltxid}
 use Rattle.svc_values.specs.Identifiers.{same_ltxid}
@@ -33,7 +33,6 @@ use Rattle.world_model.specs.Words.{brought, held_in}
 use Rattle.world_model.proofs.AllLinks.{at_link}
 use Rattle.world_model.proofs.AllLists.{weaker_all}
 use Rattle.world_model.proofs.ClientSteps.{HasStepped, HeardOn, OfNone, OfIdle, OfNew, OfReply, OfEnded, Behind, AsFirst, LostBehind, happens_step}
-use Rattle.world_model.proofs.CoursesGrow.{or_left}
 use Rattle.world_model.proofs.Ends.{sends_case, sends_alike, ends_case, with_frames}
 use Rattle.world_model.proofs.GoesBy.{by_its, taken_goes}
 use Rattle.world_model.proofs.Happened.{Followed, follow_happens, at_event}

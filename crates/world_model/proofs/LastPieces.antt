@@ -46,15 +46,14 @@ use Rattle.world_model.proofs.CallRows.{same_place}
 use Rattle.world_model.proofs.CallsAgree.{same_granted, tells_as}
 use Rattle.world_model.proofs.CallsApart.{WasSent}
 use Rattle.world_model.proofs.CallsBefore.{handled, in_a_row, start}
-use Rattle.world_model.proofs.CommittedSendings.{any_goes}
 use Rattle.world_model.proofs.EntryInsides.{EntryRan}
 use Rattle.world_model.proofs.EntryPlaces.{EntryAt, entry_ran, last_script, on_link}
 use Rattle.world_model.proofs.Gaining.{links_apart}
-use Rattle.world_model.proofs.KeptDraws.{all_from_each}
 use Rattle.world_model.proofs.LinkLives.{implied}
+use Rattle.world_model.proofs.Lists.{any_goes, at_any}
 use Rattle.world_model.proofs.LoneCalls.{same_piece_call}
+use Rattle.world_model.proofs.NumbersTurn.{by_index}
 use Rattle.world_model.proofs.OneEntry.{entry_free, one_stored}
-use Rattle.world_model.proofs.OpenCalls.{any_from}
 use Rattle.world_model.proofs.OpenEntries.{script_call}
 use Rattle.world_model.proofs.RanAgrees.{all_came, all_of_calls, of_call, of_did, of_item}
 use Rattle.world_model.proofs.ShownSources.{ByCommit, ByItem, IsTold, ShownBy, shown_by}
@@ -90,13 +89,13 @@ stopped_not (one ∷ answers) ends none = let zero_is : suc (length answers) ≡
 
 -- AN ENTRY ----------------------------------------------------------------------------------------
 
-any_link : (test : Link → Bool) (links : List Link) (number : ℕ) → option_map_or test (link_at links number) false ≡ true → list_any test links ≡ true
+pub any_link : (test : Link → Bool) (links : List Link) (number : ℕ) → option_map_or test (link_at links number) false ≡ true → list_any test links ≡ true
 any_link test links zero is = absurd (let none : ⊥ = cc in none)
 any_link test links (suc index) is = by (slice_get links index) refl is
   where
     by : (found : Option Link) → slice_get links index ≡ found → option_map_or test found false ≡ true → list_any test links ≡ true
     by None at is = absurd (let none : ⊥ = cc in none)
-    by (Some link) at is = any_from test links index link at is
+    by (Some link) at is = at_any test links index link at is
 
 module _ (t : Traced) (whole : Invariant t) (shows : show_replies t ≡ true) (fit : end_fittingly t ≡ true) (alone : store_alone t ≡ true) (ran : commits_ran t ≡ true) (granted : Draw → Bool) (e : EntryAt t whole ran) (shown : ShownCall)
     (at_shown : slice_get e.course.report.calls e.sending.at ≡ Some shown) where
@@ -110,7 +109,7 @@ module _ (t : Traced) (whole : Invariant t) (shows : show_replies t ≡ true) (f
   equal = (same_ltxid_decides e.entry.ltxid x).0 e.same
 
   here : has_entry t.entries x ≡ true
-  here = any_from (λ entry. same_ltxid x entry.ltxid) t.entries e.index e.entry e.at_entry ((same_ltxid_decides x e.entry.ltxid).1 (sym equal))
+  here = at_any (λ entry. same_ltxid x entry.ltxid) t.entries e.index e.entry e.at_entry ((same_ltxid_decides x e.entry.ltxid).1 (sym equal))
 
   -- its call was shown as committed
   ends : ends_committed shown.answers ≡ true
@@ -231,7 +230,7 @@ module _ (t : Traced) (whole : Invariant t) (shows : show_replies t ≡ true) (f
 
         mine : list_any (under_at of_this x) (commit_sendings e.course) ≡ true
         mine =
-            any_from (under_at of_this x) (commit_sendings e.course) e.place e.sending e.at_sending
+            at_any (under_at of_this x) (commit_sendings e.course) e.place e.sending e.at_sending
             (and_from (of_this e.sending.at) (is_under x e.sending) (eq_to (transaction_at calls e.sending.at) (transaction_at calls e.sending.at) refl)
             (and_from (is_open_or_committed e.sending) (same_ltxid x x) e.may ((same_ltxid_decides x x).1 refl)))
 
@@ -310,7 +309,7 @@ module _ (t : Traced) (whole : Invariant t) (shows : show_replies t ≡ true) (f
       where
         items : list_all (λ h. of_item tells h.sent h.served.item) link.served ≡ true
         items =
-            all_from_each (λ h. of_item tells h.sent h.served.item) link.served
+            by_index (λ h. of_item tells h.sent h.served.item) link.served
             (λ p h at_h. item_is p h at_h h.served.item refl (at_all (λ a. of_call a.sent.frame a.served.item) link.served p h all_calls at_h))
 
         came : list_all (list_all (of_did tells)) (ran_by link).over ≡ true

@@ -1,5 +1,5 @@
 -- Of a connection whose first frame is served or stopped: how far its session is ahead then.
-use Rattle.std.proofs.Common.{◌≡◌, refl, sym, ap, subst, ◌∙◌, Bool, true, false, ℕ, ◌+◌, ◌≤◌, ◌&&◌, cond, [], ◌∷◌, ◌++◌, filter, Option, None, ◌⊎◌, inl, inr, arith, if◌then◌else◌}
+use Rattle.std.proofs.Common.{◌≡◌, refl, sym, ap, subst, ◌∙◌, Bool, true, false, ℕ, ◌+◌, ◌≤◌, ◌&&◌, [], ◌∷◌, ◌++◌, filter, Option, None, ◌⊎◌, inl, inr, arith, if◌then◌else◌}
 use Rattle.std.specs.Prelude.{◌==◌, ◌||◌, is_some}
 use Rattle.std.specs.List.{list_any, last_or}
 use Rattle.std.specs.Option.{option_map_or}
@@ -12,19 +12,12 @@ use Rattle.world_model.specs.Number.{cond_held, is_stopped_call, last_is_stopped
 use Rattle.world_model.specs.Parts.{is_rep, is_out, out_frame, is_commit_call, held_number}
 use Rattle.world_model.specs.Serving.{Front, is_commit, commits_after, after_front, handled}
 use Rattle.world_model.specs.Crashing.{fallen_link}
+use Rattle.world_model.proofs.NumbersItems.{plus_cond_one, plus_cond}
 use Rattle.world_model.proofs.Tests.{eq_to}
 use Rattle.world_model.proofs.Ends.{handled_alike, fallen_case}
 use Rattle.world_model.proofs.FrontLists.{last_pushed}
 use Rattle.world_model.proofs.LinkCounts.{Known, Right, commit_rep}
 use Rattle.world_model.proofs.LinkServed.{IsNext, is_next, none_commits, made_test, made_now, last_before}
-
-plus_one : (n : ℕ) (test : Bool) → test ≡ true → n + cond test 1 0 ≡ n + 1
-plus_one n true is = refl
-plus_one n false is = absurd (let none : ⊥ = cc in none)
-
-plus_none : (n : ℕ) (test : Bool) → test ≡ false → n + cond test 1 0 ≡ n
-plus_none n true is = absurd (let none : ⊥ = cc in none)
-plus_none n false is = omega arith
 
 extra_one : (held : Bool) → held ≡ true → ◌≡◌ {A = ℕ} (if held then 1 else 0) 1
 extra_one true is = refl
@@ -52,7 +45,7 @@ module _ (front : Front) (served : Served) (n : ℕ) (known : Known front.link) 
             let rep : is_rep front.first ≡ true = commit_rep front.first both.0 in
             let follows = is_next front.link front.first front.later known ups rep in
             let level : held_number front.link ≡ front.link.commits = follows.level in
-            let sum : next ≡ front.link.commits + 1 = is ∙ plus_one front.link.commits (is_commit served.item) commits in
+            let sum : next ≡ front.link.commits + 1 = is ∙ plus_cond_one front.link.commits (is_commit served.item) commits in
             let extra : cond_held front.link ≡ 1 = extra_one (is_some front.link.held) both.1 in
             record {
               least = omega (arith, level, sum);
@@ -63,7 +56,7 @@ module _ (front : Front) (served : Served) (n : ℕ) (known : Known front.link) 
 
         plain : is_commit served.item ≡ false → (rep : Bool) → is_rep front.first ≡ rep → Ahead front served reply next
         plain none rep answered =
-            let same : next ≡ n = is ∙ (plus_none front.link.commits (is_commit served.item) none ∙ sym count) in
+            let same : next ≡ n = is ∙ (plus_cond front.link.commits (is_commit served.item) none ∙ sym count) in
             record {
               least = subst (λ (k : ℕ). held_number front.link ≤ k) (sym same) right.least;
               most = subst (λ (k : ℕ). k ≤ held_number front.link + cond_held front.link) (sym same) right.most;
@@ -105,7 +98,7 @@ module _ (front : Front) (served : Served) (n : ℕ) (known : Known front.link) 
     follows_now = is_next front.link front.first front.later known ups rep
 
     commits_same : commits_after front.link served.item ≡ n
-    commits_same = plus_none front.link.commits (is_commit served.item) none ∙ sym count
+    commits_same = plus_cond front.link.commits (is_commit served.item) none ∙ sym count
 
     level_same : held_number front.link ≡ n
     level_same = follows_now.level ∙ sym count

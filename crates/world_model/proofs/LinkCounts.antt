@@ -15,7 +15,8 @@ use Rattle.world_model.specs.Wire.{replies_of, is_sent_front, is_reply_front, ha
 use Rattle.world_model.specs.Sames.{same_sent, same_down, same_reply, is_front}
 use Rattle.world_model.specs.Number.{cond_held, is_told as tells_held, is_stopped_call, last_is_stopped_commit, last_served_made, served_near}
 use Rattle.world_model.specs.Parts.{is_rep, is_answered, is_out, is_commit_frame, is_commit_call, served_reps, held_number}
-use Rattle.world_model.proofs.Tests.{eq_from, le_from}
+use Rattle.world_model.proofs.Lists.{none_of}
+use Rattle.world_model.proofs.Tests.{eq_from, le_from, none_first}
 use Rattle.world_model.proofs.FrontLists.{last_kept, last_pushed, last_alike}
 use Rattle.world_model.proofs.LinkHandled.{commits_behind, is_commit_of, behind_is}
 use Rattle.world_model.proofs.LinkLives.{counts_commits}
@@ -61,13 +62,6 @@ pub record IsLast (link : Link) (reply : Reply) : Type 0 where
   pub replied : one.reply ≡ Some frame
   pub same : same_down reply.frame frame ≡ true
 
-none_first : {A B : Type 0} (y : A) → None ≡ Some y → B
-none_first y is = absurd (let no : ⊥ = cc in no)
-
-none_left : (left : List Reply) → length left ≡ 0 → left ≡ []
-none_left [] is = refl
-none_left (x ∷ xs) is = absurd (let none : ⊥ = omega arith in none)
-
 given_some : (link : Link) (reply z : Reply) (found : Option Handled) → last_or None (served_reps link) ≡ found → given_by found ≡ Some z → same_reply reply z ≡ true → IsLast link reply
 given_some link reply z None is given same = absurd (let none : ⊥ = cc in none)
 given_some link reply z (Some one) is given same = by one.reply refl given
@@ -88,7 +82,7 @@ taken_last link reply left known down =
     let few : length (replies_of link) ≤ length (served_reps link) = few_replies 0 link.served known.handled in
     let most : length (served_reps link) ≤ length link.taken + 1 = le_from (length (served_reps link)) (length link.taken + 1) (and_parts (nat_le (length link.taken) (length (served_reps link))) (nat_le (length (served_reps link)) (length link.taken + 1)) known.near).1 in
     let more : length (reply ∷ left) ≡ length left + 1 = omega arith in
-    let none : left ≡ [] = none_left left (omega arith) in
+    let none : left ≡ [] = none_of left (omega arith) in
     let all : length (replies_of link) ≡ length (served_reps link) = omega arith in
     let alone : is_front same_reply (link.taken ++ reply ∷ []) (replies_of link) ≡ true = subst (λ (d : List Reply). is_front same_reply (link.taken ++ reply ∷ d) (replies_of link) ≡ true) none front in
     let short : length (link.taken ++ reply ∷ []) ≡ length link.taken + 1 = length-append link.taken (reply ∷ []) in

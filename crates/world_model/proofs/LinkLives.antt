@@ -69,6 +69,16 @@ none_more (first ∷ second ∷ others) one none =
     let parts = or_parts (ends_life first) (list_any ends_life (second ∷ others)) none in
     and_from (not (ends_life first)) (none_behind ((second ∷ others) ++ one ∷ [])) (not_from_false (ends_life first) parts.0) (none_more (second ∷ others) one parts.1)
 
+-- behind what ends a session nothing is served
+pub none_later : (one : Handled) (others : List Handled) → none_behind (one ∷ others) ≡ true → ends_life one ≡ true → others ≡ []
+none_later one [] lone ends = refl
+none_later one (next ∷ others) lone ends =
+    absurd (let never : not (ends_life one) ≡ true = (and_parts (not (ends_life one)) (none_behind (next ∷ others)) lone).0 in let none : ⊥ = cc in none)
+
+pub lone_later : (one : Handled) (others : List Handled) → none_behind (one ∷ others) ≡ true → none_behind others ≡ true
+lone_later one [] lone = refl
+lone_later one (next ∷ others) lone = (and_parts (not (ends_life one)) (none_behind (next ∷ others)) lone).1
+
 pub implied : (a b : Bool) → a ≡ true → implies a b ≡ true → b ≡ true
 implied true b is e = e
 implied false b is e = absurd (let none : ⊥ = cc in none)
@@ -97,10 +107,6 @@ served_lives m front served reply living ordinary here =
     list_any-append ends_life front.link.served (one ∷ []) ∙ (ap (λ b. b || (ends_life one || false)) none ∙ or_false (ends_life one)) in
     and_from (none_behind (front.link.served ++ one ∷ [])) (implies (not (is_last served.item)) (not (list_any ends_life (front.link.served ++ one ∷ [])))) (none_more front.link.served one none)
     (living_last (is_last served.item) (is_stopped served.item) (list_any ends_life (front.link.served ++ one ∷ [])) (not_stopped front.first.frame served.item (ordinary_item m front served ordinary)) any)
-
--- a session that ended
-ended_lives : (link : Link) → none_behind link.served ≡ true → (none_behind link.served && implies false (not (list_any ends_life link.served))) ≡ true
-ended_lives link none = and_from (none_behind link.served) true none refl
 
 stopped_ends : (front : Front) (served : Served) → front.link.is_living ≡ true → lives_rightly front.link ≡ true
     → none_behind (front.link.served ++ record { sent = front.first; served = served; reply = None } ∷ []) ≡ true

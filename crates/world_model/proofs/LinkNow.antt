@@ -15,6 +15,7 @@ use Rattle.world_model.specs.Machines.{Server, Machine, next_session}
 use Rattle.world_model.specs.Serving.{Front, is_of_front, is_served_by, is_item_of, is_last, after_front}
 use Rattle.world_model.specs.Crashing.{fallen_link}
 use Rattle.world_model.specs.Parts.{implies}
+use Rattle.world_model.proofs.NamesKept.{serving}
 use Rattle.world_model.proofs.Tests.{eq_from, eq_to, same_session_is}
 use Rattle.world_model.proofs.AllLists.{map_all, every_all, weaker_all}
 use Rattle.world_model.proofs.Ends.{sends_alike, handled_alike, cut_case, fallen_case}
@@ -45,9 +46,6 @@ pub served_incarnation : (server : Server) (link : Link) (frame : Up) (session :
 served_incarnation server link up.Connect session living is here = ap (λ (s : SessionId). s.incarnation) (same_session_is session (next_session server) is)
 served_incarnation server link frame session living is here = by_other server.incarnation link.is_living link.session session living is here
 
-served_by : (m : Machine) (front : Front) (served : Served) → is_of_front m front served ≡ true → is_served_by m.server front.link front.first.frame served.session ≡ true
-served_by m front served is = (and_parts (served.event == m.event) (is_served_by m.server front.link front.first.frame served.session) is).1
-
 implied_now : (living : Bool) (a b : ℕ) → a ≡ b → implies living (a == b) ≡ true
 implied_now true a b same = eq_to a b same
 implied_now false a b same = refl
@@ -55,7 +53,7 @@ implied_now false a b same = refl
 served_now : (m : Machine) (front : Front) (served : Served) (reply : Option Down) → front.link.is_living ≡ true → is_of_front m front served ≡ true → now_at m.server.incarnation front.link ≡ true
     → now_at m.server.incarnation (after_front front served reply) ≡ true
 served_now m front served reply living is here =
-    implied_now (not (is_last served.item)) served.session.incarnation m.server.incarnation (served_incarnation m.server front.link front.first.frame served.session living (served_by m front served is) here)
+    implied_now (not (is_last served.item)) served.session.incarnation m.server.incarnation (served_incarnation m.server front.link front.first.frame served.session living (serving m front served is) here)
 
 pub now_keep : (m : Machine) → Keeps m no_test (now_at m.server.incarnation)
 now_keep m = record {

@@ -41,7 +41,7 @@ was_so commits one is =
     by (inl here) = let parts = and_parts (is_item_of one.sent.frame one.served.item) (same_replies one.reply (reply_of one.served.session commits one.served.item)) here in Ordinary parts.0 parts.1
     by (inr here) = let parts = and_parts (is_crashed_item one.sent.frame one.served.item) (is_none one.reply) here in Halted parts.0 parts.1
 
-crashed_commits : (frame : Up) (one : Item) → is_crashed_item frame one ≡ true → is_commit one ≡ false
+pub crashed_commits : (frame : Up) (one : Item) → is_crashed_item frame one ≡ true → is_commit one ≡ false
 crashed_commits frame (item.Call marked call answers draws) is = by frame is
   where
     by : (other : Up) → is_crashed_item other (item.Call marked call answers draws) ≡ true → is_commit (item.Call marked call answers draws) ≡ false

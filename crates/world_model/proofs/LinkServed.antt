@@ -17,7 +17,8 @@ use Rattle.world_model.specs.Wire.{up_of, replies_of, is_sent_front, is_fresh}
 use Rattle.world_model.specs.Sames.{same_sent, same_reply, is_front}
 use Rattle.world_model.specs.Number.{last_told, made_entry}
 use Rattle.world_model.specs.Parts.{is_rep, count_reps, is_out, out_frame, is_commit_call, served_reps, held_number, implies}
-use Rattle.world_model.proofs.Tests.{eq_from, eq_to, le_from}
+use Rattle.world_model.proofs.Lists.{none_of}
+use Rattle.world_model.proofs.Tests.{eq_from, eq_to, le_from, none_first}
 use Rattle.world_model.proofs.FrontLists.{front_filter, last_pushed, last_alike}
 use Rattle.world_model.proofs.HeldAgain.{told_same}
 use Rattle.world_model.proofs.LinkNumbers.{rep_of, all_told, alike_told}
@@ -33,13 +34,6 @@ pub record IsNext (link : Link) (first : Sent) (later : List Sent) : Type 0 wher
   pub out : is_out link ≡ true
   pub same : option_map_or (same_sent first) (out_frame link) false ≡ true
   pub none : filter is_rep later ≡ []
-
-none_of : {A : Type 0} (xs : List A) → length xs ≡ 0 → xs ≡ []
-none_of [] is = refl
-none_of (x ∷ xs) is = absurd (let never : ⊥ = omega arith in never)
-
-none_first : {A B : Type 0} (y : A) → None ≡ Some y → B
-none_first y is = absurd (let no : ⊥ = cc in no)
 
 found_same : (first : Sent) (found : Option Sent) (z : Sent) → found ≡ Some z → same_sent first z ≡ true → option_map_or (same_sent first) found false ≡ true
 found_same first found z is same = ap (λ (f : Option Sent). option_map_or (same_sent first) f false) is ∙ same

@@ -12,23 +12,19 @@ use Rattle.outage_schedule.specs.declared.item.Item.{Item}
 use Rattle.outage_schedule.specs.declared.item.Item.TheVariants as item
 use Rattle.client_model.specs.Terms.{Phase, Greeting, Asked}
 use Rattle.world_model.specs.Frames.{Owner, Sent, Handled}
-use Rattle.world_model.specs.Links.{Link, link_at}
+use Rattle.world_model.specs.Links.{Link}
 use Rattle.world_model.specs.Serving.{is_item_of, is_blocked}
 use Rattle.world_model.specs.Hold.{is_awaited, is_connect, is_ask}
-use Rattle.world_model.specs.Invariant.{Orderly}
 use Rattle.world_model.specs.Basic.{lives_rightly}
-use Rattle.world_model.specs.Wire.{up_of, nothing_cut, is_sent_front, replies_of, is_reply_front, handled_from, one_is_out}
-use Rattle.world_model.specs.Number.{served_near, is_told}
+use Rattle.world_model.specs.Wire.{up_of, nothing_cut, is_sent_front, replies_of, is_reply_front, handled_from}
 use Rattle.world_model.specs.Parts.{is_answered, is_rep, count_reps, is_out, out_frame}
 use Rattle.world_model.specs.Sames.{same_up, same_sent, same_reply, owned_by, is_front}
-use Rattle.world_model.specs.Traced.{Traced}
 use Rattle.world_model.proofs.Tests.{eq_from}
-use Rattle.world_model.proofs.AllLinks.{at_link}
 use Rattle.world_model.proofs.Fronts.{same_frames}
 use Rattle.world_model.proofs.FrontLists.{last_kept}
 use Rattle.world_model.proofs.LinkCounts.{Known}
 use Rattle.world_model.proofs.LinkEnds.{ends_at}
-use Rattle.world_model.proofs.LinkLives.{counts_commits, implied, served_none}
+use Rattle.world_model.proofs.LinkLives.{implied, served_none}
 use Rattle.world_model.proofs.LinkOrder.{is_orderly, same_reps, reps_served}
 use Rattle.world_model.proofs.LinkSent.{open_living}
 use Rattle.world_model.proofs.LinkServed.{is_next}
@@ -126,19 +122,6 @@ out_awaited owner phase link out = by (last_or None link.sent) refl (and_parts (
         let one = and_parts (is_answered sent.frame) (owned_by owner sent && is_awaited phase sent) here in
         let two = and_parts (owned_by owner sent) (is_awaited phase sent) one.1 in
         (sent, (last_kept is_rep None None link.sent (λ never. refl) (ap (λ (last : Option Sent). option_map_or is_rep last false) is ∙ one.0) ∙ is, two.1))
-
-pub known_at : (t : Traced) → Orderly t → (number : ℕ) (link : Link) → link_at t.machine.links number ≡ Some link → Known link
-known_at t inv number link there =
-    let links : List Link = t.machine.links in
-    record {
-      sent = at_link is_sent_front links number link inv.wire.sent there;
-      replies = at_link is_reply_front links number link inv.wire.replies there;
-      handled = at_link (λ one. handled_from 0 one.served) links number link inv.wire.handled there;
-      out = at_link one_is_out links number link inv.wire.out there;
-      near = at_link served_near links number link inv.number.served there;
-      counts = at_link counts_commits links number link inv.basic.commits there;
-      held = at_link is_told links number link inv.number.told there;
-    }
 
 -- Blocked answers a call, so a request that awaits Hello or an outcome keeps its connection.
 pub none_blocked : (link : Link) (first : Sent) (later : List Sent) (one : Item) (owner : Owner) (phase : Phase) → Known link → link.up ≡ first ∷ later → is_item_of first.frame one ≡ true → awaits owner phase link ≡ true

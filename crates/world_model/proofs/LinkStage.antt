@@ -14,7 +14,7 @@ use Rattle.pool_core.specs.Slots.{Slots, give_back_answer}
 use Rattle.request_bounds.specs.declared.rule.Why.{Why}
 use Rattle.client_model.specs.States.{Living}
 use Rattle.client_model.specs.declared.input.Input.TheVariants.{Took}
-use Rattle.client_model.specs.Terms.{Terms, Talk, Phase, Unbegun, Queued, Asked, Replaying, unsubmitted}
+use Rattle.client_model.specs.Terms.{Terms, Talk, Phase, Asked, Replaying, unsubmitted}
 use Rattle.client_model.specs.Talk.{Step, begin_of, sends_or_ends, next_call, on_hello, takes as taken_by}
 use Rattle.world_model.specs.Settings.{Setting}
 use Rattle.world_model.specs.Frames.{Owner, Sent, Reply}
@@ -30,6 +30,7 @@ use Rattle.world_model.specs.Parts.{is_answered, is_out, count_reps, implies}
 use Rattle.world_model.specs.Ready.{alters_none, forgets_commits, repeats_rightly, is_waiting, is_unbegun, records_rightly, is_ready}
 use Rattle.world_model.specs.Sames.{same_owner, same_owners, is_of, owned_by}
 use Rattle.world_model.specs.Wire.{Stage, New, Begun, Rested, stage_if, stage_of, is_right}
+use Rattle.world_model.proofs.ClientsReady.{waits_unbegun}
 use Rattle.world_model.proofs.SameSelf.{owner_self}
 use Rattle.world_model.proofs.Fronts.{moved}
 use Rattle.world_model.proofs.Ends.{sends_alike, handled_alike, cut_case, fallen_case}
@@ -104,16 +105,7 @@ next_right : (terms : Terms) (owner : Owner) (talk : Talk) (state : Living) (poo
 next_right terms owner talk state pool number now found None some strange = absurd (let none : ⊥ = cc in none)
 next_right terms owner talk state pool number now found (Some call) some strange = lent_right owner state.track.call found talk.settings call strange
 
--- a call is left to a request that did not begin
-pub waiting_unbegun : (phase : Phase) → is_waiting phase ≡ true → is_unbegun phase ≡ true
-waiting_unbegun phase is = by phase is
-  where
-    by : (phase : Phase) → is_waiting phase ≡ true → is_unbegun phase ≡ true
-    by Unbegun is = refl
-    by (Queued from) is = refl
-    by phase is = absurd (let none : ⊥ = cc in none)
-
-left_some : (calls : List Call) → not (length calls == 0) ≡ true → is_some (slice_get calls 0) ≡ true
+pub left_some : (calls : List Call) → not (length calls == 0) ≡ true → is_some (slice_get calls 0) ≡ true
 left_some [] is = absurd (let none : ⊥ = cc in none)
 left_some (call ∷ calls) is = refl
 
@@ -142,7 +134,7 @@ lends_right setting m owner doing ltxid pool number link ready waits strange idl
     let found = idle_last link idle in
     let other : is_of owner found.last.owner ≡ false = not-true (is_of owner found.last.owner) (last_all (λ (sent : Sent). not (owned_by owner sent)) link.sent found.last found.is_last strange) in
     sends_right m.event (spoken_by owner pool number (on_hello setting.terms doing.talk None ltxid true m.tick)) link (Rested found.last.owner) (idle_stage link found here)
-    (next_right setting.terms owner doing.talk (record { track = unsubmitted setting.terms; ltxid = ltxid }) pool number m.tick found.last.owner (next_call doing.talk) (ready_left setting.terms doing ready (waiting_unbegun doing.talk.phase waits)) other)
+    (next_right setting.terms owner doing.talk (record { track = unsubmitted setting.terms; ltxid = ltxid }) pool number m.tick found.last.owner (next_call doing.talk) (ready_left setting.terms doing ready (waits_unbegun doing.talk.phase waits)) other)
 
 -- TAKEN -------------------------------------------------------------------------------------------
 

@@ -1,5 +1,5 @@
 -- What holds of the Begins that were sent on a connection holds of those that it served, so its transactions start with the settings of their request.
-use Rattle.std.proofs.Common.{◌≡◌, refl, ap, ◌∙◌, Bool, true, false, ℕ, ◌&&◌, ◌||◌, List, [], ◌∷◌, map, Option, Some, None, if◌then◌else◌}
+use Rattle.std.proofs.Common.{◌≡◌, refl, ap, ◌∙◌, Bool, true, false, ℕ, ◌&&◌, List, [], ◌∷◌, map, Option, Some, None, if◌then◌else◌}
 use Rattle.std.specs.Prelude.{◌==◌}
 use Rattle.std.specs.List.{list_all}
 use Rattle.std.specs.Option.{option_map_or}
@@ -8,30 +8,29 @@ use Rattle.svc_values.specs.declared.frame.Up.{Up}
 use Rattle.svc_values.specs.declared.frame.Up.TheVariants as up
 use Rattle.svc_values.specs.SettingsList.{NamedValues, same_settings}
 use Rattle.outage_schedule.specs.declared.document.Request.{Request}
-use Rattle.world_model.specs.Basic.{lives_rightly, none_behind}
 use Rattle.world_model.specs.Begins.{are_followed, begin_in, begins_followed, carries_on, carries_settings, carry_settings, followed_at_once, follows_begin, is_begin_frame, next_on, session_stands, sessions_stand, settings_before, starts_rightly, transactions_start}
 use Rattle.world_model.specs.Frames.{Owner, Sent}
 use Rattle.world_model.specs.Invariant.{Orderly}
-use Rattle.world_model.specs.Links.{Link, link_at}
+use Rattle.world_model.specs.Links.{Link}
 use Rattle.world_model.specs.Parts.{implies}
 use Rattle.world_model.specs.Same.{ran_by, test_at}
 use Rattle.world_model.specs.Sames.{is_front, is_of, owned_by, same_owners, same_sent, same_up}
-use Rattle.world_model.specs.Shown.{calls_on, first_of, first_unmarked, has_unmarked, in_row, in_rows, is_call, is_current, is_row, is_scripts as is_script_frame, marked_from, rows_on, unmarked_first}
+use Rattle.world_model.specs.Shown.{in_rows, is_call}
 use Rattle.world_model.specs.Traced.{Traced, Course, courses_of}
-use Rattle.world_model.specs.Wire.{New, handled_from, is_right, is_sent_front, stage_of, up_of}
+use Rattle.world_model.specs.Wire.{New, is_sent_front}
 use Rattle.world_model.specs.Words.{held_in}
 use Rattle.world_model.proofs.AllLinks.{at_link}
-use Rattle.world_model.proofs.AllLists.{weaker_all}
+use Rattle.world_model.proofs.AllLists.{at_all}
 use Rattle.world_model.proofs.AskedNear.{front_all, owners_are}
-use Rattle.world_model.proofs.AskedSendings.{unfiltered}
-use Rattle.world_model.proofs.FrontLists.{front_begun}
+use Rattle.world_model.proofs.CallFrames.{calls_same}
 use Rattle.world_model.proofs.Fronts.{same_frames}
 use Rattle.world_model.proofs.KeptSettings.{carries}
-use Rattle.world_model.proofs.LostKept.{both_all}
-use Rattle.world_model.proofs.RanCalls.{call_alike, call_same, follows, follows_alike, front_right, front_row, is_mine}
+use Rattle.world_model.proofs.RanCalls.{call_same}
 use Rattle.world_model.proofs.RanLists.{none_ran}
 use Rattle.world_model.proofs.RanSettings.{settings_decide}
 use Rattle.world_model.proofs.RanStarts.{IsKnown, all_known, follows_so}
+use Rattle.world_model.proofs.ServedRows.{InRow, held_so}
+use Rattle.world_model.proofs.ServedSent.{sent_front}
 
 -- FRAMES THAT ARE THE SAME ------------------------------------------------------------------------
 
@@ -47,7 +46,7 @@ settings_alike request index up.End up.End same carry = refl
 settings_alike request index up.Close up.Close same carry = refl
 settings_alike request index a b same carry = absurd (let none : ⊥ = cc in none)
 
-begin_alike : (a b : Up) → same_up a b ≡ true → is_begin_frame a ≡ is_begin_frame b
+pub begin_alike : (a b : Up) → same_up a b ≡ true → is_begin_frame a ≡ is_begin_frame b
 begin_alike (up.Begin x) (up.Begin y) same = refl
 begin_alike up.Connect up.Connect same = refl
 begin_alike (up.Call r k c) (up.Call s l d) same = refl
@@ -84,7 +83,7 @@ module _ (course : Course) where
   follower_alike a b x z begin same follow =
       let one = and_parts (is_call z.frame) ((z.call == b.call) && same_owners b.owner z.owner) follow in
       let two = and_parts (z.call == b.call) (same_owners b.owner z.owner) one.1 in
-      and_from (is_call x.frame) ((x.call == a.call) && same_owners a.owner x.owner) (call_alike course x.frame z.frame (same_frames x z same) ∙ one.0)
+      and_from (is_call x.frame) ((x.call == a.call) && same_owners a.owner x.owner) (calls_same x.frame z.frame (same_frames x z same) ∙ one.0)
       (and_from (x.call == a.call) (same_owners a.owner x.owner) (ap (λ (n : ℕ). n == a.call) (call_same course x z same) ∙ (ap (λ (n : ℕ). z.call == n) (call_same course a b begin) ∙ two.0))
       (ap (λ (owner : Option Owner). same_owners owner x.owner) (owner_same a b begin) ∙ (ap (same_owners b.owner) (owner_same x z same) ∙ two.1)))
 
@@ -103,54 +102,29 @@ module _ (course : Course) where
 
   -- A CONNECTION ----------------------------------------------------------------------------------
 
-  link_starts : (current : Bool) (link : Link) → is_sent_front link ≡ true → is_right (stage_of link) ≡ true → handled_from 0 link.served ≡ true → none_behind link.served ≡ true → is_row course current (calls_on course link) ≡ true
-      → carries_on course link ≡ true → begins_followed link ≡ true → IsKnown course (ran_by link) (next_on course link)
-  link_starts current link sent right handled lone row carry follow =
-      all_known course link.served New start none_ran None 0 None handled lone (front_right New served link.sent front right) (front_row course start served link.sent front parts.0)
-      (front_all (follows course) (follows_alike course) served link.sent front (unfiltered (λ (s : Sent). is_script_frame course s s.frame) (is_mine course) link.sent (and_parts (list_all (λ (s : Sent). is_script_frame course s s.frame) (calls_on course link)) _ parts.1).0))
-      (front_all (carries course) carries_alike served link.sent front carry) (front_follows None None served link.sent Neither front follow) (record { pieces = refl; next_is = refl }) refl
-    where
-      start : ℕ
-      start = option_map_or (λ s. s.call) (first_of (calls_on course link)) 0
+  -- of all that it served
+  pub carried_on : (link : Link) → is_sent_front link ≡ true → carries_on course link ≡ true → list_all (carries course) (map (λ one. one.sent) link.served) ≡ true
+  carried_on link sent carry = front_all (carries course) carries_alike (map (λ one. one.sent) link.served) link.sent (sent_front link sent) carry
 
-      served : List Sent
-      served = map (λ one. one.sent) link.served
+  pub followed_on : (link : Link) → is_sent_front link ≡ true → begins_followed link ≡ true → follows_so None (map (λ one. one.sent) link.served) ≡ true
+  followed_on link sent follow = front_follows None None (map (λ one. one.sent) link.served) link.sent Neither (sent_front link sent) follow
 
-      front : is_front same_sent served link.sent ≡ true
-      front = front_begun same_sent served (up_of link) link.sent (record { rest = link.up; whole = refl }) (and_parts (is_front same_sent (up_of link) link.sent) _ sent).0
-
-      rest : Bool
-      rest =
-          list_all (λ (s : Sent). is_script_frame course s s.frame) (calls_on course link)
-          && (implies (current || has_unmarked (calls_on course link)) (marked_from course (calls_on course link) (first_unmarked course (calls_on course link))) && unmarked_first course (calls_on course link))
-
-      parts : (in_row start (calls_on course link) ≡ true) × (rest ≡ true)
-      parts = and_parts (in_row start (calls_on course link)) rest row
+  link_starts : (link : Link) → is_sent_front link ≡ true → InRow course link.served → carries_on course link ≡ true → begins_followed link ≡ true → IsKnown course (ran_by link) (next_on course link)
+  link_starts link sent row carry follow =
+      all_known course link.served New row.start none_ran None 0 None row.handled row.lone row.right row.row row.scripts (carried_on link sent carry) (followed_on link sent follow) (record { pieces = refl; next_is = refl }) refl
 
 -- A RUN -------------------------------------------------------------------------------------------
 
 -- a test of each connection that a request held, which holds of what is known
 module _ (t : Traced) (inv : Orderly t) (rows : in_rows t ≡ true) (carry : carry_settings t ≡ true) (follow : are_followed t ≡ true) (test : Course → Link → Bool)
     (from : (course : Course) (link : Link) → IsKnown course (ran_by link) (next_on course link) → test course link ≡ true) where
-  of_course : (course : Course) → rows_on t course ≡ true → list_all (carries_on course) t.machine.links ≡ true → list_all (test_at t (test course)) (held_in course.steps) ≡ true
-  of_course course on carry_all =
-      weaker_all (λ number. option_map_or (λ link. is_row course (is_current course number) (calls_on course link)) (link_at t.machine.links number) false) (test_at t (test course)) (held_in course.steps)
-      (λ number is. at number (link_at t.machine.links number) refl is) on
-    where
-      at : (number : ℕ) (found : Option Link) → link_at t.machine.links number ≡ found → option_map_or (λ link. is_row course (is_current course number) (calls_on course link)) found false ≡ true → option_map_or (test course) found false ≡ true
-      at number None there is = absurd (let none : ⊥ = cc in none)
-      at number (Some link) there is =
-          from course link
-          (link_starts course (is_current course number) link (at_link is_sent_front t.machine.links number link inv.wire.sent there) (at_link (λ l. is_right (stage_of l)) t.machine.links number link inv.wire.grammar there)
-          (at_link (λ l. handled_from 0 l.served) t.machine.links number link inv.wire.handled there)
-          (and_parts (none_behind link.served) _ (at_link lives_rightly t.machine.links number link inv.basic.life there)).0 is
-          (at_link (carries_on course) t.machine.links number link carry_all there) (at_link begins_followed t.machine.links number link follow there))
-
   on_held : list_all (λ course. list_all (test_at t (test course)) (held_in course.steps)) (courses_of t) ≡ true
   on_held =
-      weaker_all (λ course. rows_on t course && list_all (carries_on course) t.machine.links) (λ course. list_all (test_at t (test course)) (held_in course.steps)) (courses_of t)
-      (λ course both. let parts = and_parts (rows_on t course) (list_all (carries_on course) t.machine.links) both in of_course course parts.0 parts.1)
-      (both_all (rows_on t) (λ course. list_all (carries_on course) t.machine.links) (courses_of t) rows carry)
+      held_so t inv rows test
+      (λ index course number link at there row.
+      from course link
+      (link_starts course link (at_link is_sent_front t.machine.links number link inv.wire.sent there) row
+      (at_link (carries_on course) t.machine.links number link (at_all (λ c. list_all (carries_on c) t.machine.links) (courses_of t) index course carry at) there) (at_link begins_followed t.machine.links number link follow there)))
 
 pub starts_known : (t : Traced) → Orderly t → in_rows t ≡ true → carry_settings t ≡ true → are_followed t ≡ true → transactions_start t ≡ true
 starts_known t inv rows carry follow = on_held t inv rows carry follow starts_rightly (λ course link is. is.known)

@@ -18,7 +18,8 @@ use Rattle.world_model.specs.Serving.{Front, front_at, is_of_front, is_ordinary,
 use Rattle.world_model.specs.Cutting.{cut_link, reaped_link}
 use Rattle.world_model.specs.Crashing.{is_stopped, is_over, fallen_link, falls}
 use Rattle.world_model.proofs.AllLinks.{front_is, open_is}
-use Rattle.world_model.proofs.Lookups.{mapped, with_others, with_own, changed_own, new_others}
+use Rattle.world_model.proofs.Lists.{get_mapped}
+use Rattle.world_model.proofs.Lookups.{with_others, with_own, changed_own, new_others}
 use Rattle.world_model.proofs.Others.{changed_others}
 use Rattle.world_model.proofs.Moves.{next_number, takes_one, Goes, Rests, Waits, Lends, Opens, Fails, Takes, Loses, ServesLast, LastNone, LastStopped, LastServed, Happens, Nothing, IsStep, Serves, Cuts, Reaps, Crashes, OpensUp, StopsOpening, Ticks, RunsOutside, Asks, Drains}
 use Rattle.world_model.proofs.Turning.{some_same, either}
@@ -81,7 +82,7 @@ module _ (R : Link → Link → Type 0) (self : (link : Link) → R link link) (
 
   pub mapped_stay : (change : Link → Link) (links : List Link) → ((link : Link) → R link (change link)) → Stays links (map change links)
   mapped_stay change links so zero link is = absurd (let none : ⊥ = cc in none)
-  mapped_stay change links so (suc index) link is = record { next = change link; there = mapped change links index link is; so = so link }
+  mapped_stay change links so (suc index) link is = record { next = change link; there = get_mapped change links index link is; so = so link }
 
   -- EVENTS ----------------------------------------------------------------------------------------
 

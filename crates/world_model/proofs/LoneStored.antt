@@ -25,9 +25,8 @@ use Rattle.server_model.specs.Laws.{RunsSerial}
 use Rattle.world_model.specs.CommitAnswers.{commits_alone, stores_alone, store_alone}
 use Rattle.world_model.specs.Parts.{implies}
 use Rattle.world_model.specs.SameLaws.{HoldsAtEnds, HoldsInRuns}
-use Rattle.world_model.proofs.RunStarts.{reached_coupled}
+use Rattle.world_model.proofs.RunStarts.{reached_coupled, finishing_reached}
 use Rattle.world_model.proofs.Tests.{eq_to}
-use Rattle.world_model.proofs.WholeInvariant.{finishing_reached}
 
 -- A CALL ------------------------------------------------------------------------------------------
 

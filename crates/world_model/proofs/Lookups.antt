@@ -11,6 +11,7 @@ use Rattle.world_model.specs.Serving.{Front, after_front, handled}
 use Rattle.world_model.specs.Cutting.{cut_link}
 use Rattle.world_model.specs.Crashing.{fallen_link, falls}
 use Rattle.world_model.proofs.Ends.{handled_alike, cut_case, fallen_case}
+use Rattle.world_model.proofs.Lists.{get_mapped}
 use Rattle.world_model.proofs.SentLinks.{set_at}
 use Rattle.world_model.proofs.Others.{with_link_other, changed_others}
 use Rattle.world_model.proofs.AllLinks.{front_is}
@@ -55,14 +56,9 @@ found_there change links number (Some one) is said other link at = with_there li
 pub changed_there : (change : Link → Link) (links : List Link) (number : ℕ) → ((link : Link) → IsSaid link (change link)) → (other : ℕ) (link : Link) → link_at links other ≡ Some link → IsThere (changed change links number) other link
 changed_there change links number said other link at = found_there change links number (link_at links number) refl said other link at
 
-pub mapped : (change : Link → Link) (links : List Link) (index : ℕ) (link : Link) → slice_get links index ≡ Some link → slice_get (map change links) index ≡ Some (change link)
-mapped change [] index link is = absurd (let none : ⊥ = cc in none)
-mapped change (first ∷ links) zero link is = ap Some (let same : first ≡ link = cc in ap change same)
-mapped change (first ∷ links) (suc index) link is = mapped change links index link is
-
 pub all_there : (change : Link → Link) (links : List Link) → ((link : Link) → IsSaid link (change link)) → (other : ℕ) (link : Link) → link_at links other ≡ Some link → IsThere (map change links) other link
 all_there change links said zero link at = absurd (let none : ⊥ = cc in none)
-all_there change links said (suc other) link at = record { now = change link; there = mapped change links other link at; same = said link }
+all_there change links said (suc other) link at = record { now = change link; there = get_mapped change links other link at; same = said link }
 
 -- ONE STEP ----------------------------------------------------------------------------------------
 

@@ -2,7 +2,7 @@
 use Rattle.std.proofs.Common.{◌≡◌, refl, sym, ap, subst, ◌∙◌, Bool, true, false, ℕ, ◌&&◌, ◌||◌, length, List, [], ◌∷◌, Option, ◌⊎◌, inl, inr}
 use Rattle.std.specs.List.{list_all, list_any}
 use Rattle.std.specs.Option.{option_map_or}
-use Rattle.std.proofs.lemmas.Bool.{and_parts, and_from, or_cases, or_right}
+use Rattle.std.proofs.lemmas.Bool.{and_parts, and_from, or_cases, or_right, or_left}
 use Rattle.outage_schedule.specs.declared.document.Request.{Request}
 use Rattle.outage_schedule.specs.declared.item.Served.{Served}
 use Rattle.client_model.specs.declared.act.Hold.TheVariants as hold
@@ -15,7 +15,6 @@ use Rattle.world_model.specs.Matching.{Noted}
 use Rattle.world_model.specs.Traced.{Traced, Course, course_now, course_over, courses_of, courses_of_clients}
 use Rattle.world_model.proofs.AllLists.{weaker_all}
 use Rattle.world_model.proofs.ClientSteps.{HasStepped, MayStep, Still, Closed, Stepped}
-use Rattle.world_model.proofs.CoursesGrow.{or_left}
 use Rattle.world_model.proofs.CoursesStep.{all_step}
 use Rattle.world_model.proofs.Happened.{at_event}
 use Rattle.world_model.proofs.KeptGone.{GoneAt, gone_at, gone_stays}

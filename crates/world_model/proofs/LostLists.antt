@@ -5,13 +5,13 @@ use Rattle.std.specs.List.{list_any, last_or, cons_option}
 use Rattle.std.specs.Option.{option_or}
 use Rattle.std.proofs.lemmas.List.{append-nil}
 use Rattle.std.proofs.lemmas.List.Folds.{list_any-append}
+use Rattle.std.proofs.lemmas.Bool.{or_left}
 use Rattle.client_model.specs.declared.input.Input.{Input}
 use Rattle.client_model.specs.declared.input.Input.TheVariants.{Start, Waiting, Lent, Opened, TryFailed, Took, Gone}
 use Rattle.world_model.specs.Clients.{Step}
 use Rattle.world_model.specs.Conversing.{connected, connection_after}
 use Rattle.world_model.specs.Lost.{without_last}
 use Rattle.world_model.specs.Words.{brought, held_in}
-use Rattle.world_model.proofs.CoursesGrow.{or_left}
 use Rattle.world_model.proofs.FrontLists.{Begins}
 
 -- THE LAST ONE ------------------------------------------------------------------------------------

@@ -5,7 +5,7 @@ use Rattle.std.specs.List.{list_all, list_any}
 use Rattle.std.specs.Option.{option_map_or}
 use Rattle.std.specs.Cmp.Lexicographic.{pointwise}
 use Rattle.std.specs.Str.{bytes_eq}
-use Rattle.std.proofs.lemmas.Bool.{and_parts, and_from}
+use Rattle.std.proofs.lemmas.Bool.{and_parts, and_from, or_parts}
 use Rattle.svc_values.specs.declared.answer.Answer.{Answer}
 use Rattle.svc_values.specs.declared.entry.Ltxid.{Ltxid}
 use Rattle.svc_values.specs.declared.entry.SessionId.{SessionId}
@@ -45,21 +45,18 @@ use Rattle.world_model.proofs.KeptUnasked.{held_session}
 use Rattle.world_model.proofs.LinkLives.{implied}
 use Rattle.world_model.proofs.LostKept.{both_all}
 use Rattle.world_model.proofs.NoClashEnd.{does_not_clash, each_clash_not, link_clash_not, mine_talks, pointwise_any, told_sessions}
+use Rattle.world_model.proofs.OnceEnd.{script_is}
 use Rattle.world_model.proofs.RanCalls.{is_mine}
 use Rattle.world_model.proofs.RunEnds.{all_finished}
 use Rattle.world_model.proofs.RunStarts.{finishing_reached}
 use Rattle.world_model.proofs.RunsFollowed.{finishing_setting}
-use Rattle.world_model.proofs.SameEnd.{of_copies, of_past, script_is}
+use Rattle.world_model.proofs.SameEnd.{of_copies, of_past}
 use Rattle.world_model.proofs.ScriptsExact.{AreScripts, runs_scripted}
 use Rattle.world_model.proofs.ServedItems.{items_pass, reached_pass}
 use Rattle.world_model.proofs.SessionsSpoken.{runs_tell, told_links}
 use Rattle.world_model.proofs.SessionsTold.{has_spoken, held_some, reaches, told_on}
 
 -- ALL REQUESTS ------------------------------------------------------------------------------------
-
-neither : (a b : Bool) → (a || b) ≡ false → (a ≡ false) × (b ≡ false)
-neither true b is = absurd (let none : ⊥ = cc in none)
-neither false b is = (refl, is)
 
 none_got : (scripts : List Scripted) (index : ℕ) → slice_get scripts index ≡ None → get_or (map (λ (one : Scripted). one.requests) scripts) index [] ≡ []
 none_got [] index none = refl
@@ -80,9 +77,9 @@ module _ (setting : Setting) (test : Request → RequestReport → Bool) where
       → list_all of_course (courses_of_clients setting number clients) ≡ true
   courses_all number [] finished each = refl
   courses_all number (client ∷ clients) finished each =
-      let parts = neither (is_unfinished client) (list_any is_unfinished clients) finished in
+      let parts = or_parts (is_unfinished client) (list_any is_unfinished clients) finished in
       append_all of_course (courses_from setting number 0 client.past client.now) (courses_of_clients setting (number + 1) clients)
-      (courses_past number 0 client.past client.now (neither (is_some client.now) (is_some client.next) parts.0).0 (each 0 client refl)) (courses_all (number + 1) clients parts.1 (λ index one at. each (suc index) one at))
+      (courses_past number 0 client.past client.now (or_parts (is_some client.now) (is_some client.next) parts.0).0 (each 0 client refl)) (courses_all (number + 1) clients parts.1 (λ index one at. each (suc index) one at))
 
 -- THE REPORT --------------------------------------------------------------------------------------
 

@@ -18,6 +18,7 @@ use Rattle.run_clauses.specs.EntryEvents.{entries_of}
 use Rattle.run_clauses.specs.Tried.{holds}
 use Rattle.world_model.specs.Number.{numbered_after}
 use Rattle.world_model.proofs.Blocks.{commits_count}
+use Rattle.world_model.proofs.Held.{counted_self}
 use Rattle.world_model.proofs.Tests.{eq_from, eq_to, lt_from, lt_to, session_self}
 
 -- COUNTS ------------------------------------------------------------------------------------------
@@ -31,9 +32,6 @@ entries_push entries entry session = sum_by_push (λ (one : Entry). cond (is_of_
 -- as many of each session
 abbrev SameCounts : List Entry → List Entry → Type 0
 SameCounts a b = (session : SessionId) → entries_of a session ≡ entries_of b session
-
-counts_on : (a b : List Entry) (entry : Entry) → SameCounts a b → SameCounts (entry ∷ a) (entry ∷ b)
-counts_on a b entry same session = entries_cons entry a session ∙ (ap (λ (n : ℕ). cond (is_of_session session entry.ltxid) 1 0 + n) (same session) ∙ sym (entries_cons entry b session))
 
 counts_pushed : (a b : List Entry) (entry : Entry) → SameCounts a b → SameCounts (entry ∷ a) (b ++ entry ∷ [])
 counts_pushed a b entry same session =
@@ -121,10 +119,6 @@ image_numbered entries counted = numbered_by [] [] entries (λ session. refl) co
 
 -- NO BLOCKED ONE ----------------------------------------------------------------------------------
 
-own_one : (test : Bool) (count : ℕ) → test ≡ true → cond test 1 0 + count ≡ count + 1
-own_one true count is = omega arith
-own_one false count is = absurd (let none : ⊥ = cc in none)
-
 -- the number of an entry is below the count of its session's entries
 below_count : (before entries : List Entry) → numbered_after before entries ≡ true → (total : SessionId → ℕ) → ((session : SessionId) → total session ≡ entries_of before session + entries_of entries session)
     → list_all (λ entry. nat_lt entry.ltxid.number (total (session_of entry.ltxid))) entries ≡ true
@@ -134,7 +128,7 @@ below_count before (entry ∷ entries) here total sum =
     let session : SessionId = session_of entry.ltxid in
     let number : entry.ltxid.number ≡ entries_of before session = parts.0 in
     let all : total session ≡ entries_of before session + entries_of (entry ∷ entries) session = sum session in
-    let split : entries_of (entry ∷ entries) session ≡ entries_of entries session + 1 = entries_cons entry entries session ∙ own_one (is_of_session session entry.ltxid) (entries_of entries session) (session_self session) in
+    let split : entries_of (entry ∷ entries) session ≡ entries_of entries session + 1 = entries_cons entry entries session ∙ counted_self (is_of_session session entry.ltxid) (entries_of entries session) (session_self session) in
     and_from (nat_lt entry.ltxid.number (total session)) (list_all (λ one. nat_lt one.ltxid.number (total (session_of one.ltxid))) entries) (lt_to entry.ltxid.number (total session) (omega arith))
     (below_count (entry ∷ before) entries parts.1 total
     (λ other.

@@ -107,10 +107,6 @@ commit_connects up.Connect (item.Call marked call answers draws) is commit = abs
 commit_connects up.Connect one is commit = absurd (let none : ⊥ = cc in none)
 commit_connects frame one is commit = refl
 
-pub commit_lives : (one : Item) → is_commit one ≡ true → is_last one ≡ false
-commit_lives (item.Call marked call answers draws) is = refl
-commit_lives one is = absurd (let none : ⊥ = cc in none)
-
 -- a frame that was stopped is a call, or an outcome was asked
 pub crashed_rep : (frame : Up) (one : Item) → is_crashed_item frame one ≡ true → (is_answered frame ≡ true) × (is_connect frame ≡ false) × (is_commit one ≡ false)
 crashed_rep (up.Call replay kept called) (item.CrashedCall marked call) is = (refl, refl, refl)

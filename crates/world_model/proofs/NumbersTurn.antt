@@ -16,9 +16,10 @@ use Rattle.world_model.specs.Matching.{Noted, ServedOn, Crashed}
 use Rattle.world_model.specs.Noting.{only_if, same_name, name_of}
 use Rattle.world_model.specs.Serving.{Front, front_at, is_of_front, is_ordinary, is_item_of, serves, after_served}
 use Rattle.world_model.specs.Crashing.{is_stopped, is_over, falls, serves_last, after_stopped}
-use Rattle.world_model.specs.Walking.{After, by_kind}
+use Rattle.world_model.specs.Walking.{by_kind}
 use Rattle.world_model.proofs.Gaining.{made_before}
 use Rattle.world_model.proofs.GainedQuiet.{serves_at}
+use Rattle.world_model.proofs.Happened.{left_or}
 use Rattle.world_model.proofs.Items.{reaches, reaches_if, mapped}
 use Rattle.world_model.proofs.Numbered.{entries_cons}
 use Rattle.world_model.proofs.Tests.{lt_from, same_session_is}
@@ -30,17 +31,13 @@ pub record FrontServed (m : Machine) (front : Front) (served : Served) (rest lef
   pub of_front : is_of_front m front served ≡ true
   pub left_is : rest ≡ left
 
-abbrev left_in : List Served → After → List Served
-left_in items None = items
-left_in items (Some next) = next.1
-
 serves_met : (m n : Machine) (number : ℕ) (frame : Option FrameName) (front : Front) (served : Served) (rest left : List Served) → serves m number frame (served ∷ rest) (Some front) ≡ Some (n, left) → FrontServed m front served rest left
 serves_met m n number None front served rest left e = absurd (let none : ⊥ = cc in none)
 serves_met m n number (Some name) front served rest left e = by (same_name name (name_of front.first.frame) && is_ordinary m front served) refl e
   where
     by : (test : Bool) → (same_name name (name_of front.first.frame) && is_ordinary m front served) ≡ test → reaches_if test (after_served m number front served) rest ≡ Some (n, left) → FrontServed m front served rest left
     by true met e =
-        record { of_front = (and_parts (is_of_front m front served) (is_item_of front.first.frame served.item) (and_parts (same_name name (name_of front.first.frame)) (is_ordinary m front served) met).1).0; left_is = ap (left_in rest) e }
+        record { of_front = (and_parts (is_of_front m front served) (is_item_of front.first.frame served.item) (and_parts (same_name name (name_of front.first.frame)) (is_ordinary m front served) met).1).0; left_is = ap (left_or rest) e }
     by false met e = absurd (let none : ⊥ = cc in none)
 
 last_met : (m n : Machine) (number after : ℕ) (failover : Bool) (front : Front) (served : Served) (rest left : List Served) → mapped (falls failover) (serves_last m number after (served ∷ rest) (Some front)) ≡ Some (n, left) → FrontServed m front served rest left
@@ -48,8 +45,8 @@ last_met m n number after failover front served rest left e = by (is_stopped m a
   where
     by : (stopped over : Bool) → is_stopped m after front served ≡ stopped → is_over m after front served ≡ over
         → mapped (falls failover) (if stopped then reaches (after_stopped m number front served) rest else reaches_if over (after_served m number front served) rest) ≡ Some (n, left) → FrontServed m front served rest left
-    by true over is so e = record { of_front = (and_parts (is_of_front m front served) _ is).0; left_is = ap (left_in rest) e }
-    by false true is so e = record { of_front = (and_parts (is_of_front m front served) (is_item_of front.first.frame served.item) (and_parts (is_ordinary m front served) _ so).0).0; left_is = ap (left_in rest) e }
+    by true over is so e = record { of_front = (and_parts (is_of_front m front served) _ is).0; left_is = ap (left_or rest) e }
+    by false true is so e = record { of_front = (and_parts (is_of_front m front served) (is_item_of front.first.frame served.item) (and_parts (is_ordinary m front served) _ so).0).0; left_is = ap (left_or rest) e }
     by false false is so e = absurd (let none : ⊥ = cc in none)
 
 crash_met : (m n : Machine) (number after : ℕ) (failover is_up down : Bool) (front : Front) (served : Served) (rest left : List Served) → is_up ≡ true

@@ -1,5 +1,5 @@
 -- Each transaction of a report stands in its journal at most once: what the invariant says of the state at the end of a run, said of its report.
-use Rattle.std.proofs.Common.{◌≡◌, refl, sym, ap, subst, ◌∙◌, Bool, true, false, ℕ, suc, zero, ◌+◌, ◌&&◌, ◌||◌, drop, flat_map, length, map, take, List, [], ◌∷◌, ◌++◌, Option, Some, None, ◌⊎◌, inl, inr, arith}
+use Rattle.std.proofs.Common.{◌≡◌, refl, sym, ap, subst, ◌∙◌, Bool, true, false, ℕ, suc, zero, ◌+◌, ◌&&◌, ◌||◌, drop, flat_map, length, map, take, List, [], ◌∷◌, ◌++◌, Some, ◌⊎◌, inl, inr, arith}
 use Rattle.std.specs.Prelude.{◌==◌, count_by, get_or, nat_le, not, slice_get}
 use Rattle.std.specs.List.{list_all, list_any}
 use Rattle.std.specs.Option.{option_map_or}
@@ -30,7 +30,7 @@ use Rattle.world_model.specs.Clients.{Client, is_unfinished, reports_of, script_
 use Rattle.world_model.specs.Coupled.{Coupled}
 use Rattle.world_model.specs.Invariant.{Orderly}
 use Rattle.world_model.specs.KeptLaws.{WholeRunsKeepInvariant}
-use Rattle.world_model.specs.Links.{Link, link_at}
+use Rattle.world_model.specs.Links.{Link}
 use Rattle.world_model.specs.Number.{is_of_run, is_session}
 use Rattle.world_model.specs.Once.{Once, copies_have, copies_once, has_sending, is_completed_rightly, is_foreign, is_of_link, is_on_link, reverse_onto, tells_tried, tried_one, with_now}
 use Rattle.world_model.specs.OnceLaws.{ReportsAreOnce}
@@ -43,7 +43,7 @@ use Rattle.world_model.proofs.AskedNear.{any_all}
 use Rattle.world_model.proofs.AskedSendings.{each_flat}
 use Rattle.world_model.proofs.EntriesFew.{numbered_differ}
 use Rattle.world_model.proofs.EntrySendings.{any_sent}
-use Rattle.world_model.proofs.FirstBehind.{at_any}
+use Rattle.world_model.proofs.LastPieces.{any_link}
 use Rattle.world_model.proofs.LinkLives.{implied}
 use Rattle.world_model.proofs.LostKept.{both_all}
 use Rattle.world_model.proofs.OnceLists.{flat_tried, holds_once, is_apart, later_copies, later_differ, later_ends, later_few, no_copies}
@@ -87,15 +87,6 @@ sent_in_one x (course ∷ courses) tells any =
 
 -- THE ENTRIES OF THE IMAGE ------------------------------------------------------------------------
 
--- a connection that is found by its number is one of them
-linked : (test : Link → Bool) (links : List Link) (number : ℕ) → option_map_or test (link_at links number) false ≡ true → list_any test links ≡ true
-linked test links zero here = absurd (let none : ⊥ = cc in none)
-linked test links (suc index) here = by (slice_get links index) refl here
-  where
-    by : (found : Option Link) → slice_get links index ≡ found → option_map_or test found false ≡ true → list_any test links ≡ true
-    by None at here = absurd (let none : ⊥ = cc in none)
-    by (Some link) at here = at_any test links index link at here
-
 module _ (t : Traced) (image : List Entry) (foreign : list_all (is_foreign t) image ≡ true) where
   abbrev is_on : Ltxid → Link → Bool
   is_on x link = option_map_or (λ session. is_of_session session x) link.session false
@@ -108,7 +99,7 @@ module _ (t : Traced) (image : List Entry) (foreign : list_all (is_foreign t) im
       never entry other any =
           let found = any_all (is_under entry.ltxid) (is_on_link t) (commit_sendings course) (sent_of_tried course tells entry.ltxid any) on in
           let same : entry.ltxid ≡ found.0.ltxid = (same_ltxid_decides entry.ltxid found.0.ltxid).0 (and_parts _ (same_ltxid entry.ltxid found.0.ltxid) found.1.0).1 in
-          not_both (is_of_link t entry) (subst (λ (x : Ltxid). list_any (is_on x) t.machine.links ≡ true) (sym same) (linked (is_on found.0.ltxid) t.machine.links found.0.connection found.1.1)) (not-true (is_of_link t entry) other)
+          not_both (is_of_link t entry) (subst (λ (x : Ltxid). list_any (is_on x) t.machine.links ≡ true) (sym same) (any_link (is_on found.0.ltxid) t.machine.links found.0.connection found.1.1)) (not-true (is_of_link t entry) other)
 
       none : (ids : List Ltxid) (entries : List Entry) → ((x : Ltxid) → holds ids x ≡ true → list_any (λ one. holds one x) course.report.tried ≡ true) → list_all (is_foreign t) entries ≡ true → is_apart entries ids ≡ true
       none ids [] within all = refl
@@ -128,7 +119,7 @@ module _ (t : Traced) (image : List Entry) (foreign : list_all (is_foreign t) im
 
 -- COPIES ------------------------------------------------------------------------------------------
 
-script_is : (clients : List Scripted) (index : ℕ) (client : Scripted) → slice_get clients index ≡ Some client → get_or (map (λ (one : Scripted). one.requests) clients) index [] ≡ client.requests
+pub script_is : (clients : List Scripted) (index : ℕ) (client : Scripted) → slice_get clients index ≡ Some client → get_or (map (λ (one : Scripted). one.requests) clients) index [] ≡ client.requests
 script_is [] index client at = absurd (let none : ⊥ = cc in none)
 script_is (first ∷ clients) zero client at = let same : first ≡ client = cc in ap (λ (one : Scripted). one.requests) same
 script_is (first ∷ clients) (suc index) client at = script_is clients index client at

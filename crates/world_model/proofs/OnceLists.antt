@@ -135,7 +135,7 @@ module _ (image gained : List Entry) where
 
 -- COPIES THAT ARE NOT THERE -----------------------------------------------------------------------
 
-none_in : (entries : List Entry) → entries_in entries [] ≡ []
+pub none_in : (entries : List Entry) → entries_in entries [] ≡ []
 none_in [] = refl
 none_in (entry ∷ entries) = none_in entries
 

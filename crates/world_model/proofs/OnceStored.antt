@@ -32,9 +32,10 @@ use Rattle.world_model.proofs.CallFrames.{calls_same}
 use Rattle.world_model.proofs.CallRows.{got_before, less_or}
 use Rattle.world_model.proofs.CallsApart.{IsCalled, WasSent, calls_rise, is_called, on_one}
 use Rattle.world_model.proofs.CallsBefore.{none_ended}
-use Rattle.world_model.proofs.CommittedSendings.{any_goes}
+use Rattle.world_model.proofs.Lists.{any_goes}
 use Rattle.world_model.proofs.OneCourse.{HadBy, had_by, one_course}
 use Rattle.world_model.proofs.OneEntry.{never_on_two, one_stored}
+use Rattle.world_model.proofs.RunStarts.{finishing_reached}
 use Rattle.world_model.proofs.SameSelf.{owner_self}
 use Rattle.world_model.proofs.ShownPlaces.{same_transaction}
 use Rattle.world_model.proofs.StageCalls.{begins, one_owner}
@@ -44,7 +45,6 @@ use Rattle.world_model.proofs.StoredSendings.{StoredSending, stored_sending}
 use Rattle.world_model.proofs.Tests.{eq_from, eq_to, not_both}
 use Rattle.world_model.proofs.ToldCalls.{handled_is, sent_at}
 use Rattle.world_model.proofs.TriedApart.{is_under, under_at}
-use Rattle.world_model.proofs.WholeInvariant.{finishing_reached}
 
 -- FRAMES ------------------------------------------------------------------------------------------
 

@@ -1,8 +1,8 @@
 -- Of a transaction that a connection stored: no call before its commit was shown as its end, whether it was sent on that connection with the mark or without.
 use Rattle.std.proofs.Common.{◌≡◌, refl, sym, ap, subst, ◌∙◌, arith, Bool, true, false, ℕ, suc, zero, ◌+◌, ◌<◌, ◌≤◌, ◌&&◌, ◌||◌, cond, filter, List, [], ◌∷◌, Some, ◌⊎◌, inl, inr, if◌then◌else◌}
 use Rattle.std.specs.Prelude.{◌==◌, is_none, not, slice_get}
-use Rattle.std.specs.List.{list_all, list_any}
-use Rattle.std.proofs.lemmas.Bool.{and_parts, and_from, or_cases, or_left, or_right, not-true}
+use Rattle.std.specs.List.{list_all}
+use Rattle.std.proofs.lemmas.Bool.{and_parts, and_from, or_cases, not-true}
 use Rattle.svc_values.specs.declared.answer.Answer.{Answer}
 use Rattle.svc_values.specs.declared.call.Call.{Call}
 use Rattle.svc_values.specs.declared.draw.Draw.{Draw}
@@ -22,13 +22,6 @@ use Rattle.world_model.specs.Traced.{Course}
 use Rattle.world_model.specs.Wire.{is_handled, same_replies}
 use Rattle.world_model.proofs.StoredCommits.{leaves_open}
 use Rattle.world_model.proofs.Tests.{eq_from, not_both}
-
--- LISTS -------------------------------------------------------------------------------------------
-
-pub any_from : {A : Type 0} (test : A → Bool) (xs : List A) (place : ℕ) (x : A) → slice_get xs place ≡ Some x → test x ≡ true → list_any test xs ≡ true
-any_from test [] place x at is = absurd (let none : ⊥ = cc in none)
-any_from test (y ∷ ys) zero x at is = or_left (test y) (list_any test ys) (let same : y ≡ x = cc in ap test same ∙ is)
-any_from test (y ∷ ys) (suc place) x at is = or_right (test y) (list_any test ys) (any_from test ys place x at is)
 
 -- MARKS -------------------------------------------------------------------------------------------
 

@@ -26,17 +26,16 @@ use Rattle.world_model.specs.Traced.{Traced, Course}
 use Rattle.world_model.specs.Wanted.{wanted_in}
 use Rattle.world_model.specs.Words.{dones_of, held_in}
 use Rattle.world_model.proofs.AskedNear.{any_all}
-use Rattle.world_model.proofs.CommittedSendings.{any_goes}
 use Rattle.world_model.proofs.EndedCalls.{committed_ends, ended_before, shown_same, shows_weaker}
 use Rattle.world_model.proofs.EntriesFew.{few_in, list_sent, lists_are, over_is, sent_list}
 use Rattle.world_model.proofs.FateSteps.{IsFated, fated, fated_from}
-use Rattle.world_model.proofs.Fates.{none_is}
 use Rattle.world_model.proofs.KnownLists.{IsNext, Known, IsAnswered, IsLast, IsBlocked, IsCommitted, known_from}
+use Rattle.world_model.proofs.Lists.{any_goes}
 use Rattle.world_model.proofs.LostBlocked.{Ended, Pends, Blocks, Completes, Fails, lost_ends}
 use Rattle.world_model.proofs.LostKept.{both_all}
 use Rattle.world_model.proofs.OverLists.{LastOf, dropped_ends, dropped_not, last_of, none_in, some_in, stored_id, stored_there}
 use Rattle.world_model.proofs.Strangers.{same_owner_is}
-use Rattle.world_model.proofs.Tests.{eq_from, eq_to, le_to, not_both, or_second}
+use Rattle.world_model.proofs.Tests.{eq_from, eq_to, le_to, not_both, or_second, none_is}
 use Rattle.world_model.proofs.TransactionParts.{IsTxn, each_txn, is_ended}
 use Rattle.world_model.proofs.TriedApart.{is_under, under_at}
 

@@ -18,8 +18,9 @@ use Rattle.run_clauses.specs.Tried.{Sending as Tried, holds, may_have_committed,
 use Rattle.world_model.specs.Once.{is_open_or_committed, is_shown_stored, is_stored_at, reverse_onto, stored_from, tried_one}
 use Rattle.world_model.specs.Parts.{Sending, has_entry}
 use Rattle.world_model.proofs.ApartSteps.{commits}
-use Rattle.world_model.proofs.CommittedSendings.{any_filtered, any_goes}
+use Rattle.world_model.proofs.CommittedSendings.{any_filtered}
 use Rattle.world_model.proofs.LinkLives.{implied}
+use Rattle.world_model.proofs.Lists.{any_goes}
 use Rattle.world_model.proofs.SameSelf.{ltxid_self}
 use Rattle.world_model.proofs.Tests.{not_both}
 use Rattle.world_model.proofs.TriedApart.{holds_append, is_under, under_at}

@@ -3,7 +3,7 @@ use Rattle.std.proofs.Common.{◌≡◌, refl, sym, ap, subst, ◌∙◌, Bool, 
 use Rattle.std.specs.Prelude.{◌==◌, unwrap_or}
 use Rattle.std.specs.List.{list_all, list_any, cons_option}
 use Rattle.std.specs.Option.{option_map_or}
-use Rattle.std.proofs.lemmas.Bool.{and_parts, and_from, or_right}
+use Rattle.std.proofs.lemmas.Bool.{and_parts, and_from, or_right, or_left}
 use Rattle.std.proofs.lemmas.List.Folds.{list_any-append}
 use Rattle.std.proofs.lemmas.List.Elements.{filter_map-append}
 use Rattle.std.proofs.lemmas.List.Sums.{fold-append}
@@ -25,7 +25,7 @@ use Rattle.world_model.specs.Traced.{Course, courses_of_clients}
 use Rattle.world_model.specs.Words.{brought, held_in}
 use Rattle.world_model.proofs.AllLists.{append_all, weaker_all}
 use Rattle.world_model.proofs.ClientSteps.{HasStepped, Grows, AsBefore, OneMore, MayStep, Still, Closed, Stepped, happens_step}
-use Rattle.world_model.proofs.CoursesGrow.{HasMore, some_step, some_mine, or_left}
+use Rattle.world_model.proofs.CoursesGrow.{HasMore, some_step, some_mine}
 use Rattle.world_model.proofs.Happened.{Followed, follow_happens, at_event}
 use Rattle.world_model.proofs.SameSelf.{owner_self}
 use Rattle.world_model.proofs.SentLists.{sent_lists, spoken_at, spoken}

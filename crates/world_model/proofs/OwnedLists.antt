@@ -1,5 +1,5 @@
 -- Values that were given: where none is the first of its kind twice, each has one owner.
-use Rattle.std.proofs.Common.{◌≡◌, refl, sym, ap, subst, ◌∙◌, arith, ℕ, ◌+◌, ◌≤◌, ◌<◌, ◌&&◌, ◌||◌, Bool, true, false, not, cond, List, [], ◌∷◌, ◌++◌, Option, Some, None, if◌then◌else◌, ◌⊎◌, inl, inr}
+use Rattle.std.proofs.Common.{◌≡◌, refl, sym, ap, subst, ◌∙◌, arith, ℕ, ◌+◌, ◌≤◌, ◌<◌, ◌&&◌, ◌||◌, Bool, true, false, not, cond, List, [], ◌∷◌, ◌++◌, Option, if◌then◌else◌, ◌⊎◌, inl, inr}
 use Rattle.std.specs.Prelude.{◌==◌, nat_lt}
 use Rattle.std.specs.List.{list_any}
 use Rattle.std.proofs.lemmas.Bool.{and_parts, and_from, or_cases, not-true}
@@ -12,6 +12,7 @@ use Rattle.world_model.specs.Frames.{Owner}
 use Rattle.world_model.specs.Once.{Given, later_is_marked, have_one_owner}
 use Rattle.world_model.specs.Sames.{all_with, each_pair, same_owners}
 use Rattle.world_model.proofs.AskedNear.{owners_are}
+use Rattle.world_model.proofs.SameSelf.{owners_self}
 use Rattle.world_model.proofs.Tests.{eq_from, eq_to, lt_from, lt_to}
 
 -- ORIGINS -----------------------------------------------------------------------------------------
@@ -81,10 +82,6 @@ pub record From (whole : List Given) (value : Draw) (given : Given) : Type 0 whe
   pub owner : one.owner ≡ given.owner
   pub call : one.call ≡ given.call
   pub when : (one ≡ given) ⊎ ((one.event < given.event) × (given.mark ≡ true))
-
-pub owners_self : (a : Option Owner) → same_owners a a ≡ true
-owners_self None = refl
-owners_self (Some a) = and_from (a.client == a.client) (a.place == a.place) (eq_to a.client a.client refl) (eq_to a.place a.place refl)
 
 pub from_one : (whole : List Given) (value : Draw) (given : Given) → Stands given whole → same_draw value given.value ≡ true → From whole value given
 from_one whole value given stands same = by (has_origin whole given) refl

@@ -7,7 +7,6 @@ use Rattle.std.proofs.lemmas.List.{length-map}
 use Rattle.pool_core.specs.Slots.{Slots, has_to_wait, joined, without, after_take, after_gone}
 use Rattle.client_model.specs.declared.act.Hold.{Hold}
 use Rattle.client_model.specs.declared.act.Hold.TheVariants.{Keep, GiveBack, Drop}
-use Rattle.client_model.specs.declared.input.Input.{Input}
 use Rattle.client_model.specs.declared.input.Wants.{Wants}
 use Rattle.client_model.specs.Released.{released}
 use Rattle.outage_schedule.specs.declared.item.Item.{Item}
@@ -15,7 +14,7 @@ use Rattle.outage_schedule.specs.declared.item.Served.{Served}
 use Rattle.world_model.specs.Settings.{Setting}
 use Rattle.world_model.specs.Links.{Link, new_link, link_at, with_link, changed, open_from}
 use Rattle.world_model.specs.Clients.{Doing, doing_at}
-use Rattle.world_model.specs.Acting.{steps, act_at, connection_of}
+use Rattle.world_model.specs.Acting.{connection_of}
 use Rattle.world_model.specs.Machines.{Machine}
 use Rattle.world_model.specs.Matching.{Noted}
 use Rattle.world_model.specs.Going.{lost_at_once}
@@ -91,10 +90,6 @@ pub data OpensOne (m n : Machine) : Type 0 where
   AllDrained : length n.links ≡ length m.links → n.pool.opened ≡ m.pool.opened → n.pool.drained ≡ m.pool.opened → OpensOne m n
 
 module _ (setting : Setting) (m : Machine) where
-  step_none : (a : Machine) (number : ℕ) (doing : Doing) (holds_slot : Bool) (input : Input) → length a.links ≡ length m.links → IsAsOpened m.pool a.pool → OpensOne m (steps setting a number doing holds_slot input)
-  step_none a number doing holds_slot input long same =
-      NoneMore (changed_long _ a.links (connection_of doing) ∙ long) (then_opened m.pool a.pool _ same (released_opened a.pool number (connection_of doing) holds_slot (act_at setting a doing input).hold))
-
   lost_none : (a : Machine) (number : ℕ) (ended : Option ℕ) (doing : Option Doing) → length a.links ≡ length m.links → IsAsOpened m.pool a.pool → OpensOne m (lost_at_once setting a number ended doing)
   lost_none a number ended None long same = NoneMore long same
   lost_none a number ended (Some doing) long same = NoneMore long same

@@ -30,6 +30,7 @@ use Rattle.world_model.specs.Going.{lost_at_once}
 use Rattle.world_model.specs.Serving.{is_blocked, pool_after}
 use Rattle.world_model.specs.Crashing.{falls}
 use Rattle.world_model.specs.Hold.{is_queued, is_waiting, joined_at}
+use Rattle.world_model.proofs.IdleEvents.{never_waits}
 use Rattle.world_model.proofs.Tests.{eq_from}
 use Rattle.world_model.proofs.AllLists.{append_all}
 use Rattle.world_model.proofs.AllClients.{stepped_client, client_set}
@@ -112,10 +113,6 @@ waits_queued terms talk from now kept = by (nat_le terms.limits.wait (now - from
     by false kept = refl
 
 -- THE POOL ----------------------------------------------------------------------------------------
-
-never_waits : (idle : List ℕ) → lends idle ≡ take.Waiting → ⊥
-never_waits [] is = let none : ⊥ = cc in none
-never_waits (first ∷ later) is = let none : ⊥ = cc in none
 
 waiting_queue : (pool : Slots) (client : ℕ) → take_answer pool client ≡ take.Waiting → (after_take pool client).queue ≡ joined pool.queue client
 waiting_queue pool client answer = by (has_to_wait pool client) answer

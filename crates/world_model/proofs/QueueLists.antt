@@ -20,7 +20,7 @@ pub with_append : {A : Type 0} (test : A → Bool) (xs ys : List A) → all_with
 with_append test [] ys one other = other
 with_append test (x ∷ xs) ys one other = let parts = and_parts (test x) (all_with test xs) one in and_from (test x) (all_with test (xs ++ ys)) parts.0 (with_append test xs ys parts.1 other)
 
-with_parts : {A : Type 0} (test : A → Bool) (xs ys : List A) → all_with test (xs ++ ys) ≡ true → (all_with test xs ≡ true) × (all_with test ys ≡ true)
+pub with_parts : {A : Type 0} (test : A → Bool) (xs ys : List A) → all_with test (xs ++ ys) ≡ true → (all_with test xs ≡ true) × (all_with test ys ≡ true)
 with_parts test [] ys is = (refl, is)
 with_parts test (x ∷ xs) ys is =
     let parts = and_parts (test x) (all_with test (xs ++ ys)) is in

@@ -31,8 +31,9 @@ use Rattle.world_model.specs.Wire.{Stage, New, Greeted, Told, Repeated, Begun, R
 use Rattle.world_model.proofs.AllLists.{append_all, one_all}
 use Rattle.world_model.proofs.Fronts.{moved}
 use Rattle.world_model.proofs.KeptDecided.{carries}
+use Rattle.world_model.proofs.LinkLives.{lone_later, none_later}
 use Rattle.world_model.proofs.RanCalls.{is_mine, was_right}
-use Rattle.world_model.proofs.RanScripts.{Deal, Greets, Asks, Begins, Ends, Calls, Stops, IsLast, handled_deal, first_more, if_same, if_same_plain, lone_later, none_later, owns, plain_left}
+use Rattle.world_model.proofs.RanScripts.{Deal, Greets, Asks, Begins, Ends, Calls, Stops, IsLast, handled_deal, first_more, if_same, if_same_plain, owns, plain_left}
 use Rattle.world_model.proofs.RanSettings.{set_beside}
 use Rattle.world_model.proofs.RanStarts.{follows_so, row_from}
 use Rattle.world_model.proofs.Tests.{eq_from}
@@ -232,7 +233,7 @@ module _ (course : Course) (whole : List Handled) where
   all_known [] stage n ran commits begin handled lone right row carry follow ends stands known = known
   all_known (one ∷ others) stage n ran commits begin handled lone right row carry follow ends stands known =
       by (one_next (sents_of others) stage n ran one.sent one.sent.frame one.served.item (handled_deal now one parts.0) (was_right (moved stage one.sent) (sents_of others) right) row carried.0 followed ends.0 stands known)
-      (λ m stands_now row_now known_now. all_known others (moved stage one.sent) m (step ran one) now (begin_in one.sent) parts.1 (lone_later course one others lone) right row_now carried.1 followed ends.1 stands_now known_now)
+      (λ m stands_now row_now known_now. all_known others (moved stage one.sent) m (step ran one) now (begin_in one.sent) parts.1 (lone_later one others lone) right row_now carried.1 followed ends.1 stands_now known_now)
     where
       now : ℕ
       now = counted_with commits one.served.item
@@ -250,4 +251,4 @@ module _ (course : Course) (whole : List Handled) where
           → ((m : ℕ) → StandsAt (moved stage one.sent) m (step ran one).pieces → in_row m (filter (is_mine course) (sents_of others)) ≡ true → knows (step ran one) ≡ true → knows (fold step (step ran one) others) ≡ true)
           → knows (fold step (step ran one) others) ≡ true
       by (GoesOn m stands row known) again = again m stands row known
-      by (IsDone ends known) again = subst (λ (more : List Handled). knows (fold step (step ran one) more) ≡ true) (sym (none_later course one others lone ends)) known
+      by (IsDone ends known) again = subst (λ (more : List Handled). knows (fold step (step ran one) more) ≡ true) (sym (none_later one others lone ends)) known

@@ -17,6 +17,7 @@ use Rattle.world_model.specs.Shown.{in_row, is_call, is_scripts}
 use Rattle.world_model.specs.Traced.{Course}
 use Rattle.world_model.specs.Wire.{Stage, Greeted, Told, Repeated, Begun, Rested, Wrong, next_stage, is_right}
 use Rattle.world_model.proofs.AskedNear.{owners_are}
+use Rattle.world_model.proofs.CallFrames.{calls_same}
 use Rattle.world_model.proofs.Fronts.{moved, same_frames, wrong_stays}
 use Rattle.world_model.proofs.Tests.{eq_from, not_both}
 
@@ -78,19 +79,10 @@ module _ (course : Course) where
   abbrev pub follows : Sent → Bool
   follows sent = implies (is_mine sent) (is_scripts course sent sent.frame)
 
-  pub call_alike : (a b : Up) → same_up a b ≡ true → is_call a ≡ is_call b
-  call_alike up.Connect up.Connect same = refl
-  call_alike (up.Begin x) (up.Begin y) same = refl
-  call_alike (up.Call r k c) (up.Call s l d) same = refl
-  call_alike (up.Outcome x) (up.Outcome y) same = refl
-  call_alike up.End up.End same = refl
-  call_alike up.Close up.Close same = refl
-  call_alike a b same = absurd (let never : ⊥ = cc in never)
-
   pub mine_alike : (a b : Sent) → same_sent a b ≡ true → is_mine a ≡ is_mine b
   mine_alike a b same =
       ap (λ (owner : Option Owner). is_of course.owner owner && is_call a.frame) (owners_are a.owner b.owner (and_parts (same_owners a.owner b.owner) ((a.call == b.call) && same_up a.frame b.frame) same).0)
-      ∙ ap (λ (test : Bool). owned_by course.owner b && test) (call_alike a.frame b.frame (same_frames a b same))
+      ∙ ap (λ (test : Bool). owned_by course.owner b && test) (calls_same a.frame b.frame (same_frames a b same))
 
   pub call_same : (a b : Sent) → same_sent a b ≡ true → a.call ≡ b.call
   call_same a b same =

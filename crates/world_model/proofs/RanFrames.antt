@@ -26,6 +26,7 @@ use Rattle.world_model.specs.Links.{Link}
 use Rattle.world_model.specs.Sames.{same_up, same_sent, same_owners, is_front}
 use Rattle.world_model.specs.Serving.{is_item_of, reply_of}
 use Rattle.world_model.specs.SessionHistory.{told_with}
+use Rattle.world_model.specs.Shown.{is_call}
 use Rattle.world_model.specs.Wire.{up_of, is_sent_front, same_replies, is_handled, Stage, New, Told, Repeated, Begun, Rested, Shut, Wrong, stage_if, next_stage, stage_of, is_right}
 use Rattle.world_model.proofs.Fronts.{same_frames, moved, wrong_stays}
 use Rattle.world_model.proofs.RanSettings.{settings_decide}
@@ -37,10 +38,6 @@ abbrev pub rests_behind : Bool → Up → Bool
 rests_behind resting up.End = true
 rests_behind resting (up.Begin settings) = false
 rests_behind resting frame = resting
-
-abbrev pub is_call : Up → Bool
-is_call (up.Call replay kept call) = true
-is_call frame = false
 
 abbrev pub rests_rightly : Bool → List Up → Bool
 rests_rightly resting [] = true

@@ -8,21 +8,21 @@ use Rattle.svc_values.specs.declared.entry.SessionId.{SessionId}
 use Rattle.svc_values.specs.declared.frame.Down.TheVariants as down
 use Rattle.svc_values.specs.declared.frame.Up.{Up}
 use Rattle.svc_values.specs.Identifiers.{same_session}
-use Rattle.outage_schedule.specs.declared.item.Item.{Item as ItemTold}
-use Rattle.outage_schedule.specs.declared.item.Item.TheVariants as item
 use Rattle.server_model.specs.Base.{Base}
 use Rattle.server_model.specs.Items.{Thing, Began, Called, CallStopped, Item, Did, thing_of, asked_of, items_from}
 use Rattle.server_model.specs.Legal.{item_holds, items_hold, all_stored}
 use Rattle.server_model.specs.Outcomes.{Telling, Silent, Says, Stopped}
 use Rattle.server_model.specs.Runs.{Happened, Served, Asked}
 use Rattle.server_model.specs.Walk.{Transaction, Walk, deed_of, entered, after}
-use Rattle.world_model.specs.Basic.{is_stopped, ends_life, none_behind}
+use Rattle.world_model.specs.Basic.{is_stopped, none_behind}
 use Rattle.world_model.specs.Serving.{is_last}
 use Rattle.world_model.specs.Frames.{Handled}
 use Rattle.world_model.specs.Same.{Ran, ran_item}
 use Rattle.world_model.specs.SessionHistory.{served_in, told_with, told_of}
+use Rattle.world_model.specs.Shown.{is_call}
 use Rattle.world_model.specs.Wire.{is_handled, counted_with, handled_from}
-use Rattle.world_model.proofs.RanFrames.{handled_deals, rests_behind, is_call, rests_rightly}
+use Rattle.world_model.proofs.LinkLives.{lone_later, none_later}
+use Rattle.world_model.proofs.RanFrames.{handled_deals, rests_behind, rests_rightly}
 use Rattle.world_model.proofs.RanLists.{has_ran}
 use Rattle.world_model.proofs.RanSessions.{StoredRight, Stands, GoesTo, GoesOn, IsDone, same_stands, same_stored, others_stored, others_stand, own_stands}
 use Rattle.world_model.proofs.RanWalks.{IsSameWalk, Stores, Takes, Keeps, IsStored, IsNothing, Moved, enters, tells_same, thing_moved}
@@ -129,17 +129,6 @@ module _ (base : Base) (all : List Entry) (session : SessionId) where
       again (behind walk one) (n + 1) served ran resting commits (both_hold walk one (items_from (n + 1) history) held).1 (same_whole walk (behind walk one) same ∙ whole)
       (record { has = rest.has; handled = rest.handled; lone = rest.lone; rests = rest.rests }) (same_stands walk (behind walk one) session ran resting same stands)
 
-  -- behind a call that was stopped there is none
-  pub stopped_last : (one : Handled) (others : List Handled) (marked : Bool) (called : _) → none_behind (one ∷ others) ≡ true → one.served.item ≡ item.CrashedCall marked called → others ≡ []
-  stopped_last one [] marked called lone is = refl
-  stopped_last one (next ∷ others) marked called lone is =
-      let ends : ends_life one ≡ true = ap (λ (i : ItemTold). is_last i || is_stopped i) is in
-      absurd (let none : not (ends_life one) ≡ true = (and_parts (not (ends_life one)) (none_behind (next ∷ others)) lone).0 in let never : ⊥ = cc in never)
-
-  pub lone_later : (one : Handled) (others : List Handled) → none_behind (one ∷ others) ≡ true → none_behind others ≡ true
-  lone_later one [] lone = refl
-  lone_later one (next ∷ others) lone = (and_parts (not (ends_life one)) (none_behind (next ∷ others)) lone).1
-
   -- its own frame
   runs_own : (now : ℕ) (frame : Up) (told : Telling) (history : List Happened) → Runs history → (walk : Walk) (n : ℕ) (one : Handled) (others : List Handled) (ran : Ran) (resting : Bool) (commits : ℕ)
       → items_hold base walk (item_at n session now frame told ∷ items_from (n + 1) history) ≡ true → whole_of walk ≡ all → (frame, told) ≡ told_of one → served_in history session ≡ map told_of others
@@ -171,7 +160,7 @@ module _ (base : Base) (all : List Entry) (session : SessionId) where
           again (behind walk (item_at n session now frame told)) (n + 1) others (step ran one) (rests_behind resting one.sent.frame) (counted_with commits one.served.item) both.1 whole_later
           (record { has = has; handled = parts.1; lone = lone_later one others lone; rests = frames.1 }) goes
       by (IsDone marked called crashed right) =
-          let none : others ≡ [] = stopped_last one others marked called lone crashed in
+          let none : others ≡ [] = none_later one others lone (ap (λ i. is_last i || is_stopped i) crashed) in
           subst (λ (more : List Handled). list_all (has_ran session (fold step (step ran one) more)) all ≡ true) (sym none)
           (done_all (step ran one) history (behind walk (item_at n session now frame told)) (n + 1) both.1 whole_later (has ∙ ap (map told_of) none) right)
 

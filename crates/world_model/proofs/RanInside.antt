@@ -5,8 +5,6 @@ use Rattle.std.specs.List.{list_all, list_any}
 use Rattle.std.specs.Option.{option_map_or}
 use Rattle.std.proofs.lemmas.Bool.{and_parts, and_from, not-true, or_parts}
 use Rattle.svc_values.specs.declared.answer.Answer.{Answer}
-use Rattle.svc_values.specs.declared.call.Call.{Call}
-use Rattle.svc_values.specs.declared.call.Call.TheVariants as call
 use Rattle.svc_values.specs.declared.draw.Draw.{Draw}
 use Rattle.svc_values.specs.Endings.{ends_committed, ends_transaction, ends_with}
 use Rattle.svc_values.specs.Same.{same_answers}
@@ -34,7 +32,7 @@ use Rattle.world_model.proofs.RanSessions.{over_same}
 
 -- A SESSION'S CALLS -------------------------------------------------------------------------------
 
-last_dropped : {A : Type 0} (xs : List A) (x : A) → all_but_last (xs ++ x ∷ []) ≡ xs
+pub last_dropped : {A : Type 0} (xs : List A) (x : A) → all_but_last (xs ++ x ∷ []) ≡ xs
 last_dropped [] x = refl
 last_dropped (y ∷ []) x = refl
 last_dropped (y ∷ z ∷ xs) x = ap (λ rest. y ∷ rest) (last_dropped (z ∷ xs) x)
@@ -48,10 +46,6 @@ is_inner dids = list_all goes_on (all_but_last dids)
 
 abbrev step : Ran → Handled → Ran
 step ran one = ran_item ran one.sent one.served.item
-
-with_pieces : (ran : Ran) (called : Call) → (with_call ran called).pieces ≡ ran.pieces
-with_pieces ran (call.Set name x) = refl
-with_pieces ran called = refl
 
 -- Each call of the open transaction goes on, and each but the last of one that is over.
 abbrev AllInner : Ran → Type 0

@@ -1,5 +1,5 @@
 -- A transaction that a connection ran and that has a call of a request has all its calls from the request's script, in a row from the first one.
-use Rattle.std.proofs.Common.{◌≡◌, refl, sym, ap, subst, ◌∙◌, Bool, true, false, ℕ, ◌+◌, ◌&&◌, ◌||◌, length, List, [], ◌∷◌, ◌++◌, map, filter, fold, Option, Some, None, if◌then◌else◌, arith}
+use Rattle.std.proofs.Common.{◌≡◌, refl, sym, ap, subst, ◌∙◌, Bool, true, false, ℕ, ◌+◌, ◌&&◌, ◌||◌, length, List, [], ◌∷◌, ◌++◌, map, filter, fold, Option, if◌then◌else◌, arith}
 use Rattle.std.specs.Prelude.{◌==◌, not, slice_get}
 use Rattle.std.specs.List.{list_all, list_any}
 use Rattle.std.specs.Option.{option_map_or}
@@ -19,29 +19,28 @@ use Rattle.svc_values.specs.SameLaws.{same_call_decides}
 use Rattle.outage_schedule.specs.declared.item.Item.{Item}
 use Rattle.outage_schedule.specs.declared.item.Item.TheVariants as item
 use Rattle.outage_schedule.specs.declared.note.AskResult.{AskResult}
-use Rattle.world_model.specs.Basic.{ends_life, is_stopped, lives_rightly, none_behind}
+use Rattle.world_model.specs.Basic.{is_stopped, none_behind}
 use Rattle.world_model.specs.Crashing.{is_crashed_item}
 use Rattle.world_model.specs.Frames.{Owner, Sent, Handled}
 use Rattle.world_model.specs.Invariant.{Invariant}
-use Rattle.world_model.specs.Links.{Link, link_at}
+use Rattle.world_model.specs.Links.{Link}
 use Rattle.world_model.specs.Parts.{implies}
-use Rattle.world_model.specs.Same.{ServedCall, Ran, did_all, ends_on_server, first_call, has_script_calls, ran_item, run_script_calls, runs_script_calls, is_scripts, scripts_from, test_at, with_call}
-use Rattle.world_model.specs.Sames.{is_front, is_of, owned_by, same_owners, same_sent}
+use Rattle.world_model.specs.Same.{ServedCall, Ran, did_all, ends_on_server, first_call, has_script_calls, ran_item, run_script_calls, runs_script_calls, is_scripts, scripts_from, with_call}
+use Rattle.world_model.specs.Sames.{is_of, owned_by, same_owners}
 use Rattle.world_model.specs.Serving.{is_item_of, is_last}
-use Rattle.world_model.specs.Shown.{calls_on, first_of, first_unmarked, has_unmarked, in_row, is_call, is_current, is_row, is_scripts as is_script_frame, marked_from, rows_on, unmarked_first}
-use Rattle.world_model.specs.Traced.{Traced, Course, courses_of}
-use Rattle.world_model.specs.Wire.{Stage, New, Greeted, Told, Repeated, Begun, Rested, Shut, Wrong, counted_with, handled_from, is_handled, is_sent_front, next_stage, stage_if, stage_of, is_alter, is_right, up_of}
-use Rattle.world_model.specs.Words.{held_in}
-use Rattle.world_model.proofs.AllLinks.{at_link}
-use Rattle.world_model.proofs.AllLists.{append_all, one_all, weaker_all}
-use Rattle.world_model.proofs.AskedNear.{front_all, owners_are}
-use Rattle.world_model.proofs.AskedSendings.{unfiltered}
-use Rattle.world_model.proofs.FrontLists.{front_begun}
+use Rattle.world_model.specs.Shown.{in_row, is_call, is_scripts as is_script_frame}
+use Rattle.world_model.specs.Traced.{Traced, Course}
+use Rattle.world_model.specs.Wire.{Stage, New, Greeted, Told, Repeated, Begun, Rested, Shut, Wrong, counted_with, handled_from, is_handled, next_stage, stage_if, is_alter, is_right}
+use Rattle.world_model.proofs.AllLists.{append_all, one_all}
+use Rattle.world_model.proofs.AskedNear.{owners_are}
 use Rattle.world_model.proofs.Fronts.{moved}
+use Rattle.world_model.proofs.LinkLives.{lone_later, none_later}
 use Rattle.world_model.proofs.LinkNumbers.{Was, Ordinary, Halted, was_so}
-use Rattle.world_model.proofs.RanCalls.{follows, follows_alike, front_right, front_row, is_mine, was_right}
+use Rattle.world_model.proofs.RanCalls.{follows, is_mine, was_right}
+use Rattle.world_model.proofs.RanLists.{none_ran}
 use Rattle.world_model.proofs.RanSessions.{over_same}
 use Rattle.world_model.proofs.RanSettings.{settings_decide}
+use Rattle.world_model.proofs.ServedRows.{InRow, held_so}
 use Rattle.world_model.proofs.Tests.{eq_from}
 
 -- WHAT WAS DONE WITH A FRAME ----------------------------------------------------------------------
@@ -228,9 +227,6 @@ module _ (course : Course) where
   abbrev knows : Ran → Bool
   knows ran = list_all (has_script_calls course) ran.over && has_script_calls course ran.pieces
 
-  knows_begun : (ran : Ran) → list_all (has_script_calls course) ran.over ≡ true → knows (record ran { pieces = [] }) ≡ true
-  knows_begun ran over = and_from (list_all (has_script_calls course) ran.over) true over refl
-
   -- Behind an item: where it stands, or that it is the last one.
   data Next (rests : List Sent) (stage : Stage) (later : Ran) (one : Item) : Type 0 where
     GoesOn : (n : ℕ) → StandsAt stage n later.pieces → in_row n (filter (is_mine course) rests) ≡ true → knows later ≡ true → Next rests stage later one
@@ -280,15 +276,6 @@ module _ (course : Course) where
   abbrev sents_of : List Handled → List Sent
   sents_of served = map (λ one. one.sent) served
 
-  pub none_later : (one : Handled) (others : List Handled) → none_behind (one ∷ others) ≡ true → ends_life one ≡ true → others ≡ []
-  none_later one [] lone ends = refl
-  none_later one (next ∷ others) lone ends =
-      absurd (let never : not (ends_life one) ≡ true = (and_parts (not (ends_life one)) (none_behind (next ∷ others)) lone).0 in let none : ⊥ = cc in none)
-
-  pub lone_later : (one : Handled) (others : List Handled) → none_behind (one ∷ others) ≡ true → none_behind others ≡ true
-  lone_later one [] lone = refl
-  lone_later one (next ∷ others) lone = (and_parts (not (ends_life one)) (none_behind (next ∷ others)) lone).1
-
   all_known : (served : List Handled) (stage : Stage) (n : ℕ) (ran : Ran) (commits : ℕ) → handled_from commits served ≡ true → none_behind served ≡ true → is_right (fold moved stage (sents_of served)) ≡ true
       → in_row n (filter (is_mine course) (sents_of served)) ≡ true → list_all (follows course) (sents_of served) ≡ true → StandsAt stage n ran.pieces → knows ran ≡ true → knows (fold step ran served) ≡ true
   all_known [] stage n ran commits handled lone right row scripts stands known = known
@@ -313,42 +300,8 @@ module _ (course : Course) where
 
 -- A CONNECTION ------------------------------------------------------------------------------------
 
-link_scripts : (course : Course) (current : Bool) (link : Link) → is_sent_front link ≡ true → is_right (stage_of link) ≡ true → handled_from 0 link.served ≡ true → none_behind link.served ≡ true → is_row course current (calls_on course link) ≡ true
-    → runs_script_calls course link ≡ true
-link_scripts course current link sent right handled lone row =
-    all_known course link.served New start (record { settings = []; at_start = []; pieces = []; over = []; starts = [] }) 0 handled lone (front_right New served link.sent front right) (front_row course start served link.sent front parts.0)
-    (front_all (follows course) (follows_alike course) served link.sent front (unfiltered (λ (s : Sent). is_script_frame course s s.frame) (is_mine course) link.sent (and_parts (list_all (λ (s : Sent). is_script_frame course s s.frame) (calls_on course link)) _ parts.1).0))
-    refl refl
-  where
-    start : ℕ
-    start = option_map_or (λ s. s.call) (first_of (calls_on course link)) 0
-
-    served : List Sent
-    served = map (λ one. one.sent) link.served
-
-    front : is_front same_sent served link.sent ≡ true
-    front = front_begun same_sent served (up_of link) link.sent (record { rest = link.up; whole = refl }) (and_parts (is_front same_sent (up_of link) link.sent) _ sent).0
-
-    rest : Bool
-    rest =
-        list_all (λ (s : Sent). is_script_frame course s s.frame) (calls_on course link)
-        && (implies (current || has_unmarked (calls_on course link)) (marked_from course (calls_on course link) (first_unmarked course (calls_on course link))) && unmarked_first course (calls_on course link))
-
-    parts : (in_row start (calls_on course link) ≡ true) × (rest ≡ true)
-    parts = and_parts (in_row start (calls_on course link)) rest row
+link_scripts : (course : Course) (link : Link) → InRow course link.served → runs_script_calls course link ≡ true
+link_scripts course link row = all_known course link.served New row.start none_ran 0 row.handled row.lone row.right row.row row.scripts refl refl
 
 pub scripts_ran : (t : Traced) → Invariant t → run_script_calls t ≡ true
-scripts_ran t whole = weaker_all (rows_on t) (λ course. list_all (test_at t (runs_script_calls course)) (held_in course.steps)) (courses_of t) of_course whole.shown.rows
-  where
-    of_course : (course : Course) → rows_on t course ≡ true → list_all (test_at t (runs_script_calls course)) (held_in course.steps) ≡ true
-    of_course course rows =
-        weaker_all (λ number. option_map_or (λ link. is_row course (is_current course number) (calls_on course link)) (link_at t.machine.links number) false) (test_at t (runs_script_calls course)) (held_in course.steps)
-        (λ number is. at number (link_at t.machine.links number) refl is) rows
-      where
-        at : (number : ℕ) (found : Option Link) → link_at t.machine.links number ≡ found → option_map_or (λ link. is_row course (is_current course number) (calls_on course link)) found false ≡ true
-            → option_map_or (runs_script_calls course) found false ≡ true
-        at number None there is = absurd (let none : ⊥ = cc in none)
-        at number (Some link) there is =
-            link_scripts course (is_current course number) link (at_link is_sent_front t.machine.links number link whole.orderly.wire.sent there) (at_link (λ l. is_right (stage_of l)) t.machine.links number link whole.orderly.wire.grammar there)
-            (at_link (λ l. handled_from 0 l.served) t.machine.links number link whole.orderly.wire.handled there)
-            (and_parts (none_behind link.served) _ (at_link lives_rightly t.machine.links number link whole.orderly.basic.life there)).0 is
+scripts_ran t whole = held_so t whole.orderly whole.shown.rows runs_script_calls (λ index course number link at there row. link_scripts course link row)

@@ -27,8 +27,9 @@ use Rattle.server_model.specs.Items.{Thing, Began, Called, CallStopped}
 use Rattle.server_model.specs.Walk.{Transaction, begun, Walk, with_transaction, transaction_in, number_of, next_of, is_ending, ends, if_ended}
 use Rattle.world_model.specs.Frames.{Sent}
 use Rattle.world_model.specs.Same.{ServedCall, Ran, begins, is_no_commit, did_all, with_call, ran_item, is_piece_of, are_pieces}
+use Rattle.world_model.specs.Shown.{is_call}
 use Rattle.world_model.proofs.AllLists.{weaker_all}
-use Rattle.world_model.proofs.RanFrames.{Deals, DealsBegin, DealsEnd, DealsCall, DealsStop, DealsQuietly, rests_behind, is_call, is_quiet_item, is_quiet_thing}
+use Rattle.world_model.proofs.RanFrames.{Deals, DealsBegin, DealsEnd, DealsCall, DealsStop, DealsQuietly, rests_behind, is_quiet_item, is_quiet_thing}
 use Rattle.world_model.proofs.RanWalks.{IsSameWalk, Stores, Takes, Keeps, Calls, Stops, IsStored, IsNothing, Moved, committed_ends}
 use Rattle.world_model.proofs.RanSettings.{IsBeside, set_beside, set_settings}
 use Rattle.world_model.proofs.RanLists.{IsMore, has_ran, is_its, last_ran, more_ran, number_other, number_own, other_ran}
@@ -300,7 +301,7 @@ stop_stored walk later session ran sent marked called stops stands = by stops
     by (IsNothing same) = none_more same.stored
     by (IsStored answers draws calls) = stored_by answers draws calls.made (ends_committed answers) calls.pieces calls.at_start calls.stores
 
-quiet_item : (ran : Ran) (sent : Sent) (one : ItemTold) → is_quiet_item one ≡ true → ran_item ran sent one ≡ ran
+pub quiet_item : (ran : Ran) (sent : Sent) (one : ItemTold) → is_quiet_item one ≡ true → ran_item ran sent one ≡ ran
 quiet_item ran sent (item.Begin settings) is = absurd (let never : ⊥ = cc in never)
 quiet_item ran sent item.End is = absurd (let never : ⊥ = cc in never)
 quiet_item ran sent (item.Call marked called answers draws) is = absurd (let never : ⊥ = cc in never)

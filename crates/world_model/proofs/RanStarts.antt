@@ -33,8 +33,9 @@ use Rattle.world_model.specs.Wire.{Stage, New, Greeted, Told, Repeated, Begun, R
 use Rattle.world_model.proofs.AskedNear.{owners_are}
 use Rattle.world_model.proofs.Fronts.{moved}
 use Rattle.world_model.proofs.KeptSettings.{carries}
+use Rattle.world_model.proofs.LinkLives.{lone_later, none_later}
 use Rattle.world_model.proofs.RanCalls.{follows, is_mine, was_right}
-use Rattle.world_model.proofs.RanScripts.{Deal, Greets, Asks, Begins, Ends, Calls, Stops, IsLast, handled_deal, first_more, if_same, if_same_plain, lone_later, none_later, owns, plain_left}
+use Rattle.world_model.proofs.RanScripts.{Deal, Greets, Asks, Begins, Ends, Calls, Stops, IsLast, handled_deal, first_more, if_same, if_same_plain, owns, plain_left}
 use Rattle.world_model.proofs.RanSettings.{IsBeside, set_beside, set_settings, settings_decide}
 use Rattle.world_model.proofs.Tests.{eq_from}
 
@@ -130,7 +131,7 @@ module _ (course : Course) where
   begin_stands (Rested one) owner settings n ran next right set = if_stands _ (Begun owner) n ran next right set
   begin_stands stage owner settings n ran next right set = absurd (let never : ⊥ = cc in never)
 
-  was_set : (stage : Stage) (owner : Option Owner) (replay : Bool) (kept : List Draw) (call : Call) (n : ℕ) (ran : Ran) (next : Option ℕ) → is_right (next_stage stage owner (up.Call replay kept call)) ≡ true → StandsAt stage n ran next → IsSet n owner ran next
+  pub was_set : (stage : Stage) (owner : Option Owner) (replay : Bool) (kept : List Draw) (call : Call) (n : ℕ) (ran : Ran) (next : Option ℕ) → is_right (next_stage stage owner (up.Call replay kept call)) ≡ true → StandsAt stage n ran next → IsSet n owner ran next
   was_set (Repeated one) owner true kept call n ran next right stands = subst (λ (o : Option Owner). IsSet n o ran next) (if_same course one owner (not (is_alter call)) (Repeated owner) right) stands
   was_set (Repeated one) owner false kept call n ran next right stands = subst (λ (o : Option Owner). IsSet n o ran next) (if_same_plain course one owner (Begun owner) right) stands
   was_set (Begun one) owner false kept call n ran next right stands = subst (λ (o : Option Owner). IsSet n o ran next) (if_same_plain course one owner (Begun owner) right) stands
@@ -242,7 +243,7 @@ module _ (course : Course) where
       and_from (has_start course one first) (have_starts course (over ++ dids ∷ []) (starts ++ start ∷ [])) parts.0 (more_starts over starts dids start parts.1 has)
 
   -- Behind an item: where it stands, or that it is the last one.
-  data Next (rests : List Sent) (stage : Stage) (later : Ran) (next : Option ℕ) (one : Item) : Type 0 where
+  pub data Next (rests : List Sent) (stage : Stage) (later : Ran) (next : Option ℕ) (one : Item) : Type 0 where
     GoesOn : (n : ℕ) → StandsAt stage n later next → in_row n (filter (is_mine course) rests) ≡ true → knows later ≡ true → Next rests stage later next one
     IsDone : (is_last one || is_stopped one) ≡ true → knows later ≡ true → option_map_or (stands_before course later) next true ≡ true → Next rests stage later next one
 
@@ -290,7 +291,7 @@ module _ (course : Course) where
   last_next next sent (item.Call marked call answers draws) ends = absurd (let none : ⊥ = cc in none)
   last_next next sent one ends = refl
 
-  one_next : (rests : List Sent) (stage : Stage) (n : ℕ) (ran : Ran) (next : Option ℕ) (sent : Sent) (frame : Up) (one : Item) → Deal frame one → is_right (next_stage stage sent.owner frame) ≡ true
+  pub one_next : (rests : List Sent) (stage : Stage) (n : ℕ) (ran : Ran) (next : Option ℕ) (sent : Sent) (frame : Up) (one : Item) → Deal frame one → is_right (next_stage stage sent.owner frame) ≡ true
       → in_row n (if owned_by course.owner sent && is_call frame then sent ∷ filter (is_mine course) rests else filter (is_mine course) rests) ≡ true
       → implies (owned_by course.owner sent && is_call frame) (is_script_frame course sent frame) ≡ true → implies (owned_by course.owner sent) (carries_settings course.request sent.call frame) ≡ true
       → follows_so (if is_begin_frame frame then Some sent else None) rests ≡ true → StandsAt stage n ran next → knows ran ≡ true → Next rests (next_stage stage sent.owner frame) (ran_item ran sent one) (next_behind course next sent one) one
@@ -347,7 +348,7 @@ module _ (course : Course) where
   all_known [] stage n ran next commits begin handled lone right row scripts carry follow stands known = record { known = known; stands = stage_known stage n ran next stands }
   all_known (one ∷ others) stage n ran next commits begin handled lone right row scripts carry follow stands known =
       by (one_next (sents_of others) stage n ran next one.sent one.sent.frame one.served.item (handled_deal now one parts.0) (was_right (moved stage one.sent) (sents_of others) right) row script.0 carried.0 followed stands known)
-      (λ m stands_now row_now known_now. all_known others (moved stage one.sent) m (step ran one) (next_step next one) now (begin_in one.sent) parts.1 (lone_later course one others lone) right row_now script.1 carried.1 followed stands_now known_now)
+      (λ m stands_now row_now known_now. all_known others (moved stage one.sent) m (step ran one) (next_step next one) now (begin_in one.sent) parts.1 (lone_later one others lone) right row_now script.1 carried.1 followed stands_now known_now)
     where
       now : ℕ
       now = counted_with commits one.served.item
@@ -370,4 +371,4 @@ module _ (course : Course) where
           → IsKnown (fold step (step ran one) others) (fold next_step (next_step next one) others)
       by (GoesOn m stands row known) again = again m stands row known
       by (IsDone ends known stands) again =
-          subst (λ (more : List Handled). IsKnown (fold step (step ran one) more) (fold next_step (next_step next one) more)) (sym (none_later course one others lone ends)) (record { known = known; stands = stands })
+          subst (λ (more : List Handled). IsKnown (fold step (step ran one) more) (fold next_step (next_step next one) more)) (sym (none_later one others lone ends)) (record { known = known; stands = stands })

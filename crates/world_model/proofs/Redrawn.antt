@@ -36,8 +36,8 @@ use Rattle.server_model.specs.Redraws.{HasServed, settings_behind}
 use Rattle.server_model.specs.Runs.{Happened, Server, Served as ServedFrame}
 use Rattle.server_model.specs.Seen.{Seen}
 use Rattle.server_model.proofs.Offered.{legal_redraws, marked_stores_none}
-use Rattle.world_model.specs.Basic.{first_is_connect, is_named, lives_rightly, none_behind}
-use Rattle.world_model.specs.BegunWith.{begins_on, leads, settings_at, RunsBeginWith, RunsLead}
+use Rattle.world_model.specs.Basic.{first_is_connect, is_named}
+use Rattle.world_model.specs.Begins.{begins_followed, carries_on, settings_before}
 use Rattle.world_model.specs.Coupled.{Coupled}
 use Rattle.world_model.specs.Frames.{Sent, Handled}
 use Rattle.world_model.specs.Invariant.{Invariant}
@@ -47,7 +47,7 @@ use Rattle.world_model.specs.Parts.{implies}
 use Rattle.world_model.specs.Reached.{Reached}
 use Rattle.world_model.specs.Ready.{all_requests_right}
 use Rattle.world_model.specs.Redrawn.{redraws, one_redraws, redraws_on, repeats_redraw, RepeatsRedraw, WholeRepeatsRedraw}
-use Rattle.world_model.specs.Same.{granted_by, test_at}
+use Rattle.world_model.specs.Same.{granted_by}
 use Rattle.world_model.specs.SameLaws.{RunsServe}
 use Rattle.world_model.specs.Sames.{owned_by}
 use Rattle.world_model.specs.Script.{carries_draws, has_shown_draws}
@@ -57,22 +57,21 @@ use Rattle.world_model.specs.Traced.{Traced, Course, courses_of}
 use Rattle.world_model.specs.Wire.{handled_from, is_right, is_sent_front, stage_of}
 use Rattle.world_model.specs.Words.{held_in}
 use Rattle.world_model.proofs.AllLinks.{at_link}
-use Rattle.world_model.proofs.AllLists.{at_all, weaker_all}
-use Rattle.world_model.proofs.AskedSendings.{unfiltered}
+use Rattle.world_model.proofs.AllLists.{at_all}
 use Rattle.world_model.proofs.DrawsKept.{carries}
-use Rattle.world_model.proofs.NumbersTurn.{by_index}
-use Rattle.world_model.proofs.RanCalls.{follows, follows_alike, is_mine}
+use Rattle.world_model.proofs.RanCalls.{follows}
 use Rattle.world_model.proofs.RunStarts.{finishing_reached, reached_coupled, reached_start}
 use Rattle.world_model.proofs.ServedCalls.{Among, IsCall, all_split, any_split, call_is, contains_split, handled_split, served_at}
 use Rattle.world_model.proofs.ShownFrom.{commit_ends, from_at}
 use Rattle.world_model.proofs.Tests.{eq_from}
 use Rattle.world_model.proofs.ToldSettings.{history_settings, set_told, told_mapped}
-use Rattle.world_model.proofs.ServedSettings.{call_settings}
+use Rattle.world_model.proofs.ServedRows.{InRow, held_so, row_at}
 use Rattle.world_model.proofs.ServedSent.{carries_alike, pass_split, sent_split}
+use Rattle.world_model.proofs.ServedSettings.{call_settings}
 
 -- A RUN -------------------------------------------------------------------------------------------
 
-module _ (keeps : RunsKeepInvariant) (serve : RunsServe) (runs_legal : RunsLegal) (begin : RunsBeginWith) (lead : RunsLead) (document : Document) (events : List Event) (notes : List Note) (items : List Served) (seen : Seen) (t : Traced) (calls : all_requests_right document ≡ true)
+module _ (keeps : RunsKeepInvariant) (serve : RunsServe) (runs_legal : RunsLegal) (document : Document) (events : List Event) (notes : List Note) (items : List Served) (seen : Seen) (t : Traced) (calls : all_requests_right document ≡ true)
     (reached : Reached document events notes items seen t) where
   abbrev whole : Invariant t
   whole = keeps document events notes items seen t calls reached
@@ -109,15 +108,16 @@ module _ (keeps : RunsKeepInvariant) (serve : RunsServe) (runs_legal : RunsLegal
   -- a call of the request that a connection served is in the history, and ran in the settings of its index
   record OfCall (course : Course) (one : Handled) (mark : Bool) (call : Call) (answers : List Answer) (draws : List Draw) : Type 0 where
     kept : List Draw
-    is_known : KnownCall mark kept call answers draws (settings_at course.request one.sent.call)
+    is_known : KnownCall mark kept call answers draws (settings_before course.request one.sent.call)
     frame : one.sent.frame ≡ up.Call mark kept call
 
-  served_call : (course : Course) (current : Bool) (number : ℕ) (link : Link) → link_at t.machine.links number ≡ Some link → is_row course current (calls_on course link) ≡ true → begins_on course link ≡ true
-      → (front : List Handled) (one : Handled) (rest : List Handled) → link.served ≡ front ++ one ∷ rest → owned_by course.owner one.sent ≡ true
+  in_its_row : (course : Course) (current : Bool) (number : ℕ) (link : Link) → link_at t.machine.links number ≡ Some link → is_row course current (calls_on course link) ≡ true → InRow course link.served
+  in_its_row = row_at t whole.orderly
+
+  served_call : (course : Course) (number : ℕ) (link : Link) → link_at t.machine.links number ≡ Some link → InRow course link.served → carries_on course link ≡ true → (front : List Handled) (one : Handled) (rest : List Handled) → link.served ≡ front ++ one ∷ rest → owned_by course.owner one.sent ≡ true
       → (mark : Bool) (call : Call) (answers : List Answer) (draws : List Draw) → one.served.item ≡ item.Call mark call answers draws → OfCall course one mark call answers draws
-  served_call course current number link there row begun front one rest is own mark call answers draws item_is =
-      let all_handled = at_link (λ l. handled_from 0 l.served) t.machine.links number link whole.orderly.wire.handled there in
-      let handled = handled_split 0 front one rest (subst (λ (all : List Handled). handled_from 0 all ≡ true) is all_handled) in
+  served_call course number link there row begun front one rest is own mark call answers draws item_is =
+      let handled = handled_split 0 front one rest (subst (λ (all : List Handled). handled_from 0 all ≡ true) is row.handled) in
       let told : IsCall one mark call answers draws = call_is handled.0 one mark call answers draws item_is handled.1 in
       let its = its_session link (at_link is_named t.machine.links number link whole.orderly.basic.named there) front one rest is in
       let frame : Up = up.Call mark told.kept call in
@@ -132,9 +132,8 @@ module _ (keeps : RunsKeepInvariant) (serve : RunsServe) (runs_legal : RunsLegal
           served = record { before = at.before; session = its.0; now = at.now; next = told.next; behind = at.behind; is = at.is };
           told =
               history_settings its.0 at.before 0 [] ∙ ap (fold set_told []) at.served_before ∙ told_mapped front []
-              ∙ call_settings course current link (at_link is_sent_front t.machine.links number link whole.orderly.wire.sent there) (at_link (λ l. is_right (stage_of l)) t.machine.links number link whole.orderly.wire.grammar there) all_handled
-              (and_parts (none_behind link.served) _ (at_link lives_rightly t.machine.links number link whole.orderly.basic.life there)).0 row
-              (at_link (λ l. leads l.sent) t.machine.links number link (lead document events notes items seen t calls reached) there) begun front one rest is mark told.kept call told.frame own;
+              ∙ call_settings course link (at_link is_sent_front t.machine.links number link whole.orderly.wire.sent there) (at_link (λ l. is_right (stage_of l)) t.machine.links number link whole.orderly.wire.grammar there) row begun
+              (at_link begins_followed t.machine.links number link whole.followed there) front one rest is mark told.kept call told.frame own;
         };
         frame = told.frame;
       }
@@ -142,9 +141,9 @@ module _ (keeps : RunsKeepInvariant) (serve : RunsServe) (runs_legal : RunsLegal
   -- where a shown call was served first, unless a commit was told by its outcome alone
   record FirstTime (course : Course) (index : ℕ) (call : Call) (shown : ShownCall) : Type 0 where
     kept : List Draw
-    is_known : KnownCall false kept call shown.answers shown.draws (settings_at course.request index)
+    is_known : KnownCall false kept call shown.answers shown.draws (settings_before course.request index)
 
-  first_time : (course : Course) → list_all (λ number. option_map_or (λ link. is_row course (is_current course number) (calls_on course link)) (link_at t.machine.links number) false) (held_in course.steps) ≡ true → list_all (begins_on course) t.machine.links ≡ true
+  first_time : (course : Course) → list_all (λ number. option_map_or (λ link. is_row course (is_current course number) (calls_on course link)) (link_at t.machine.links number) false) (held_in course.steps) ≡ true → list_all (carries_on course) t.machine.links ≡ true
       → (index : ℕ) (call : Call) (shown : ShownCall) → is_from (has_completed course) t course index (Some call) shown ≡ true → ends_committed shown.answers ≡ false → FirstTime course index call shown
   first_time course rows begun index call shown from other =
       by (or_cases (list_any (link_shows t course index call shown) (held_in course.steps)) (is_lone_commit call && (shows_commit shown && has_completed course)) from)
@@ -153,16 +152,16 @@ module _ (keeps : RunsKeepInvariant) (serve : RunsServe) (runs_legal : RunsLegal
           → owned_by course.owner among.one.sent ≡ true → among.one.sent.call ≡ index → (i : Item) → among.one.served.item ≡ i → is_shown_item call shown i ≡ true → FirstTime course index call shown
       at_item number link there row among own at (item.Call false served answers draws) item_is is =
           let of =
-          served_call course (is_current course number) number link there row (at_link (begins_on course) t.machine.links number link begun there) among.front among.one among.rest among.is own false served answers draws item_is in
+          served_call course number link there (in_its_row course (is_current course number) number link there row) (at_link (carries_on course) t.machine.links number link begun there) among.front among.one among.rest among.is own false served answers draws item_is in
           let parts = and_parts (same_call served call) (same_answers answers shown.answers && same_draws draws shown.draws) is in
           let more = and_parts (same_answers answers shown.answers) (same_draws draws shown.draws) parts.1 in
           record {
             kept = of.kept;
             is_known =
-                subst (λ (k : ℕ). KnownCall false of.kept call shown.answers shown.draws (settings_at course.request k)) at
-                (subst (λ (c : Call). KnownCall false of.kept c shown.answers shown.draws (settings_at course.request among.one.sent.call)) ((same_call_decides served call).0 parts.0)
-                (subst (λ (a : List Answer). KnownCall false of.kept served a shown.draws (settings_at course.request among.one.sent.call)) ((same_answers_decide answers shown.answers).0 more.0)
-                (subst (λ (d : List Draw). KnownCall false of.kept served answers d (settings_at course.request among.one.sent.call)) ((same_draws_decide draws shown.draws).0 more.1) of.is_known)));
+                subst (λ (k : ℕ). KnownCall false of.kept call shown.answers shown.draws (settings_before course.request k)) at
+                (subst (λ (c : Call). KnownCall false of.kept c shown.answers shown.draws (settings_before course.request among.one.sent.call)) ((same_call_decides served call).0 parts.0)
+                (subst (λ (a : List Answer). KnownCall false of.kept served a shown.draws (settings_before course.request among.one.sent.call)) ((same_answers_decide answers shown.answers).0 more.0)
+                (subst (λ (d : List Draw). KnownCall false of.kept served answers d (settings_before course.request among.one.sent.call)) ((same_draws_decide draws shown.draws).0 more.1) of.is_known)));
           }
       at_item number link there row among own at i item_is is = absurd (let none : ⊥ = cc in none)
 
@@ -195,14 +194,11 @@ module _ (keeps : RunsKeepInvariant) (serve : RunsServe) (runs_legal : RunsLegal
 
   -- ONE CALL --------------------------------------------------------------------------------------
 
-  module _ (course : Course) (rows : list_all (λ number. option_map_or (λ link. is_row course (is_current course number) (calls_on course link)) (link_at t.machine.links number) false) (held_in course.steps) ≡ true) (begun : list_all (begins_on course) t.machine.links ≡ true)
-      (current : Bool) (number : ℕ) (link : Link) (there : link_at t.machine.links number ≡ Some link) (row : is_row course current (calls_on course link) ≡ true) (marks : carries_draws course link ≡ true)
+  module _ (course : Course) (rows : list_all (λ number. option_map_or (λ link. is_row course (is_current course number) (calls_on course link)) (link_at t.machine.links number) false) (held_in course.steps) ≡ true) (begun : list_all (carries_on course) t.machine.links ≡ true)
+      (number : ℕ) (link : Link) (there : link_at t.machine.links number ≡ Some link) (row : InRow course link.served) (marks : carries_draws course link ≡ true)
       (from : all_from (has_completed course) t course 0 course.report.calls ≡ true) where
     abbrev sent : is_sent_front link ≡ true
     sent = at_link is_sent_front t.machine.links number link whole.orderly.wire.sent there
-
-    scripts : list_all (follows course) link.sent ≡ true
-    scripts = unfiltered (λ (s : Sent). is_scripts course s s.frame) (is_mine course) link.sent (and_parts (list_all (λ (s : Sent). is_scripts course s s.frame) (calls_on course link)) _ (and_parts _ _ row).1).0
 
     module _ (front : List Handled) (one : Handled) (rest : List Handled) (is : link.served ≡ front ++ one ∷ rest) (own : owned_by course.owner one.sent ≡ true) (kept : List Draw) (call : Call) (frame : one.sent.frame ≡ up.Call true kept call) where
       -- it is the script's
@@ -212,7 +208,8 @@ module _ (keeps : RunsKeepInvariant) (serve : RunsServe) (runs_legal : RunsLegal
           follow : option_map_or (same_call call) (slice_get course.request.calls one.sent.call) false ≡ true
           follow =
               sym (ap (λ (mine : Bool). implies (mine && true) (option_map_or (same_call call) (slice_get course.request.calls one.sent.call) false)) own)
-              ∙ subst (λ (f : Up). implies (owned_by course.owner one.sent && is_call f) (is_scripts course one.sent f) ≡ true) frame (sent_split (follows course) (follows_alike course) link sent scripts front one rest is)
+              ∙ subst (λ (f : Up). implies (owned_by course.owner one.sent && is_call f) (is_scripts course one.sent f) ≡ true) frame
+              (pass_split (follows course) (map (λ h. h.sent) front) one.sent (map (λ h. h.sent) rest) (subst (λ (all : List Sent). list_all (follows course) all ≡ true) (ap (map (λ (h : Handled). h.sent)) is ∙ map-append (λ (h : Handled). h.sent) front (one ∷ rest)) row.scripts))
 
           by : (found : Option Call) → slice_get course.request.calls one.sent.call ≡ found → option_map_or (same_call call) found false ≡ true → slice_get course.request.calls one.sent.call ≡ Some call
           by None at same = absurd (let none : ⊥ = cc in none)
@@ -230,9 +227,9 @@ module _ (keeps : RunsKeepInvariant) (serve : RunsServe) (runs_legal : RunsLegal
         → (shown : ShownCall) → slice_get course.report.calls one.sent.call ≡ Some shown → same_answers answers shown.answers ≡ true
         → same_draws (filter (granted_by document) draws) (filter (granted_by document) shown.draws) ≡ true
     again_right front one rest is own call answers draws item_is shown at same =
-        let of = served_call course current number link there row (at_link (begins_on course) t.machine.links number link begun there) front one rest is own true call answers draws item_is in
+        let of = served_call course number link there row (at_link (carries_on course) t.machine.links number link begun there) front one rest is own true call answers draws item_is in
         let answers_are : answers ≡ shown.answers = (same_answers_decide answers shown.answers).0 same in
-        let known : NamedValues = settings_at course.request one.sent.call in
+        let known : NamedValues = settings_before course.request one.sent.call in
         let second : KnownCall true shown.draws call shown.answers draws known =
         subst (λ (a : List Answer). KnownCall true shown.draws call a draws known) answers_are
         (subst (λ (k : List Draw). KnownCall true k call answers draws known) (kept_shown front one rest is own of.kept call of.frame shown at) of.is_known) in
@@ -268,32 +265,16 @@ module _ (keeps : RunsKeepInvariant) (serve : RunsServe) (runs_legal : RunsLegal
   -- ALL OF THEM -----------------------------------------------------------------------------------
 
   all_right : repeats_redraw (granted_by document) t ≡ true
-  all_right = by_index (λ course. list_all (test_at t (redraws_on (granted_by document) course)) (held_in course.steps)) (courses_of t) (λ index course at. of_course index course at)
+  all_right = held_so t whole.orderly whole.shown.rows (redraws_on (granted_by document)) of_link
     where
-      of_course : (index : ℕ) (course : Course) → slice_get (courses_of t) index ≡ Some course → list_all (test_at t (redraws_on (granted_by document) course)) (held_in course.steps) ≡ true
-      of_course index course at =
-          weaker_all (λ number. option_map_or (λ link. is_row course (is_current course number) (calls_on course link)) (link_at t.machine.links number) false) (test_at t (redraws_on (granted_by document) course)) (held_in course.steps)
-          (λ number is. on number (link_at t.machine.links number) refl is) rows
-        where
-          rows : list_all (λ number. option_map_or (λ link. is_row course (is_current course number) (calls_on course link)) (link_at t.machine.links number) false) (held_in course.steps) ≡ true
-          rows = at_all (rows_on t) (courses_of t) index course whole.shown.rows at
+      of_link : (index : ℕ) (course : Course) (number : ℕ) (link : Link) → slice_get (courses_of t) index ≡ Some course → link_at t.machine.links number ≡ Some link → InRow course link.served → redraws_on (granted_by document) course link ≡ true
+      of_link index course number link at there row =
+          link_right course (at_all (rows_on t) (courses_of t) index course whole.shown.rows at) (at_all (λ c. list_all (carries_on c) t.machine.links) (courses_of t) index course whole.settings at) number link there row
+          (at_link (carries_draws course) t.machine.links number link (at_all (λ c. list_all (carries_draws c) t.machine.links) (courses_of t) index course whole.orderly.script.marks at) there)
+          (at_all (λ c. all_from (has_completed c) t c 0 c.report.calls) (courses_of t) index course whole.shown.shown at)
 
-          begun : list_all (begins_on course) t.machine.links ≡ true
-          begun = at_all (λ c. list_all (begins_on c) t.machine.links) (courses_of t) index course (begin document events notes items seen t calls reached) at
-
-          marks : list_all (carries_draws course) t.machine.links ≡ true
-          marks = at_all (λ c. list_all (carries_draws c) t.machine.links) (courses_of t) index course whole.orderly.script.marks at
-
-          from : all_from (has_completed course) t course 0 course.report.calls ≡ true
-          from = at_all (λ c. all_from (has_completed c) t c 0 c.report.calls) (courses_of t) index course whole.shown.shown at
-
-          on : (number : ℕ) (found : Option Link) → link_at t.machine.links number ≡ found → option_map_or (λ link. is_row course (is_current course number) (calls_on course link)) found false ≡ true
-              → option_map_or (redraws_on (granted_by document) course) found false ≡ true
-          on number None there row = absurd (let none : ⊥ = cc in none)
-          on number (Some link) there row = link_right course rows begun (is_current course number) number link there row (at_link (carries_draws course) t.machine.links number link marks there) from
-
-pub runs_redraw : RunsKeepInvariant → RunsServe → RunsLegal → RunsBeginWith → RunsLead → RepeatsRedraw
-runs_redraw keeps serve runs_legal begin lead document events notes items seen t calls reached = all_right keeps serve runs_legal begin lead document events notes items seen t calls reached
+pub runs_redraw : RunsKeepInvariant → RunsServe → RunsLegal → RepeatsRedraw
+runs_redraw keeps serve runs_legal document events notes items seen t calls reached = all_right keeps serve runs_legal document events notes items seen t calls reached
 
 pub whole_runs_redraw : RepeatsRedraw → WholeRepeatsRedraw
 whole_runs_redraw redraw document notes items seen t calls run = let so = finishing_reached document run.place notes items seen t run.finishing in redraw document so.0 notes items seen t calls so.1

@@ -29,7 +29,7 @@ use Rattle.world_model.specs.Wire.{is_sent_front, is_alter, Stage, New, Greeted,
 use Rattle.world_model.specs.Words.{held_in}
 use Rattle.world_model.proofs.AllLinks.{at_link, front_is}
 use Rattle.world_model.proofs.AllLists.{append_all, one_all, weaker_all}
-use Rattle.world_model.proofs.AskedNear.{any_all, first_all, owned_at, owners_are, right_before, stages}
+use Rattle.world_model.proofs.AskedNear.{any_all, first_all, owned_at, owners_are, right_before, stages, no_owner}
 use Rattle.world_model.proofs.Happened.{Followed, follow_happens, at_event}
 use Rattle.world_model.proofs.LostKept.{both_all}
 use Rattle.world_model.proofs.NumbersTurn.{by_number}
@@ -48,10 +48,11 @@ marked_owned owner _ = true
 abbrev has_owner : Sent → Bool
 has_owner sent = marked_owned sent.owner sent.frame
 
-abbrev owned_stage : Stage → Bool
+abbrev pub owned_stage : Stage → Bool
 owned_stage (Greeted one) = is_some one
 owned_stage (Told one) = is_some one
 owned_stage (Repeated one) = is_some one
+owned_stage (Begun one) = is_some one
 owned_stage _ = true
 
 pub some_by : (a b : Option Owner) → is_some a ≡ true → same_owners a b ≡ true → is_some b ≡ true
@@ -77,23 +78,23 @@ step_marked Shut owner (up.Call true kept call) owned right = absurd (let none :
 step_marked Wrong owner (up.Call true kept call) owned right = absurd (let none : ⊥ = cc in none)
 step_marked stage owner frame owned right = refl
 
-step_owned : (stage : Stage) (owner : Option Owner) (frame : Up) → owned_stage stage ≡ true → owned_stage (next_stage stage owner frame) ≡ true
+pub step_owned : (stage : Stage) (owner : Option Owner) (frame : Up) → owned_stage stage ≡ true → owned_stage (next_stage stage owner frame) ≡ true
 step_owned New owner up.Connect owned = if_owned (is_some owner) (Greeted owner) (λ some. some)
 step_owned (Greeted one) owner (up.Outcome x) owned = if_owned (same_owners one owner) (Told owner) (some_by one owner owned)
-step_owned (Greeted one) owner (up.Begin settings) owned = if_owned (same_owners one owner) (Begun owner) (λ same. refl)
+step_owned (Greeted one) owner (up.Begin settings) owned = if_owned (same_owners one owner) (Begun owner) (some_by one owner owned)
 step_owned (Greeted one) owner up.Close owned = if_owned (same_owners one owner) Shut (λ same. refl)
 step_owned (Told one) owner (up.Begin settings) owned = if_owned (same_owners one owner) (Repeated owner) (some_by one owner owned)
 step_owned (Told one) owner up.End owned = if_owned (same_owners one owner) (Rested owner) (λ same. refl)
 step_owned (Told one) owner up.Close owned = if_owned (same_owners one owner) Shut (λ same. refl)
 step_owned (Repeated one) owner (up.Call true kept call) owned =
     if_owned (same_owners one owner && not (is_alter call)) (Repeated owner) (λ both. some_by one owner owned (and_parts (same_owners one owner) (not (is_alter call)) both).0)
-step_owned (Repeated one) owner (up.Call false kept call) owned = if_owned (same_owners one owner) (Begun owner) (λ same. refl)
+step_owned (Repeated one) owner (up.Call false kept call) owned = if_owned (same_owners one owner) (Begun owner) (some_by one owner owned)
 step_owned (Repeated one) owner up.End owned = if_owned (same_owners one owner) (Rested owner) (λ same. refl)
 step_owned (Repeated one) owner up.Close owned = if_owned (same_owners one owner) Shut (λ same. refl)
-step_owned (Begun one) owner (up.Call false kept call) owned = if_owned (same_owners one owner) (Begun owner) (λ same. refl)
+step_owned (Begun one) owner (up.Call false kept call) owned = if_owned (same_owners one owner) (Begun owner) (some_by one owner owned)
 step_owned (Begun one) owner up.End owned = if_owned (same_owners one owner) (Rested owner) (λ same. refl)
 step_owned (Begun one) owner up.Close owned = if_owned (same_owners one owner) Shut (λ same. refl)
-step_owned (Rested one) owner (up.Begin settings) owned = if_owned (is_some owner && not (same_owners one owner)) (Begun owner) (λ same. refl)
+step_owned (Rested one) owner (up.Begin settings) owned = if_owned (is_some owner && not (same_owners one owner)) (Begun owner) (λ both. (and_parts (is_some owner) (not (same_owners one owner)) both).0)
 step_owned (Rested one) owner up.Close owned = if_owned (is_none owner || same_owners one owner) Shut (λ same. refl)
 step_owned stage owner frame owned = refl
 
@@ -164,10 +165,6 @@ record WasGiven (links : List Link) (sent : Sent) (kept : List Draw) : Type 0 wh
   owner : Owner
   is : sent.owner ≡ Some owner
   given : (is_nothing kept || any_served (gives_to owner sent.call kept) links) ≡ true
-
-no_owner : (owner : Option Owner) → owner ≡ None → is_some owner ≡ true → ⊥
-no_owner None is some = let none : ⊥ = cc in none
-no_owner (Some one) is some = let none : ⊥ = cc in none
 
 module _ (old : Traced) (inv : Orderly old) (given : are_given old ≡ true) (number : ℕ) (front : Front) (at : front_at old.machine.links number ≡ Some front) (kept : List Draw) (called : Call) (frame : front.first.frame ≡ up.Call true kept called) where
   there : link_at old.machine.links number ≡ Some front.link

@@ -1,9 +1,9 @@
 -- The reply that a request takes answers what was sent last, and says what the item of that frame does.
 use Rattle.std.proofs.Common.{◌≡◌, refl, sym, ap, subst, ◌∙◌, Bool, true, false, ℕ, ◌+◌, ◌≤◌, ◌&&◌, ◌||◌, filter, length, length-append, List, [], ◌∷◌, ◌++◌, map, Option, Some, None, ◌⊎◌, inl, inr, if◌then◌else◌, arith}
-use Rattle.std.specs.Prelude.{nat_le, is_none, option_map}
+use Rattle.std.specs.Prelude.{◌==◌, nat_le, is_none, option_map}
 use Rattle.std.specs.List.{list_any, last_or}
 use Rattle.std.specs.Option.{option_map_or}
-use Rattle.std.proofs.lemmas.Bool.{and_parts, and_from, or_right}
+use Rattle.std.proofs.lemmas.Bool.{and_parts, and_from, or_right, or_left}
 use Rattle.std.proofs.lemmas.List.Sums.{length-filter}
 use Rattle.svc_values.specs.declared.answer.Answer.{Answer}
 use Rattle.svc_values.specs.declared.call.Call.{Call}
@@ -15,25 +15,25 @@ use Rattle.svc_values.specs.declared.frame.Up.TheVariants as up
 use Rattle.svc_values.specs.declared.frame.Down.{Down}
 use Rattle.svc_values.specs.declared.frame.Down.TheVariants as down
 use Rattle.svc_values.specs.Endings.{ends_committed}
-use Rattle.svc_values.specs.Same.{same_answers, same_call, same_draws}
-use Rattle.svc_values.specs.SameLaws.{same_answers_decide, same_draws_decide, same_call_decides}
+use Rattle.svc_values.specs.Same.{same_answers, same_bool, same_call, same_draws}
+use Rattle.svc_values.specs.SameLaws.{same_answers_decide, same_bool_decides, same_draws_decide, same_call_decides}
 use Rattle.outage_schedule.specs.declared.item.Item.{Item}
 use Rattle.outage_schedule.specs.declared.item.Item.TheVariants as item
 use Rattle.world_model.specs.Crashing.{is_crashed_item}
 use Rattle.world_model.specs.Frames.{Sent, Reply, Handled}
+use Rattle.world_model.specs.Hold.{is_call as is_awaited_call}
 use Rattle.world_model.specs.Links.{Link}
 use Rattle.world_model.specs.Parts.{is_rep, count_reps, served_reps}
 use Rattle.world_model.specs.Sames.{same_up, same_down, same_sent, same_reply, is_front}
 use Rattle.world_model.specs.Serving.{is_item_of, is_commit, reply_of}
 use Rattle.world_model.specs.Shown.{is_shown_item}
 use Rattle.world_model.specs.Wire.{up_of, replies_of, same_replies}
-use Rattle.world_model.proofs.CoursesGrow.{or_left}
 use Rattle.world_model.proofs.FrontLists.{front_filter, front_begun, last_kept, last_alike}
 use Rattle.world_model.proofs.LinkCounts.{Known, IsLast, taken_last, last_was}
 use Rattle.world_model.proofs.LinkNumbers.{rep_of}
 use Rattle.world_model.proofs.LinkOrder.{same_reps}
 use Rattle.world_model.proofs.ServedNear.{few_replies, front_long, reps_sent}
-use Rattle.world_model.proofs.Tests.{le_from}
+use Rattle.world_model.proofs.Tests.{le_from, none_first}
 
 abbrev frame_of : Handled → Sent
 frame_of one = one.sent
@@ -64,9 +64,6 @@ last_among test found (first ∷ others) one is here = by (rep_of first) is (λ 
         → (last_or found (filter rep_of others) ≡ Some one → (found ≡ Some one) ⊎ (list_any test others ≡ true)) → (found ≡ Some one) ⊎ (list_any test (first ∷ others) ≡ true)
     by true is with_it without = inr (later (with_it is))
     by false is with_it without = still (without is)
-
-none_first : {A B : Type 0} (y : A) → None ≡ Some y → B
-none_first y is = absurd (let no : ⊥ = cc in no)
 
 module _ (link : Link) (known : Known link) (reply : Reply) (later : List Reply) (down : link.down ≡ reply ∷ later) (last : Sent) (is : last_or None link.sent ≡ Some last) (rep : is_rep last ≡ true) where
   pub answering : IsLast link reply
@@ -136,39 +133,30 @@ said_by link known reply it =
     (either_so (is_item_of it.one.sent.frame it.one.served.item && same_replies (Some it.frame) (reply_of it.one.served.session was.0 it.one.served.item)) (is_crashed_item it.one.sent.frame it.one.served.item) handled) in
     record { session = it.one.served.session; commits = was.0; is = parts.0; replies = parts.1 }
 
+-- what was said is the reply that was taken
+replied_as : (answers a : List Answer) (draws d : List Draw) (x y : Ltxid) (said : Down) → same_down (down.Reply answers draws x) said ≡ true → same_replies (Some said) (Some (down.Reply a d y)) ≡ true → (a ≡ answers) × (d ≡ draws)
+replied_as answers a draws d x y (down.Reply b e z) same replies =
+    let one = and_parts (same_answers answers b) _ same in
+    let two = and_parts (same_draws draws e) _ one.1 in
+    let three = and_parts (same_answers b a) _ replies in
+    let four = and_parts (same_draws e d) _ three.1 in
+    (sym ((same_answers_decide answers b).0 one.0 ∙ (same_answers_decide b a).0 three.0), sym ((same_draws_decide draws e).0 two.0 ∙ (same_draws_decide e d).0 four.0))
+replied_as answers a draws d x y said same replies = absurd (let none : ⊥ = cc in none)
+
+blocked_not : {A : Type 0} (answers : List Answer) (draws : List Draw) (x : Ltxid) (said : Down) → same_down (down.Reply answers draws x) said ≡ true → same_replies (Some said) (Some down.Blocked) ≡ true → A
+blocked_not answers draws x (down.Reply b e y) same replies = absurd (let none : ⊥ = cc in none)
+blocked_not answers draws x said same replies = absurd (let none : ⊥ = cc in none)
+
 -- to a call without the mark
 module _ (answers : List Answer) (draws : List Draw) (ltxid : Ltxid) (kept : List Draw) (call : Call) where
-  reply_says : (served : Call) (a : List Answer) (d : List Draw) (session : SessionId) (commits : ℕ) (said : Down) → same_call served call ≡ true → same_down (down.Reply answers draws ltxid) said ≡ true
-      → same_replies (Some said) (reply_of session commits (item.Call false served a d)) ≡ true → is_shown_item call (record { answers = answers; draws = draws; ltxid = ltxid }) (item.Call false served a d) ≡ true
-  reply_says served a d session commits (down.Reply b e y) calls same replies =
-      let one = and_parts (same_answers answers b) _ same in
-      let two = and_parts (same_draws draws e) _ one.1 in
-      let three = and_parts (same_answers b a) _ replies in
-      let four = and_parts (same_draws e d) _ three.1 in
-      let answers_are : a ≡ answers = sym ((same_answers_decide answers b).0 one.0 ∙ (same_answers_decide b a).0 three.0) in
-      let draws_are : d ≡ draws = sym ((same_draws_decide draws e).0 two.0 ∙ (same_draws_decide e d).0 four.0) in
-      and_from (same_call served call) (same_answers a answers && same_draws d draws) calls
-      (and_from (same_answers a answers) (same_draws d draws) ((same_answers_decide a answers).1 answers_are) ((same_draws_decide d draws).1 draws_are))
-  reply_says served a d session commits (down.Hello y) calls same replies = absurd (let none : ⊥ = cc in none)
-  reply_says served a d session commits (down.OutcomeIs x y) calls same replies = absurd (let none : ⊥ = cc in none)
-  reply_says served a d session commits (down.OutcomeRefused x y) calls same replies = absurd (let none : ⊥ = cc in none)
-  reply_says served a d session commits down.Blocked calls same replies = absurd (let none : ⊥ = cc in none)
-  reply_says served a d session commits (down.Refused x) calls same replies = absurd (let none : ⊥ = cc in none)
-
-  blocked_not : {A : Type 0} (said : Down) → same_down (down.Reply answers draws ltxid) said ≡ true → same_replies (Some said) (Some down.Blocked) ≡ true → A
-  blocked_not (down.Reply b e y) same replies = absurd (let none : ⊥ = cc in none)
-  blocked_not (down.Hello y) same replies = absurd (let none : ⊥ = cc in none)
-  blocked_not (down.OutcomeIs x y) same replies = absurd (let none : ⊥ = cc in none)
-  blocked_not (down.OutcomeRefused x y) same replies = absurd (let none : ⊥ = cc in none)
-  blocked_not down.Blocked same replies = absurd (let none : ⊥ = cc in none)
-  blocked_not (down.Refused x) same replies = absurd (let none : ⊥ = cc in none)
-
   pub call_says : (frame : Up) (one : Item) (said : Down) → same_up frame (up.Call false kept call) ≡ true → IsSaidBy frame one said → same_down (down.Reply answers draws ltxid) said ≡ true
       → is_shown_item call (record { answers = answers; draws = draws; ltxid = ltxid }) one ≡ true
   call_says (up.Call false k c) (item.Call false served a d) said sent by same =
       let calls : c ≡ call = (same_call_decides c call).0 (and_parts (same_draws k kept) (same_call c call) sent).1 in
-      reply_says served a d by.session by.commits said (subst (λ (x : Call). same_call served x ≡ true) calls by.is) same by.replies
-  call_says (up.Call false k c) (item.Blocked served) said sent by same = blocked_not said same by.replies
+      let are = replied_as answers a draws d ltxid _ said same by.replies in
+      and_from (same_call served call) (same_answers a answers && same_draws d draws) (subst (λ (x : Call). same_call served x ≡ true) calls by.is)
+      (and_from (same_answers a answers) (same_draws d draws) ((same_answers_decide a answers).1 are.0) ((same_draws_decide d draws).1 are.1))
+  call_says (up.Call false k c) (item.Blocked served) said sent by same = blocked_not answers draws ltxid said same by.replies
   call_says (up.Call false k c) (item.Call true served a d) said sent by same = absurd (let e : false ≡ true = by.is in let none : ⊥ = cc in none)
   call_says (up.Call false k c) (item.Refused x) said sent by same = absurd (let e : false ≡ true = by.is in let none : ⊥ = cc in none)
   call_says (up.Call false k c) item.Connect said sent by same = absurd (let e : false ≡ true = by.is in let none : ⊥ = cc in none)
@@ -193,3 +181,33 @@ commit_says answers draws ltxid frame (item.Call marked call a d) (down.Reply b 
     ap ends_committed ((same_answers_decide answers b).0 one.0 ∙ (same_answers_decide b a).0 two.0) ∙ commit
 commit_says answers draws ltxid frame (item.Call marked call a d) said by same commit = absurd (let none : ⊥ = cc in none)
 commit_says answers draws ltxid frame one said by same commit = absurd (let none : ⊥ = cc in none)
+
+-- OF EITHER MARK ----------------------------------------------------------------------------------
+
+-- the item is a call of this mark, with what the reply says
+pub record SaysCall (mark : Bool) (answers : List Answer) (draws : List Draw) (one : Item) : Type 0 where
+  pub call : Call
+  pub is : one ≡ item.Call mark call answers draws
+
+abbrev has_mark : Bool → Up → Bool
+has_mark mark (up.Call replay kept call) = same_bool mark replay
+has_mark mark _ = false
+
+pub says_call : (mark : Bool) (answers : List Answer) (draws : List Draw) (x : Ltxid) (frame : Up) (one : Item) (said : Down) → has_mark mark frame ≡ true → IsSaidBy frame one said → same_down (down.Reply answers draws x) said ≡ true → SaysCall mark answers draws one
+says_call mark answers draws x (up.Call replay kept call) (item.Call marked served a d) said of by same =
+    let mark_is : marked ≡ mark = (same_bool_decides marked replay).0 (and_parts (same_bool marked replay) (same_call served call) by.is).0 ∙ sym ((same_bool_decides mark replay).0 of) in
+    let are = replied_as answers a draws d x _ said same by.replies in
+    record { call = served; is = λ i. item.Call (mark_is i) served (are.0 i) (are.1 i) }
+says_call mark answers draws x (up.Call replay kept call) (item.Blocked served) said of by same = blocked_not answers draws x said same by.replies
+says_call mark answers draws x (up.Call replay kept call) one said of by same = absurd (let e : is_item_of (up.Call replay kept call) one ≡ true = by.is in let none : ⊥ = cc in none)
+says_call mark answers draws x frame one said of by same = absurd (let none : ⊥ = cc in none)
+
+pub mark_alike : (mark : Bool) (a b : Up) → same_up a b ≡ true → has_mark mark b ≡ true → has_mark mark a ≡ true
+mark_alike mark (up.Call r k c) (up.Call s l d) same is =
+    let mark_is : r ≡ s = (same_bool_decides r s).0 (and_parts (same_bool r s) (same_draws k l && same_call c d) same).0 in subst (λ (m : Bool). same_bool mark m ≡ true) (sym mark_is) is
+mark_alike mark a (up.Call s l d) same is = absurd (let none : ⊥ = cc in none)
+mark_alike mark a b same is = absurd (let none : ⊥ = cc in none)
+
+pub awaited_mark : (mark : Bool) (index : ℕ) (sent : Sent) (frame : Up) → is_awaited_call mark index sent frame ≡ true → has_mark mark frame ≡ true
+awaited_mark mark index sent (up.Call replay kept call) is = (and_parts (same_bool mark replay) (sent.call == index) is).0
+awaited_mark mark index sent frame is = absurd (let none : ⊥ = cc in none)

@@ -21,7 +21,8 @@ use Rattle.world_model.specs.Acting.{steps, loses}
 use Rattle.world_model.specs.Noting.{same_did}
 use Rattle.client_model.specs.declared.input.Input.TheVariants.{Waiting, Lent, TryFailed}
 use Rattle.world_model.specs.Going.{unless_open}
-use Rattle.world_model.proofs.Moves.{IsDoing, with_pool, Tries, FromQueue, Again, IsOn, opens_one, takes_one}
+use Rattle.world_model.proofs.Moves as moves
+use Rattle.world_model.proofs.Moves.{IsDoing, with_pool, Tries, FromQueue, Again, Goes, IsOn, opens_one, takes_one}
 
 pub data Going (setting : Setting) (m : Machine) (number : ℕ) : Machine → Type 0 where
   -- no request is left
@@ -117,3 +118,15 @@ client_goes setting m number did (Some client) here n e = doing_goes setting m n
 
 pub going_by : (setting : Setting) (m : Machine) (number : ℕ) (did : GoNote) (n : Machine) → follow_go setting m number did ≡ Some n → Going setting m number n
 going_by setting m number did n e = client_goes setting m number did (client_at m.clients number) refl n e
+
+-- so it does what is told of its steps
+pub goes_of : (setting : Setting) (m : Machine) (number : ℕ) (n : Machine) → Going setting m number n → Goes setting m number n
+goes_of setting m number _ (IsFinished client here none) = moves.Rests
+goes_of setting m number _ (IsEarly doing is) = moves.Rests
+goes_of setting m number _ (NoneCame doing connection link is on none opens) = moves.Rests
+goes_of setting m number _ (Waits doing is answer) = moves.Waits doing is answer
+goes_of setting m number _ (Lends doing connection link ltxid is answer there held) = moves.Lends doing connection link ltxid is answer there held
+goes_of setting m number _ (Opens doing wanted pool is tries up) = moves.Opens doing wanted pool is tries up
+goes_of setting m number _ (Fails doing wanted pool is tries down) = moves.Fails doing wanted pool is tries down
+goes_of setting m number _ (Takes doing connection link reply left is on down) = moves.Takes doing connection link reply left is on down
+goes_of setting m number _ (Loses doing connection link is on none shut) = moves.Loses doing connection link is on none shut

@@ -1,10 +1,11 @@
 -- At the end of a run each client is finished: all its requests are over, and their reports are what it was shown.
-use Rattle.std.proofs.Common.{◌≡◌, refl, ap, subst, ◌∙◌, Bool, true, false, ℕ, suc, zero, ◌+◌, ◌<◌, ◌||◌, List, [], ◌∷◌, ◌++◌, filter, flat_map, map, Option, Some, None, if◌then◌else◌, arith}
+use Rattle.std.proofs.Common.{◌≡◌, refl, ap, subst, ◌∙◌, Bool, true, false, ℕ, suc, zero, ◌+◌, ◌<◌, List, [], ◌∷◌, ◌++◌, filter, flat_map, map, Option, Some, None, if◌then◌else◌, arith}
 use Rattle.std.specs.Prelude.{◌==◌, slice_get, is_some}
 use Rattle.std.specs.List.{list_all, list_any}
 use Rattle.std.specs.Option.{option_map_or}
 use Rattle.std.proofs.lemmas.List.{map-append, append-nil}
 use Rattle.std.proofs.lemmas.List.Elements.{filter-append}
+use Rattle.std.proofs.lemmas.Bool.{or_parts}
 use Rattle.outage_schedule.specs.declared.event.Event.TheVariants as event
 use Rattle.outage_schedule.specs.declared.request.RequestReport.{RequestReport}
 use Rattle.world_model.specs.Clients.{Client, Doing, Past, is_unfinished, reports_of}
@@ -64,13 +65,9 @@ all_finished m AtLinks over = absurd (serves_on m over)
 
 -- FINISHED CLIENTS --------------------------------------------------------------------------------
 
-neither : (a b : Bool) → (a || b) ≡ false → (a ≡ false) × (b ≡ false)
-neither true b is = absurd (let none : ⊥ = cc in none)
-neither false b is = (refl, is)
-
 -- no request is in course
 none_now : (client : Client) → is_unfinished client ≡ false → is_some client.now ≡ false
-none_now client is = (neither (is_some client.now) (is_some client.next) is).0
+none_now client is = (or_parts (is_some client.now) (is_some client.next) is).0
 
 module _ (setting : Setting) where
   over_from : (number place : ℕ) (past : List Past) (now : Option Doing) → is_some now ≡ false → list_all (λ course. course.is_over) (courses_from setting number place past now) ≡ true
@@ -86,7 +83,7 @@ module _ (setting : Setting) where
   pub all_over : (number : ℕ) (clients : List Client) → list_any is_unfinished clients ≡ false → list_all (λ course. course.is_over) (courses_of_clients setting number clients) ≡ true
   all_over number [] none = refl
   all_over number (client ∷ clients) none =
-      let parts = neither (is_unfinished client) (list_any is_unfinished clients) none in
+      let parts = or_parts (is_unfinished client) (list_any is_unfinished clients) none in
       append_all (λ (course : Course). course.is_over) (courses_from setting number 0 client.past client.now) (courses_of_clients setting (number + 1) clients)
       (over_from number 0 client.past client.now (none_now client parts.0)) (all_over (number + 1) clients parts.1)
 
@@ -95,7 +92,7 @@ module _ (setting : Setting) where
       → map (λ (course : Course). course.report) (courses_of_clients setting number clients) ≡ flat_map (λ transcript. transcript) (map (λ (client : Client). reports_of client.past) clients)
   all_reports number [] none = refl
   all_reports number (client ∷ clients) none =
-      let parts = neither (is_unfinished client) (list_any is_unfinished clients) none in
+      let parts = or_parts (is_unfinished client) (list_any is_unfinished clients) none in
       map-append (λ (course : Course). course.report) (courses_from setting number 0 client.past client.now) (courses_of_clients setting (number + 1) clients)
       ∙ (ap (λ (front : List RequestReport). front ++ map (λ (course : Course). course.report) (courses_of_clients setting (number + 1) clients)) (reports_from number 0 client.past client.now (none_now client parts.0))
       ∙ ap (λ (rest : List RequestReport). reports_of client.past ++ rest) (all_reports (number + 1) clients parts.1))
@@ -146,11 +143,11 @@ module _ (setting : Setting) where
       ap (map (λ (course : Course). course.report))
       (filter-append (is_its other) front rest ∙ (ap (λ (list : List Course). list ++ filter (is_its other) rest) kept
       ∙ (ap (λ (list : List Course). front ++ list) (later_none other (number + 1) clients (omega (arith, is))) ∙ append-nil front)))
-      ∙ (reports_from number 0 first.past first.now (none_now first (neither (is_unfinished first) (list_any is_unfinished clients) none).0) ∙ ap (λ (one : Client). reports_of one.past) here)
+      ∙ (reports_from number 0 first.past first.now (none_now first (or_parts (is_unfinished first) (list_any is_unfinished clients) none).0) ∙ ap (λ (one : Client). reports_of one.past) here)
   own_reports other number (first ∷ clients) (suc index) client none at same =
       let front : List Course = courses_from setting number 0 first.past first.now in
       let rest : List Course = courses_of_clients setting (number + 1) clients in
       let below : number < other = omega (arith, same) in
       ap (map (λ (course : Course). course.report))
       (filter-append (is_its other) front rest ∙ ap (λ (list : List Course). list ++ filter (is_its other) rest) (others_from other number 0 first.past first.now (ne_to number other below)))
-      ∙ own_reports other (number + 1) clients index client (neither (is_unfinished first) (list_any is_unfinished clients) none).1 at (omega (arith, same))
+      ∙ own_reports other (number + 1) clients index client (or_parts (is_unfinished first) (list_any is_unfinished clients) none).1 at (omega (arith, same))

@@ -3,15 +3,13 @@ use Rattle.std.proofs.Common.{◌≡◌, refl, sym, ap, subst, ◌∙◌, append
 use Rattle.std.specs.Prelude.{is_none, option_and_then}
 use Rattle.std.proofs.lemmas.Bool.{and_from}
 use Rattle.std.specs.Cmp.Lexicographic.{pointwise}
-use Rattle.svc_values.specs.Same.{same_bool}
 use Rattle.outage_schedule.specs.declared.document.Document.{Document}
 use Rattle.outage_schedule.specs.declared.event.Event.{Event}
 use Rattle.outage_schedule.specs.declared.item.Served.{Served}
 use Rattle.outage_schedule.specs.declared.note.Note.{Note}
-use Rattle.outage_schedule.specs.declared.request.Outcome.{Outcome}
 use Rattle.outage_schedule.specs.declared.request.RequestReport.{RequestReport}
 use Rattle.server_model.specs.Seen.{Seen}
-use Rattle.svc_values.specs.Identifiers.{same_ltxid, same_session}
+use Rattle.svc_values.specs.Identifiers.{same_session}
 use Rattle.world_model.specs.Finishing.{Place, AtServer, Finished, walk_finish}
 use Rattle.world_model.specs.Followed.{run_of, transcripts_of, same_outcome, tells_steps, ends_so}
 use Rattle.world_model.specs.KeptLaws.{OrderlyIsKept}
@@ -22,7 +20,8 @@ use Rattle.world_model.specs.Settings.{Setting, setting_of}
 use Rattle.world_model.specs.Traced.{Traced}
 use Rattle.world_model.specs.Walking.{Walked, follow, walk}
 use Rattle.world_model.proofs.Items.{walk_more, finish_step}
-use Rattle.world_model.proofs.SameSelf.{each_self, bool_self, ltxid_self}
+use Rattle.world_model.proofs.SameSelf.{each_self}
+use Rattle.world_model.proofs.TalkTests.{outcome_self}
 use Rattle.world_model.proofs.Tests.{session_self}
 
 -- THE SCHEDULE ------------------------------------------------------------------------------------
@@ -63,11 +62,6 @@ finishing_walk document _ _ _ _ _ (Finishes place later notes items more before 
     (subst (λ (setting : Setting). follow setting old.machine event note more ≡ Some (new.machine, [])) (finishing_setting document place notes items before old finishing) one.follows)
 
 -- THE REPORT --------------------------------------------------------------------------------------
-
-outcome_self : (outcome : Outcome) → same_outcome outcome outcome ≡ true
-outcome_self outcome =
-    and_from (same_ltxid outcome.ltxid outcome.ltxid) _ (ltxid_self outcome.ltxid)
-    (and_from (same_bool outcome.committed outcome.committed) (same_bool outcome.completed outcome.completed) (bool_self outcome.committed) (bool_self outcome.completed))
 
 report_self : (report : RequestReport) → tells_steps report report ≡ true
 report_self report =

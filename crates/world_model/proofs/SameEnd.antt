@@ -1,6 +1,6 @@
 -- What holds of each request that is over, with the journal at the end of a run, holds of the request's report in the run's own: the lines of Same.
-use Rattle.std.proofs.Common.{◌≡◌, refl, sym, ap, subst, ◌∙◌, Bool, true, false, ℕ, suc, zero, ◌+◌, append_assoc, drop, length, map, take, List, [], ◌∷◌, ◌++◌, Option, Some}
-use Rattle.std.specs.Prelude.{get_or, slice_get}
+use Rattle.std.proofs.Common.{◌≡◌, refl, sym, ap, subst, ◌∙◌, Bool, true, false, ℕ, suc, ◌+◌, append_assoc, drop, length, map, take, List, [], ◌∷◌, ◌++◌, Option, Some}
+use Rattle.std.specs.Prelude.{slice_get}
 use Rattle.std.specs.List.{list_all}
 use Rattle.std.proofs.lemmas.Bool.{and_parts, and_from}
 use Rattle.std.proofs.lemmas.List.{append-nil}
@@ -33,6 +33,7 @@ use Rattle.world_model.specs.Settings.{Setting, setting_of}
 use Rattle.world_model.specs.Traced.{Traced, Course, courses_from, courses_of_clients}
 use Rattle.world_model.proofs.AllLists.{weaker_all}
 use Rattle.world_model.proofs.CopiesOf.{one_copy}
+use Rattle.world_model.proofs.OnceEnd.{script_is}
 use Rattle.world_model.proofs.RunStarts.{finishing_coupled, finishing_reached}
 use Rattle.world_model.proofs.RunsFollowed.{finishing_setting}
 use Rattle.world_model.proofs.ScriptsExact.{AreScripts, runs_scripted}
@@ -112,11 +113,6 @@ module _ (test : Request → RequestReport → Bool) where
       (by_client setting scripts clients (number + 1) (λ index one other is at. are (suc index) one other is at) parts.1)
 
 -- THE REPORT --------------------------------------------------------------------------------------
-
-pub script_is : (clients : List Scripted) (index : ℕ) (client : Scripted) → slice_get clients index ≡ Some client → get_or (map (λ (one : Scripted). one.requests) clients) index [] ≡ client.requests
-script_is [] index client at = absurd (let none : ⊥ = cc in none)
-script_is (first ∷ clients) zero client at = let same : first ≡ client = cc in ap (λ (one : Scripted). one.requests) same
-script_is (first ∷ clients) (suc index) client at = script_is clients index client at
 
 module _ (document : Document) (report : Report) (seen : Seen) (t : Traced) (server : Server) (is : IsReported document report seen t server) where
   abbrev image : List Entry

@@ -24,6 +24,7 @@ use Rattle.world_model.specs.Once.{shows_at}
 use Rattle.world_model.specs.Same.{agree_from, agrees, begins_at, calls_of}
 use Rattle.world_model.proofs.EndedCalls.{committed_ends, shows_weaker}
 use Rattle.world_model.proofs.NotedParts.{some_part}
+use Rattle.world_model.proofs.SettingsOn.{take_on}
 use Rattle.world_model.proofs.ShownTxns.{Begins, Cut, EndedPart, LastPart, all_go_on, begins_in, begins_next, cut, end_place, got_behind, never_ends}
 use Rattle.world_model.proofs.Tests.{le_from, lt_from}
 
@@ -36,12 +37,6 @@ kept_all test keep (x ∷ xs) each = by (keep x) refl (kept_all test keep xs (λ
     by : (kept : Bool) → keep x ≡ kept → list_all test (filter keep xs) ≡ true → list_all test (if kept then x ∷ filter keep xs else filter keep xs) ≡ true
     by true is rest = and_from (test x) (list_all test (filter keep xs)) (each 0 x refl is) rest
     by false is rest = rest
-
-take_two : (a b : ℕ) (xs : List Call) → take (a + b) xs ≡ take a xs ++ take b (drop a xs)
-take_two zero b xs = let same : zero + b ≡ b = omega arith in ap (λ (n : ℕ). take n xs) same
-take_two (suc a) zero [] = let same : suc a + zero ≡ suc a = omega arith in ap (λ (n : ℕ). take n []) same
-take_two (suc a) (suc b) [] = let same : suc a + suc b ≡ suc (a + suc b) = omega arith in ap (λ (n : ℕ). take n []) same
-take_two (suc a) b (x ∷ xs) = let same : suc a + b ≡ suc (a + b) = omega arith in ap (λ (n : ℕ). take n (x ∷ xs)) same ∙ ap (λ (ys : List Call). x ∷ ys) (take_two a b xs)
 
 calls_long : (first n : ℕ) (xs : List Call) → first + n ≤ length xs → length (take n (drop first xs)) ≡ n
 calls_long zero zero xs most = refl
@@ -224,7 +219,7 @@ module _ (granted : Draw → Bool) (entries : List Entry) (start : NamedValues) 
     last_two first part next (another ∷ others) = refl
 
     settings_further : (first n : ℕ) → with_sets (settings_at first) (take n (drop first script)) ≡ settings_at (first + n)
-    settings_further first n = sym (ap (with_sets start) (take_two first n script) ∙ fold-append with_set start (take first script) (take n (drop first script)))
+    settings_further first n = sym (ap (with_sets start) (take_on first n script) ∙ fold-append with_set start (take first script) (take n (drop first script)))
 
     walk : (parts : List (List ShownCall)) (before rest : List ShownCall) → shown ≡ before ++ rest → Begins before → txns rest ≡ parts → last_or None lists ≡ last_or None (tried_from (length before) parts told)
         → same_from (length before) (settings_at (length before)) (drop (length before) script) parts ≡ true

@@ -101,7 +101,7 @@ up_self up.Close = refl
 pub owner_self : (one : Owner) → same_owner one one ≡ true
 owner_self one = and_from (one.client == one.client) (one.place == one.place) (number_self one.client) (number_self one.place)
 
-owners_self : (one : Option Owner) → same_owners one one ≡ true
+pub owners_self : (one : Option Owner) → same_owners one one ≡ true
 owners_self None = refl
 owners_self (Some one) = owner_self one
 

@@ -31,12 +31,12 @@ use Rattle.world_model.specs.Parts.{Sending, Scan, answered, sent_on, is_unmarke
 use Rattle.world_model.specs.Traced.{Traced}
 use Rattle.world_model.specs.Words.{brought}
 use Rattle.world_model.proofs.ClientSteps.{HasStepped, HeardOn, OfNone, OfIdle, OfNew, OfReply, OfEnded, is_frame}
-use Rattle.world_model.proofs.Ends.{sends_alike}
 use Rattle.world_model.proofs.Happened.{at_event}
+use Rattle.world_model.proofs.HeldEvents.{sends_held}
 use Rattle.world_model.proofs.LostSteps.{before_so}
 use Rattle.world_model.proofs.Placing.{IsLent, lent_at, said}
 use Rattle.world_model.proofs.SendingSteps.{scan_by}
-use Rattle.world_model.proofs.StepFacts.{first_step, first_doing, before_talks}
+use Rattle.world_model.proofs.StepFacts.{first_step, before_talks}
 use Rattle.world_model.proofs.TalkAsked.{asks_so, scan_asks, call_told, waited_none, tried_none}
 
 -- LISTS -------------------------------------------------------------------------------------------
@@ -125,9 +125,6 @@ module _ (t : Traced) (inv : Orderly t) (who : ℕ) (n : Machine) (step : HasSte
   abbrev one : Step
   one = first_step t.setting m inv.script.talks who n step
 
-  abbrev phase_after : Phase
-  phase_after = (first_doing t.setting m inv.script.talks who n step).talk.phase
-
   asked_before : asks_so scan_before.held step.before.talk.phase ≡ true
   asked_before =
       let so = before_talks t.setting m inv.script.talks who n step in
@@ -151,9 +148,6 @@ module _ (t : Traced) (inv : Orderly t) (who : ℕ) (n : Machine) (step : HasSte
       let first : Some asking.fresh ≡ link.held = held_same (Some asking.fresh) link.held (subst (λ (p : Phase). same_held (goes_by p) link.held ≡ true) is here) in
       let second : scan_before.held ≡ Some asking.fresh = held_same scan_before.held (Some asking.fresh) (subst (λ (p : Phase). asks_so scan_before.held p ≡ true) is asked_before) in
       sym (second ∙ first)
-
-  sent_held : (event : ℕ) (frames : List Sent) (link : Link) → (sends event frames link).held ≡ link.held
-  sent_held event frames link = sends_alike (λ (l : Link). l.held ≡ link.held) event frames link refl refl
 
   pub speaks : list_any is_unmarked_frame one.done.act.send ≡ true → Speaks
   speaks calls = by step.before.connection step.input step.after refl refl step.heard_on
@@ -188,7 +182,7 @@ module _ (t : Traced) (inv : Orderly t) (who : ℕ) (n : Machine) (step : HasSte
             has = sym step.connects ∙ ap (connected step.before.connection) heard;
             next = sends m.event (said t.setting m who n step) lent.link;
             there = lent.next;
-            held = sent_held m.event (said t.setting m who n step) lent.link ∙ (lent.held ∙ sym (ap (λ (input : Input). option_or (told_by input) scan_before.held) heard));
+            held = sends_held m.event (said t.setting m who n step) lent.link ∙ (lent.held ∙ sym (ap (λ (input : Input). option_or (told_by input) scan_before.held) heard));
           }
       by _ _ after was heard (OfNew had same) = absurd (let never : false ≡ true = calls_at _ heard in let none : ⊥ = cc in none)
       by {said = said} _ _ after was heard (OfReply had connection link reply left some there down next back) =
@@ -197,7 +191,7 @@ module _ (t : Traced) (inv : Orderly t) (who : ℕ) (n : Machine) (step : HasSte
             has = sym step.connects ∙ (ap (connected step.before.connection) heard ∙ (was ∙ some));
             next = sends m.event said (takes (Took reply.frame link.is_open) reply left link);
             there = next;
-            held = sent_held m.event said (takes (Took reply.frame link.is_open) reply left link)
+            held = sends_held m.event said (takes (Took reply.frame link.is_open) reply left link)
                 ∙ (told_or_asked reply.frame link.is_open connection link heard (was ∙ some) there ∙ sym (ap (λ (input : Input). option_or (told_by input) scan_before.held) heard));
           }
       by _ _ after was heard (OfEnded had connection link some there shut next same) = absurd (let never : false ≡ true = calls_at _ heard in let none : ⊥ = cc in none)

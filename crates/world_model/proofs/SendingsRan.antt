@@ -1,15 +1,14 @@
 -- A sending that was answered Committed was run as the last call of the transaction of its number on its connection, wherever a run has come to.
-use Rattle.std.proofs.Common.{◌≡◌, refl, sym, ap, subst, ◌∙◌, append-nil, Bool, true, false, ℕ, ◌<◌, ◌≤◌, ◌&&◌, cond, filter, fold, length, List, [], ◌∷◌, ◌++◌, Option, Some, None, arith}
+use Rattle.std.proofs.Common.{◌≡◌, refl, sym, ap, subst, ◌∙◌, append-nil, Bool, true, false, ℕ, ◌&&◌, filter, fold, length, List, [], ◌∷◌, ◌++◌, Option, Some, None}
 use Rattle.std.specs.Prelude.{◌==◌, slice_get}
 use Rattle.std.specs.List.{list_all, list_any, last_or}
 use Rattle.std.specs.Option.{option_map_or}
-use Rattle.std.proofs.lemmas.Bool.{and_parts, and_from}
+use Rattle.std.proofs.lemmas.Bool.{and_from}
 use Rattle.std.proofs.lemmas.List.Sums.{fold-append}
 use Rattle.svc_values.specs.declared.answer.Answer.{Answer}
 use Rattle.svc_values.specs.declared.entry.Ltxid.{Ltxid}
-use Rattle.svc_values.specs.Calls.{has_commit}
 use Rattle.svc_values.specs.Endings.{ends_committed}
-use Rattle.svc_values.specs.Identifiers.{same_ltxid, session_of}
+use Rattle.svc_values.specs.Identifiers.{same_ltxid}
 use Rattle.svc_values.specs.SameLaws.{same_ltxid_decides}
 use Rattle.outage_schedule.specs.declared.document.Document.{Document}
 use Rattle.outage_schedule.specs.declared.event.Event.{Event}
@@ -17,18 +16,15 @@ use Rattle.outage_schedule.specs.declared.item.Item.{Item}
 use Rattle.outage_schedule.specs.declared.item.Item.TheVariants as item
 use Rattle.outage_schedule.specs.declared.item.Served.{Served}
 use Rattle.outage_schedule.specs.declared.note.Note.{Note}
-use Rattle.client_model.specs.declared.input.Input.TheVariants.{Took}
-use Rattle.run_clauses.specs.EntryEvents.{entries_of}
 use Rattle.server_model.specs.Seen.{Seen}
-use Rattle.world_model.specs.Clients.{Step}
 use Rattle.world_model.specs.Frames.{Owner, Sent, Handled}
 use Rattle.world_model.specs.Invariant.{Invariant}
 use Rattle.world_model.specs.KeptLaws.{RunsKeepInvariant}
-use Rattle.world_model.specs.Links.{Link, link_at, takes, sends}
+use Rattle.world_model.specs.Links.{Link, link_at}
 use Rattle.world_model.specs.Machines.{Machine}
 use Rattle.world_model.specs.Matching.{Noted}
 use Rattle.world_model.specs.OneEvent.{OneEvent}
-use Rattle.world_model.specs.Parts.{Sending, Scan, commit_sendings, has_entry, held_number, implies, number_of, sent_on}
+use Rattle.world_model.specs.Parts.{Sending, commit_sendings, has_entry, implies}
 use Rattle.world_model.specs.Reached.{traced_start, Begins, GoesOn}
 use Rattle.world_model.specs.Same.{Ran, ServedCall, did_all, ends_on_server, ran_by, ran_item, runs_script_calls, test_at, with_call}
 use Rattle.world_model.specs.SameLaws.{RunsRanLast, WholeRunsRanLast}
@@ -38,42 +34,28 @@ use Rattle.world_model.specs.Traced.{Traced, Course, course_now, courses_of}
 use Rattle.world_model.specs.Verified.{commits_ran, is_committed_ran, ran_last}
 use Rattle.world_model.specs.Words.{held_in}
 use Rattle.world_model.proofs.AllLists.{weaker_all}
-use Rattle.world_model.proofs.Answering.{Answering, IsAnswered, Unanswered, LastAnswered, answering}
-use Rattle.world_model.proofs.ApartSteps.{PushedAs, NoMore, OneMade, commits, pushed_as}
+use Rattle.world_model.proofs.Answering.{IsAnswered}
+use Rattle.world_model.proofs.ApartSteps.{commits}
 use Rattle.world_model.proofs.AskedNear.{any_all}
-use Rattle.world_model.proofs.AskedSendings.{each_flat}
 use Rattle.world_model.proofs.ClientSteps.{HasStepped, happens_step}
-use Rattle.world_model.proofs.EntriesStay.{right_of}
-use Rattle.world_model.proofs.FateSteps.{IsFated, fated, fated_from}
+use Rattle.world_model.proofs.CommittedStay.{after_so}
 use Rattle.world_model.proofs.FrontLists.{last_pushed}
-use Rattle.world_model.proofs.GainedQuiet.{number_named}
 use Rattle.world_model.proofs.Happened.{Followed, follow_happens, at_event}
 use Rattle.world_model.proofs.Held.{held_now}
-use Rattle.world_model.proofs.KeptFates.{mine_fated}
 use Rattle.world_model.proofs.KeptSendings.{resting_none}
-use Rattle.world_model.proofs.KeptStored.{entry_there}
-use Rattle.world_model.proofs.KeptUnasked.{held_session}
-use Rattle.world_model.proofs.KnownLinks.{known_of}
-use Rattle.world_model.proofs.LinkCounts.{Right}
-use Rattle.world_model.proofs.LinkLives.{implied}
-use Rattle.world_model.proofs.LinkRight.{taken_right}
-use Rattle.world_model.proofs.LostKept.{KeepsLost, both_all, lost_kept}
+use Rattle.world_model.proofs.LostKept.{KeepsLost, lost_kept}
 use Rattle.world_model.proofs.LostSteps.{before_so}
 use Rattle.world_model.proofs.Moves.{Happens}
 use Rattle.world_model.proofs.OpenEntries.{HasRun, all_its, all_there, entry_ran, is_its, is_there}
-use Rattle.world_model.proofs.Placing.{said as spoken_frames}
 use Rattle.world_model.proofs.RanScripts.{scripts_ran}
 use Rattle.world_model.proofs.RanSessions.{over_same}
 use Rattle.world_model.proofs.Recalling.{get_further}
-use Rattle.world_model.proofs.SendingSteps.{scan_by, heard_scan, after_sendings}
-use Rattle.world_model.proofs.SendingsMade.{made}
+use Rattle.world_model.proofs.RunStarts.{finishing_reached}
+use Rattle.world_model.proofs.SendingSteps.{scan_by}
 use Rattle.world_model.proofs.ServedGrows.{IsLonger, happens_longer}
 use Rattle.world_model.proofs.ServingTurns.{Serving, NothingYet, AsMuch, OneMore, comes_serving}
-use Rattle.world_model.proofs.StepFacts.{first_step}
-use Rattle.world_model.proofs.StoredScripts.{if_fated}
 use Rattle.world_model.proofs.Tests.{eq_to}
 use Rattle.world_model.proofs.Turning.{all_turn, some_same}
-use Rattle.world_model.proofs.WholeInvariant.{finishing_reached}
 
 -- TRANSACTIONS STAY -------------------------------------------------------------------------------
 
@@ -176,133 +158,37 @@ module _ (t : Traced) (whole : Invariant t) (new : Traced) (setting : new.settin
     abbrev sendings : List Sending
     sendings = (scan_by mine step.before.steps).sendings
 
-    abbrev scan_now : Scan
-    scan_now = heard_scan t.setting m whole.orderly.script.talks who new.machine step
-
-    abbrev one_step : Step
-    one_step = first_step t.setting m whole.orderly.script.talks who new.machine step
-
     abbrev stored : Sending → Bool
     stored = is_committed_ran new.machine.links before
-
-    abbrev stored_so : Sending → Bool
-    stored_so sending = implies (fated new.machine.links sending) (stored sending)
 
     old_runs : list_all (test_at t (runs_script_calls before)) (held_in before.steps) ≡ true
     old_runs = before_so t whole.orderly who new.machine step (λ course. list_all (test_at t (runs_script_calls course)) (held_in course.steps)) (scripts_ran t whole) (λ request. refl)
 
-    -- the one that is answered now
-    module _ (top : Sending) (answers : List Answer) (is : IsAnswered t whole.orderly whole.once.apart new who step top answers) (was_fated : fated t.machine.links top ≡ true) (its : is_its t before top ≡ true) where
-      abbrev answered_now : Sending
-      answered_now = record top { taken = Some answers }
-
-      abbrev x : Ltxid
-      x = top.ltxid
-
-      abbrev link : Link
-      link = is.taking.link
-
-      abbrev next : Link
-      next = sends m.event (spoken_frames t.setting m who new.machine step) (takes (Took is.taking.reply.frame link.is_open) is.taking.reply is.taking.later link)
-
-      at : IsFated t.machine.links top
-      at = fated_from t.machine.links top was_fated
-
-      on_it : at.link ≡ link
-      on_it = some_same (link_at t.machine.links is.taking.connection) at.link link (subst (λ (k : ℕ). link_at t.machine.links k ≡ Some at.link) is.on_it at.there) is.taking.there
-
-      held : link.held ≡ Some x
-      held = ap (λ (l : Link). l.held) (sym on_it) ∙ (at.fate.waits is.untaken).held
-
-      count : number_of t.entries link ≡ entries_of t.entries (session_of x)
-      count = number_named t.entries link (session_of x) (held_session t whole.orderly.basic.named whole.orderly.basic.apart is.taking.connection link x is.taking.there held)
-
-      behind : Right (number_of t.entries link) next
-      behind =
-          taken_right (number_of t.entries link) m.event (spoken_frames t.setting m who new.machine step) link is.taking.reply is.taking.later (known_of t whole.orderly is.taking.connection link is.taking.there)
-          (right_of t whole.orderly is.taking.connection link is.taking.there) is.taking.down_is
-
-      was_there : fated new.machine.links answered_now ≡ true → ends_committed answers ≡ true → has_entry t.entries x ≡ true
-      was_there now_fated ends =
-          let at_new : IsFated new.machine.links answered_now = fated_from new.machine.links answered_now now_fated in
-          let same : at_new.link ≡ next = some_same (link_at new.machine.links is.taking.connection) at_new.link next (subst (λ (k : ℕ). link_at new.machine.links k ≡ Some at_new.link) is.on_it at_new.there) is.taking.after in
-          let less : x.number < held_number at_new.link = at_new.fate.told answers refl ends in
-          let number : held_number at_new.link ≡ held_number next = ap held_number same in
-          let least : held_number next ≤ number_of t.entries link = behind.least in
-          let none : entries_of [] (session_of x) ≡ 0 = refl in
-          entry_there [] t.entries x whole.orderly.number.entries (omega (arith, none)) (omega (arith, less, number, least, count, none))
-
-      -- the entry that is there was run, and ends with it
-      ran_there : has_entry t.entries x ≡ true → option_map_or (ran_last before top) (link_at new.machine.links top.connection) false ≡ true
-      ran_there some =
-          let found = any_all (λ entry. same_ltxid x entry.ltxid) (is_there t whole) t.entries some (all_there t whole) in
-          let equal : x ≡ found.0.ltxid = (same_ltxid_decides x found.0.ltxid).0 found.1.0 in
-          let so : HasRun t whole before old_runs top its is.untaken found.0 = entry_ran t whole before old_runs top its is.untaken found.0 found.1.1 ((same_ltxid_decides found.0.ltxid x).1 (sym equal)) in
-          let over : slice_get (ran_by so.link).over x.number ≡ Some (so.before ++ so.did ∷ []) = ap (λ (y : Ltxid). slice_get (ran_by so.link).over y.number) equal ∙ so.over in
-          last_still before top so.link so.there
-          (ap (λ (some_dids : Option (List ServedCall)). option_map_or (λ (dids : List ServedCall). option_map_or (λ did. owned_by before.owner did.sent && (did.sent.call == top.at)) (last_or None dids) false) some_dids false) over
-          ∙ (ap (λ (last : Option ServedCall). option_map_or (λ did. owned_by before.owner did.sent && (did.sent.call == top.at)) last false) (last_pushed None so.before so.did)
-          ∙ and_from (owned_by before.owner so.did.sent) (so.did.sent.call == top.at) so.own (eq_to so.did.sent.call top.at so.index)))
-
-      answered_stored : stored_so answered_now ≡ true
-      answered_stored = by (fated new.machine.links answered_now) refl
-        where
-          ends_so : fated new.machine.links answered_now ≡ true → (test : Bool) → ends_committed answers ≡ test → implies test (option_map_or (ran_last before top) (link_at new.machine.links top.connection) false) ≡ true
-          ends_so so false ends = refl
-          ends_so so true ends = ran_there (was_there so ends)
-
-          by : (fate : Bool) → fated new.machine.links answered_now ≡ fate → implies fate (stored answered_now) ≡ true
-          by false so = refl
-          by true so = ends_so so (ends_committed answers) refl
-
-    kept_so : (list : List Sending) → list_all stored list ≡ true → list_all stored_so list ≡ true
-    kept_so list all = weaker_all stored stored_so list (λ sending here. if_fated (fated new.machine.links sending) (stored sending) here) all
-
-    heard_so : (old now : List Sending) → Answering t whole.orderly whole.once.apart new who step old now → list_all stored (filter commits old) ≡ true → list_all (λ s. fated t.machine.links s && is_its t before s) (filter commits old) ≡ true
-        → list_all stored_so (filter commits now) ≡ true
-    heard_so _ _ (Unanswered list) all open_so = kept_so (filter commits list) all
-    heard_so _ _ (LastAnswered top rest answers are is) all open_so = by (has_commit top.call) all open_so
-      where
-        by : (test : Bool) → list_all stored (cond test (top ∷ filter commits rest) (filter commits rest)) ≡ true
-            → list_all (λ s. fated t.machine.links s && is_its t before s) (cond test (top ∷ filter commits rest) (filter commits rest)) ≡ true
-            → list_all stored_so (cond test (record top { taken = Some answers } ∷ filter commits rest) (filter commits rest)) ≡ true
-        by false all open_so = kept_so (filter commits rest) all
-        by true all open_so =
-            let one = and_parts (fated t.machine.links top && is_its t before top) (list_all (λ s. fated t.machine.links s && is_its t before s) (filter commits rest)) open_so in
-            let two = and_parts (fated t.machine.links top) (is_its t before top) one.0 in
-            and_from (stored_so (record top { taken = Some answers })) (list_all stored_so (filter commits rest)) (answered_stored top answers is two.0 two.1)
-            (kept_so (filter commits rest) (and_parts (stored top) (list_all stored (filter commits rest)) all).1)
-
-    pushed_so : (pushed : List Sending) → PushedAs t whole.orderly whole.once.apart new who step scan_now.sendings pushed → list_all stored_so (filter commits scan_now.sendings) ≡ true → list_all stored_so (filter commits pushed) ≡ true
-    pushed_so _ NoMore all = all
-    pushed_so _ (OneMade begun settings call x sends keeps under) all = by (has_commit call)
-      where
-        by : (test : Bool) → list_all stored_so (cond test (made scan_now call x ∷ filter commits scan_now.sendings) (filter commits scan_now.sendings)) ≡ true
-        by false = all
-        by true =
-            and_from (stored_so (made scan_now call x)) (list_all stored_so (filter commits scan_now.sendings)) (if_fated (fated new.machine.links (made scan_now call x)) (stored (made scan_now call x)) refl) all
-
-    old_fated : list_all (fated t.machine.links) (filter commits sendings) ≡ true
-    old_fated = before_so t whole.orderly who new.machine step (λ course. list_all (fated t.machine.links) (commit_sendings course)) (each_flat (fated t.machine.links) commit_sendings (courses_of t) whole.once.fates) (λ request. refl)
-
     old_its : list_all (is_its t before) (filter commits sendings) ≡ true
     old_its = before_so t whole.orderly who new.machine step (λ course. list_all (is_its t course) (commit_sendings course)) (all_its t whole) (λ request. refl)
 
-    after_so : list_all stored (filter commits sendings) ≡ true → list_all stored (filter commits (scan_by mine step.after.steps).sendings) ≡ true
-    after_so all =
-        weaker_all (λ s. fated new.machine.links s && stored_so s) stored (filter commits (scan_by mine step.after.steps).sendings)
-        (λ s both. let parts = and_parts (fated new.machine.links s) (stored_so s) both in implied (fated new.machine.links s) (stored s) parts.0 parts.1)
-        (both_all (fated new.machine.links) stored_so (filter commits (scan_by mine step.after.steps).sendings) (mine_fated t whole.orderly whole.once.apart new who step old_fated)
-        (ap (λ (list : List Sending). list_all stored_so (filter commits list)) (after_sendings t.setting m whole.orderly.script.talks who new.machine step)
-        ∙ pushed_so (fold (sent_on scan_now) scan_now.sendings one_step.done.act.send) (pushed_as t whole.orderly whole.once.apart new who step)
-        (heard_so sendings scan_now.sendings (answering t whole.orderly whole.once.apart new who step) all (both_all (fated t.machine.links) (is_its t before) (filter commits sendings) old_fated old_its))))
+    -- the entry that is there was run, and ends with it
+    ran_there : (top : Sending) (answers : List Answer) → IsAnswered t whole.orderly whole.once.apart new who step top answers → is_its t before top ≡ true → has_entry t.entries top.ltxid ≡ true
+        → option_map_or (ran_last before top) (link_at new.machine.links top.connection) false ≡ true
+    ran_there top answers is its some =
+        let found = any_all (λ entry. same_ltxid top.ltxid entry.ltxid) (is_there t whole) t.entries some (all_there t whole) in
+        let equal : top.ltxid ≡ found.0.ltxid = (same_ltxid_decides top.ltxid found.0.ltxid).0 found.1.0 in
+        let so : HasRun t whole before old_runs top its is.untaken found.0 = entry_ran t whole before old_runs top its is.untaken found.0 found.1.1 ((same_ltxid_decides found.0.ltxid top.ltxid).1 (sym equal)) in
+        let over : slice_get (ran_by so.link).over top.ltxid.number ≡ Some (so.before ++ so.did ∷ []) = ap (λ (y : Ltxid). slice_get (ran_by so.link).over y.number) equal ∙ so.over in
+        last_still before top so.link so.there
+        (ap (λ (some_dids : Option (List ServedCall)). option_map_or (λ (dids : List ServedCall). option_map_or (λ did. owned_by before.owner did.sent && (did.sent.call == top.at)) (last_or None dids) false) some_dids false) over
+        ∙ (ap (λ (last : Option ServedCall). option_map_or (λ did. owned_by before.owner did.sent && (did.sent.call == top.at)) last false) (last_pushed None so.before so.did)
+        ∙ and_from (owned_by before.owner so.did.sent) (so.did.sent.call == top.at) so.own (eq_to so.did.sent.call top.at so.index)))
+
+    ran_so : list_all stored (filter commits sendings) ≡ true → list_all stored (filter commits (scan_by mine step.after.steps).sendings) ≡ true
+    ran_so all = after_so t whole new who step (λ sending. option_map_or (ran_last before sending) (link_at new.machine.links sending.connection) false) (is_its t before) old_its ran_there all
 
   keeps_stored : KeepsLost t whole.orderly new setting items left kind happens stored_test
   keeps_stored = record {
     others = λ course gone here. here;
     begins = λ who place request. refl;
-    goes = λ who step keep gone here. after_so who step here;
-    ends = λ who step over gone here. after_so who step here;
+    goes = λ who step keep gone here. ran_so who step here;
+    ends = λ who step over gone here. ran_so who step here;
   }
 
 ran_start : (document : Document) → commits_ran (traced_start document) ≡ true

@@ -3,7 +3,7 @@ use Rattle.std.proofs.Common.{◌≡◌, refl, Bool, true, false, ℕ, ◌+◌, 
 use Rattle.std.specs.Prelude.{is_some, nat_le, nat_lt}
 use Rattle.std.specs.List.{list_all, list_any}
 use Rattle.std.specs.Option.{option_or, option_map_or}
-use Rattle.std.proofs.lemmas.Bool.{and_parts, and_from, or_cases, or_right}
+use Rattle.std.proofs.lemmas.Bool.{and_parts, and_from, or_cases, or_right, or_left}
 use Rattle.svc_values.specs.declared.answer.Answer.{Answer}
 use Rattle.svc_values.specs.declared.entry.Ltxid.{Ltxid}
 use Rattle.svc_values.specs.declared.frame.Up.{Up}
@@ -17,18 +17,13 @@ use Rattle.world_model.specs.Links.{told_by}
 use Rattle.world_model.specs.Parts.{Sending, Scan, with_taken, answered, sent_on, scanned, implies}
 use Rattle.world_model.specs.Words.{brought}
 use Rattle.world_model.proofs.AllLists.{weaker_all}
-use Rattle.world_model.proofs.CoursesGrow.{or_left}
-use Rattle.world_model.proofs.Tests.{le_from, le_to, lt_from, lt_to}
+use Rattle.world_model.proofs.Tests.{le_from, le_to, lt_from, lt_to, implies_more}
 
 -- REPLIES -----------------------------------------------------------------------------------------
 
 -- it is of a call up to these, and of one of these where its reply was taken
 abbrev pub taken_among : ℕ → Sending → Bool
 taken_among shown sending = nat_le sending.at shown && implies (is_some sending.taken) (nat_lt sending.at shown)
-
-implies_more : (test one other : Bool) → (one ≡ true → other ≡ true) → implies test one ≡ true → implies test other ≡ true
-implies_more true one other more here = more here
-implies_more false one other more here = refl
 
 among_more : (a b : ℕ) → a ≤ b → (sending : Sending) → taken_among a sending ≡ true → taken_among b sending ≡ true
 among_more a b least sending here =

@@ -30,6 +30,7 @@ use Rattle.world_model.specs.Hold.{is_idle, is_awaited}
 use Rattle.world_model.specs.Ready.{is_waiting, is_ready}
 use Rattle.world_model.specs.Parts.{is_out, is_answered}
 use Rattle.world_model.specs.Sames.{owned_by, all_with, each_pair}
+use Rattle.world_model.proofs.Recalling.{get_last}
 use Rattle.world_model.proofs.Tests.{eq_to}
 use Rattle.world_model.proofs.AllLists.{append_all, one_all}
 use Rattle.world_model.proofs.AllLinks.{at_link, with_link_all, changed_all, KeepsServed, happens_keep}
@@ -86,10 +87,6 @@ silent_all test event frames links number none all =
     changed_all test (sends event frames) links number all
     (λ link is here. subst (λ (one : Link). test one ≡ true) (sym (ap (λ (sent : List Sent). sends event sent link) none ∙ sends_none event link)) here)
 
-pub last_at : {A : Type 0} (xs : List A) (x : A) → slice_get (xs ++ x ∷ []) (length xs) ≡ Some x
-last_at [] x = refl
-last_at (y ∷ xs) x = last_at xs x
-
 last_set : {A : Type 0} (xs : List A) (x y : A) → slice_set (xs ++ x ∷ []) (length xs) y ≡ xs ++ y ∷ []
 last_set [] x y = refl
 last_set (z ∷ xs) x y = ap (λ rest. z ∷ rest) (last_set xs x y)
@@ -99,7 +96,7 @@ new_all : (test : Link → Bool) (change : Link → Link) (links : List Link) (l
     → list_all test (changed change (links ++ link ∷ []) (length links + 1)) ≡ true
 new_all test change links link all here =
     subst (λ (number : ℕ). list_all test (changed change (links ++ link ∷ []) number) ≡ true) (sym (add-one (length links)))
-    (subst (λ (found : Option Link). list_all test (option_map_or (λ one. with_link (links ++ link ∷ []) (suc (length links)) (change one)) found (links ++ link ∷ [])) ≡ true) (sym (last_at links link))
+    (subst (λ (found : Option Link). list_all test (option_map_or (λ one. with_link (links ++ link ∷ []) (suc (length links)) (change one)) found (links ++ link ∷ [])) ≡ true) (sym (get_last links link))
     (subst (λ (now : List Link). list_all test now ≡ true) (sym (last_set links link (change link))) (append_all test links (change link ∷ []) all (one_all test (change link) here))))
 
 pub set_at : {A : Type 0} (links : List A) (index : ℕ) (old new : A) → slice_get links index ≡ Some old → slice_get (slice_set links index new) index ≡ Some new

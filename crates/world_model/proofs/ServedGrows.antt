@@ -1,9 +1,10 @@
 -- What was served on a connection stays: behind each event it is there, and what was among its items still is.
-use Rattle.std.proofs.Common.{◌≡◌, refl, sym, ap, subst, ◌∙◌, Bool, true, false, ℕ, suc, zero, fold, List, [], ◌∷◌, ◌++◌, map, Option, Some, None, if◌then◌else◌}
+use Rattle.std.proofs.Common.{◌≡◌, refl, sym, subst, ◌∙◌, Bool, true, false, ℕ, suc, zero, fold, List, [], ◌∷◌, ◌++◌, map, Option, Some, None, if◌then◌else◌}
 use Rattle.std.specs.Prelude.{slice_get, slice_set, unwrap_or}
 use Rattle.std.specs.List.{list_any}
 use Rattle.std.specs.Option.{option_map_or}
 use Rattle.std.proofs.lemmas.List.Folds.{list_any-append}
+use Rattle.std.proofs.lemmas.Bool.{or_left}
 use Rattle.outage_schedule.specs.declared.item.Served.{Served}
 use Rattle.pool_core.specs.Slots.{after_take}
 use Rattle.client_model.specs.declared.act.Act.{Act}
@@ -22,8 +23,8 @@ use Rattle.world_model.specs.Outside.{closed_by_drain}
 use Rattle.world_model.specs.Serving.{Front, handled, after_front}
 use Rattle.world_model.specs.Settings.{Setting}
 use Rattle.world_model.proofs.AllLinks.{front_is, open_is}
-use Rattle.world_model.proofs.CoursesGrow.{or_left}
 use Rattle.world_model.proofs.Ends.{sends_alike, handled_alike, cut_case, fallen_case}
+use Rattle.world_model.proofs.Lists.{get_mapped}
 use Rattle.world_model.proofs.Lookups.{new_others}
 use Rattle.world_model.proofs.Moves.{with_pool, Goes, Rests, Waits, Lends, Opens, Fails, Takes, Loses, takes_one, ServesLast, LastNone, LastStopped, LastServed, Happens, Nothing, IsStep, Serves, Cuts, Reaps, Crashes, OpensUp, StopsOpening, Ticks, RunsOutside, Asks, Drains}
 
@@ -65,14 +66,9 @@ found_longer change links number (Some one) is more other link at = with_longer 
 changed_longer : (change : Link → Link) (links : List Link) (number : ℕ) → ((link : Link) → HasAll link (change link)) → (other : ℕ) (link : Link) → link_at links other ≡ Some link → IsLonger (changed change links number) other link
 changed_longer change links number more other link at = found_longer change links number (link_at links number) refl more other link at
 
-mapped : (change : Link → Link) (links : List Link) (index : ℕ) (link : Link) → slice_get links index ≡ Some link → slice_get (map change links) index ≡ Some (change link)
-mapped change [] index link is = absurd (let none : ⊥ = cc in none)
-mapped change (first ∷ links) zero link is = ap Some (let same : first ≡ link = cc in ap change same)
-mapped change (first ∷ links) (suc index) link is = mapped change links index link is
-
 all_longer : (change : Link → Link) (links : List Link) → ((link : Link) → HasAll link (change link)) → (other : ℕ) (link : Link) → link_at links other ≡ Some link → IsLonger (map change links) other link
 all_longer change links more zero link at = absurd (let none : ⊥ = cc in none)
-all_longer change links more (suc other) link at = record { now = change link; there = mapped change links other link at; all = more link }
+all_longer change links more (suc other) link at = record { now = change link; there = get_mapped change links other link at; all = more link }
 
 then_longer : (first next : List Link) (number : ℕ) (link : Link) → IsLonger first number link → ((now : Link) → link_at first number ≡ Some now → IsLonger next number now) → IsLonger next number link
 then_longer first next number link one further =

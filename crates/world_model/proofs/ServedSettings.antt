@@ -1,146 +1,95 @@
--- Each call that a connection served ran in the settings of its request at its index: those of the request, changed by each `set` before it.
-use Rattle.std.proofs.Common.{◌≡◌, refl, sym, ap, subst, ◌∙◌, arith, ℕ, suc, zero, ◌+◌, ◌&&◌, ◌||◌, Bool, true, List, [], ◌∷◌, ◌++◌, map, filter, fold, take, nat_eq, Some}
-use Rattle.std.specs.Prelude.{◌==◌, slice_get}
-use Rattle.std.specs.Bool.{Decides}
-use Rattle.std.specs.Cmp.Lexicographic.{pointwise, pointwise_decides}
+-- Each call of a request that a connection served ran in the settings of its request, changed by each `set` before it.
+use Rattle.std.proofs.Common.{◌≡◌, refl, sym, ap, subst, ◌∙◌, ℕ, ◌+◌, ◌&&◌, Bool, true, false, List, [], ◌∷◌, ◌++◌, map, filter, fold, Option, None, if◌then◌else◌}
+use Rattle.std.specs.Prelude.{◌==◌}
 use Rattle.std.specs.List.{list_all}
 use Rattle.std.specs.Option.{option_map_or}
-use Rattle.std.proofs.lemmas.Bool.{and_from, and_parts}
+use Rattle.std.proofs.lemmas.Bool.{and_parts}
 use Rattle.svc_values.specs.declared.call.Call.{Call}
 use Rattle.svc_values.specs.declared.draw.Draw.{Draw}
 use Rattle.svc_values.specs.declared.frame.Up.{Up}
 use Rattle.svc_values.specs.declared.frame.Up.TheVariants as up
-use Rattle.svc_values.specs.declared.value.Value.{Value}
-use Rattle.svc_values.specs.Same.{same_value}
-use Rattle.svc_values.specs.SameLaws.{bytes_decide, same_value_decides}
-use Rattle.svc_values.specs.SettingsList.{NamedValues, same_settings, with_set, with_sets}
 use Rattle.world_model.specs.Basic.{none_behind}
-use Rattle.world_model.specs.BegunWith.{begins_on, begins_with, is_begin, leads, settings_at}
+use Rattle.world_model.specs.Begins.{begin_in, begins_followed, carries_on, follows_begin}
 use Rattle.world_model.specs.Frames.{Sent, Handled}
 use Rattle.world_model.specs.Links.{Link}
-use Rattle.world_model.specs.Parts.{implies}
-use Rattle.world_model.specs.Sames.{is_of, owned_by, same_owners, same_sent, same_up, is_front}
-use Rattle.world_model.specs.Shown.{calls_on, first_of, first_unmarked, has_unmarked, in_row, is_call, is_row, is_scripts, marked_from, unmarked_first}
+use Rattle.world_model.specs.Same.{Ran}
+use Rattle.world_model.specs.Sames.{owned_by}
+use Rattle.world_model.specs.Shown.{in_row, is_call}
 use Rattle.world_model.specs.Traced.{Course}
-use Rattle.world_model.specs.Wire.{New, handled_from, is_right, is_sent_front, stage_of}
-use Rattle.world_model.proofs.AskedNear.{front_all, owners_are}
-use Rattle.world_model.proofs.AskedSendings.{unfiltered}
-use Rattle.world_model.proofs.Fronts.{moved, same_frames}
-use Rattle.world_model.proofs.RanCalls.{follows, follows_alike, front_right, front_row, is_mine}
-use Rattle.world_model.proofs.ServedSent.{sent_front}
+use Rattle.world_model.specs.Wire.{Stage, New, counted_with, handled_from, is_handled, is_right, is_sent_front, next_stage, stage_of}
+use Rattle.world_model.proofs.Fronts.{moved}
+use Rattle.world_model.proofs.KeptSettings.{carries}
+use Rattle.world_model.proofs.LinkLives.{lone_later, none_later}
+use Rattle.world_model.proofs.LinkStarts.{carried_on, followed_on}
+use Rattle.world_model.proofs.RanCalls.{follows, is_mine, was_right}
+use Rattle.world_model.proofs.RanFrames.{link_rests, rests_rightly}
+use Rattle.world_model.proofs.RanLists.{none_ran}
+use Rattle.world_model.proofs.RanScripts.{handled_deal}
+use Rattle.world_model.proofs.RanStarts.{Next, GoesOn, IsDone, StandsAt, follows_so, knows, next_step, one_next, sents_of, since, step, was_set}
+use Rattle.world_model.proofs.ServedRows.{InRow}
 use Rattle.world_model.proofs.Tests.{eq_from}
-use Rattle.world_model.proofs.ToldSettings.{Leads, LeadsTo, along, set_handled}
+use Rattle.world_model.proofs.ToldSettings.{set_handled, settings_ran}
 
--- SETTINGS ----------------------------------------------------------------------------------------
-
-pair_decides : (a b : List ℕ × Value) → Decides (pointwise nat_eq a.0 b.0 && same_value a.1 b.1) (a ≡ b)
-pair_decides a b = (
-  λ same. let parts = and_parts (pointwise nat_eq a.0 b.0) (same_value a.1 b.1) same in (λ i. ((bytes_decide a.0 b.0).0 parts.0 i, (same_value_decides a.1 b.1).0 parts.1 i)),
-  λ is. and_from (pointwise nat_eq a.0 b.0) (same_value a.1 b.1) ((bytes_decide a.0 b.0).1 (ap (λ p. p.0) is)) ((same_value_decides a.1 b.1).1 (ap (λ p. p.1) is)),
-)
-
-settings_are : (a b : NamedValues) → same_settings a b ≡ true → a ≡ b
-settings_are a b same = (pointwise_decides pair_decides a b).0 same
-
-next_sets : (calls : List Call) (n : ℕ) (settings : NamedValues) (call : Call) → slice_get calls n ≡ Some call → with_sets settings (take (suc n) calls) ≡ with_set (with_sets settings (take n calls)) call
-next_sets [] n settings call at = absurd (let none : ⊥ = cc in none)
-next_sets (first ∷ calls) zero settings call at = let same : first ≡ call = cc in by calls ∙ ap (with_set settings) same
-  where
-    by : (others : List Call) → with_sets (with_set settings first) (take zero others) ≡ with_set settings first
-    by [] = refl
-    by (other ∷ others) = refl
-next_sets (first ∷ calls) (suc n) settings call at = next_sets calls n (with_set settings first) call at
-
--- A CONNECTION ------------------------------------------------------------------------------------
+not_none : (front : List Handled) (last : Handled) (rest : List Handled) → front ++ last ∷ rest ≡ [] → ⊥
+not_none [] last rest is = let none : ⊥ = cc in none
+not_none (one ∷ front) last rest is = let none : ⊥ = cc in none
 
 module _ (course : Course) where
-  abbrev known : ℕ → NamedValues
-  known = settings_at course.request
+  -- the first one of those that are left is the request's next call
+  first_at : (n : ℕ) (sent : Sent) (rests : List Sent) → is_mine course sent ≡ true → in_row n (filter (is_mine course) (sent ∷ rests)) ≡ true → sent.call ≡ n
+  first_at n sent rests mine row =
+      let here : in_row n (sent ∷ filter (is_mine course) rests) ≡ true = subst (λ (test : Bool). in_row n (if test then sent ∷ filter (is_mine course) rests else filter (is_mine course) rests) ≡ true) mine row in
+      eq_from sent.call n (and_parts (sent.call == n) (in_row (n + 1) (filter (is_mine course) rests)) here).0
 
-  next_known : (n : ℕ) (call : Call) → slice_get course.request.calls n ≡ Some call → known (n + 1) ≡ with_set (known n) call
-  next_known n call at =
-      let more : n + 1 ≡ suc n = omega arith in
-      ap (λ (count : ℕ). with_sets course.request.settings (take count course.request.calls)) more ∙ next_sets course.request.calls n course.request.settings call at
-
-  abbrev begins : Sent → Bool
-  begins sent = implies (owned_by course.owner sent) (begins_with course.request sent.call sent.frame)
-
-  call_same : (a b : Sent) → same_sent a b ≡ true → a.call ≡ b.call
-  call_same a b same =
-      eq_from a.call b.call (and_parts (a.call == b.call) (same_up a.frame b.frame) (and_parts (same_owners a.owner b.owner) ((a.call == b.call) && same_up a.frame b.frame) same).1).0
-
-  owned_same : (a b : Sent) → same_sent a b ≡ true → owned_by course.owner a ≡ owned_by course.owner b
-  owned_same a b same = ap (is_of course.owner) (owners_are a.owner b.owner (and_parts (same_owners a.owner b.owner) ((a.call == b.call) && same_up a.frame b.frame) same).0)
-
-  -- a Begin that is the same as one that was sent carries what that one does
-  begin_known : (settings : NamedValues) (index : ℕ) (frame : Up) → same_up (up.Begin settings) frame ≡ true → begins_with course.request index frame ≡ true → (is_begin frame ≡ true) × (settings ≡ known index)
-  begin_known settings index (up.Begin other) same is = (refl, settings_are settings other same ∙ settings_are other (known index) is)
-  begin_known settings index up.Connect same is = absurd (let none : ⊥ = cc in none)
-  begin_known settings index (up.Call mark kept call) same is = absurd (let none : ⊥ = cc in none)
-  begin_known settings index (up.Outcome x) same is = absurd (let none : ⊥ = cc in none)
-  begin_known settings index up.End same is = absurd (let none : ⊥ = cc in none)
-  begin_known settings index up.Close same is = absurd (let none : ⊥ = cc in none)
-
-  lead_on : (z : Sent) (zs : List Sent) (next : Sent) (more : List Sent) → is_front same_sent (next ∷ more) zs ≡ true → leads (z ∷ zs) ≡ true → is_begin z.frame ≡ true → z.call ≡ next.call
-  lead_on z [] next more front lead begins = absurd (let none : ⊥ = cc in none)
-  lead_on z (other ∷ zs) next more front lead begins =
-      let same = (and_parts (same_sent next other) (is_front same_sent more zs) front).0 in
-      let parts = and_parts (implies (is_begin z.frame) (is_call other.frame && (z.call == other.call))) (leads (other ∷ zs)) lead in
-      let both = and_parts (is_call other.frame) (z.call == other.call) (sym (ap (λ (test : Bool). implies test (is_call other.frame && (z.call == other.call))) begins) ∙ parts.0) in
-      eq_from z.call other.call both.1 ∙ sym (call_same next other same)
-
-  lead_rest : (z : Sent) (zs : List Sent) → leads (z ∷ zs) ≡ true → leads zs ≡ true
-  lead_rest z [] lead = refl
-  lead_rest z (other ∷ zs) lead = (and_parts (implies (is_begin z.frame) (is_call other.frame && (z.call == other.call))) (leads (other ∷ zs)) lead).1
-
-  served_leads : (xs zs : List Sent) → is_front same_sent xs zs ≡ true → leads zs ≡ true → list_all begins zs ≡ true → Leads course known next_known xs
-  served_leads [] zs front lead all = tt
-  served_leads (x ∷ xs) [] front lead all = absurd (let none : ⊥ = cc in none)
-  served_leads (x ∷ xs) (z ∷ zs) front lead all = (here, served_leads xs zs parts.1 (lead_rest z zs lead) both.1)
+  -- where it is served, its session has the settings before it
+  call_at : (front : List Handled) (last : Handled) (rest : List Handled) (stage : Stage) (n : ℕ) (ran : Ran) (next : Option ℕ) (commits : ℕ) (begin : Option Sent) (replay : Bool) (kept : List Draw) (call : Call) → last.sent.frame ≡ up.Call replay kept call → owned_by course.owner last.sent ≡ true
+      → handled_from commits (front ++ last ∷ rest) ≡ true → none_behind (front ++ last ∷ rest) ≡ true → is_right (fold moved stage (sents_of course (front ++ last ∷ rest))) ≡ true → in_row n (filter (is_mine course) (sents_of course (front ++ last ∷ rest))) ≡ true
+      → list_all (follows course) (sents_of course (front ++ last ∷ rest)) ≡ true → list_all (carries course) (sents_of course (front ++ last ∷ rest)) ≡ true → follows_so begin (sents_of course (front ++ last ∷ rest)) ≡ true → StandsAt course stage n ran next → knows course ran ≡ true
+      → (fold (step course) ran front).settings ≡ since course last.sent.call
+  call_at [] last rest stage n ran next commits begin replay kept call frame own handled lone right row scripts carry follow stands known =
+      let now_right : is_right (next_stage stage last.sent.owner (up.Call replay kept call)) ≡ true =
+      subst (λ (f : Up). is_right (next_stage stage last.sent.owner f) ≡ true) frame (was_right (moved stage last.sent) (sents_of course rest) right) in
+      let mine : is_mine course last.sent ≡ true = (λ i. own i && is_call (frame i)) in
+      let set = was_set course stage last.sent.owner replay kept call n ran next now_right stands in
+      (set.mine own).0 ∙ ap (since course) (sym (first_at n last.sent (sents_of course rest) mine row))
+  call_at (one ∷ front) last rest stage n ran next commits begin replay kept call frame own handled lone right row scripts carry follow stands known =
+      by (one_next course (sents_of course others) stage n ran next one.sent one.sent.frame one.served.item (handled_deal now one parts.0) (was_right (moved stage one.sent) (sents_of course others) right) row script.0 carried.0 followed stands known)
+      (λ m stands_now row_now known_now.
+      call_at front last rest (moved stage one.sent) m (step course ran one) (next_step course next one) now (begin_in one.sent) replay kept call frame own parts.1 (lone_later one others lone) right row_now script.1 carried.1 followed stands_now known_now)
     where
-      parts : (same_sent x z ≡ true) × (is_front same_sent xs zs ≡ true)
-      parts = and_parts (same_sent x z) (is_front same_sent xs zs) front
+      others : List Handled
+      others = front ++ last ∷ rest
 
-      both : (begins z ≡ true) × (list_all begins zs ≡ true)
-      both = and_parts (begins z) (list_all begins zs) all
+      now : ℕ
+      now = counted_with commits one.served.item
 
-      here : LeadsTo course known next_known x xs
-      here settings next more frame own is mine =
-          let good : begins_with course.request z.call z.frame ≡ true = sym (ap (λ (test : Bool). implies test (begins_with course.request z.call z.frame)) (sym (owned_same x z parts.0) ∙ own)) ∙ both.0 in
-          let found = begin_known settings z.call z.frame (subst (λ (f : Up). same_up f z.frame ≡ true) frame (same_frames x z parts.0)) good in
-          found.1 ∙ ap known (lead_on z zs next more (subst (λ (all : List Sent). is_front same_sent all zs ≡ true) is parts.1) lead found.0)
+      parts : (is_handled now one ≡ true) × (handled_from now others ≡ true)
+      parts = and_parts (is_handled now one) (handled_from now others) handled
 
-  -- in which settings a call ran
-  pub call_settings : (current : Bool) (link : Link) → is_sent_front link ≡ true → is_right (stage_of link) ≡ true → handled_from 0 link.served ≡ true → none_behind link.served ≡ true → is_row course current (calls_on course link) ≡ true
-      → leads link.sent ≡ true → begins_on course link ≡ true → (front : List Handled) (one : Handled) (rest : List Handled) → link.served ≡ front ++ one ∷ rest → (mark : Bool) (kept : List Draw) (call : Call) → one.sent.frame ≡ up.Call mark kept call
-      → owned_by course.owner one.sent ≡ true → fold set_handled [] front ≡ known one.sent.call
-  call_settings current link sent right handled lone row lead begun front one rest is mark kept call frame own =
-      along course known next_known front one rest New start [] 0 mark kept call frame own
-      (subst (λ (all : List Handled). handled_from 0 all ≡ true) is handled)
-      (subst (λ (all : List Handled). none_behind all ≡ true) is lone)
-      (subst (λ (all : List Handled). is_right (fold moved New (map (λ h. h.sent) all)) ≡ true) is (front_right New served link.sent fronts right))
-      (subst (λ (all : List Handled). in_row start (map_mine all) ≡ true) is (front_row course start served link.sent fronts parts.0))
-      (subst (λ (all : List Handled). list_all (follows course) (map (λ h. h.sent) all) ≡ true) is
-      (front_all (follows course) (follows_alike course) served link.sent fronts (unfiltered (λ (s : Sent). is_scripts course s s.frame) (is_mine course) link.sent (and_parts (list_all (λ (s : Sent). is_scripts course s s.frame) (calls_on course link)) _ parts.1).0)))
-      (subst (λ (all : List Handled). Leads course known next_known (map (λ h. h.sent) all)) is (served_leads served link.sent fronts lead begun))
-      tt
+      script : (follows course one.sent ≡ true) × (list_all (follows course) (sents_of course others) ≡ true)
+      script = and_parts (follows course one.sent) (list_all (follows course) (sents_of course others)) scripts
+
+      carried : (carries course one.sent ≡ true) × (list_all (carries course) (sents_of course others) ≡ true)
+      carried = and_parts (carries course one.sent) (list_all (carries course) (sents_of course others)) carry
+
+      followed : follows_so (begin_in one.sent) (sents_of course others) ≡ true
+      followed = (and_parts (option_map_or (λ b. follows_begin b one.sent) begin true) (follows_so (begin_in one.sent) (sents_of course others)) follow).1
+
+      by : Next course (sents_of course others) (moved stage one.sent) (step course ran one) (next_step course next one) one.served.item
+          → ((m : ℕ) → StandsAt course (moved stage one.sent) m (step course ran one) (next_step course next one) → in_row m (filter (is_mine course) (sents_of course others)) ≡ true → knows course (step course ran one) ≡ true
+          → (fold (step course) (step course ran one) front).settings ≡ since course last.sent.call)
+          → (fold (step course) (step course ran one) front).settings ≡ since course last.sent.call
+      by (GoesOn m stands_now row_now known_now) again = again m stands_now row_now known_now
+      by (IsDone ends known_now stands_now) again = absurd (not_none front last rest (none_later one others lone ends))
+
+  -- so the history tells
+  pub call_settings : (link : Link) → is_sent_front link ≡ true → is_right (stage_of link) ≡ true → InRow course link.served → carries_on course link ≡ true → begins_followed link ≡ true → (front : List Handled) (one : Handled) (rest : List Handled) → link.served ≡ front ++ one ∷ rest
+      → (replay : Bool) (kept : List Draw) (call : Call) → one.sent.frame ≡ up.Call replay kept call → owned_by course.owner one.sent ≡ true → fold set_handled [] front ≡ since course one.sent.call
+  call_settings link sent right served carry follow front one rest is replay kept call frame own =
+      settings_ran front one rest 0 false [] none_ran row.handled (subst (λ (all : List Handled). rests_rightly false (map (λ h. h.sent.frame) all) ≡ true) is (link_rests link sent right)) (ap is_call frame) (λ awake. refl)
+      ∙ call_at front one rest New row.start none_ran None 0 None replay kept call frame own row.handled row.lone row.right row.row row.scripts
+      (subst (λ (all : List Handled). list_all (carries course) (sents_of course all) ≡ true) is (carried_on course link sent carry))
+      (subst (λ (all : List Handled). follows_so None (sents_of course all) ≡ true) is (followed_on course link sent follow)) (record { pieces = refl; next_is = refl }) refl
     where
-      start : ℕ
-      start = option_map_or (λ s. s.call) (first_of (calls_on course link)) 0
-
-      served : List Sent
-      served = map (λ h. h.sent) link.served
-
-      map_mine : List Handled → List Sent
-      map_mine all = filter (is_mine course) (map (λ h. h.sent) all)
-
-      fronts : is_front same_sent served link.sent ≡ true
-      fronts = sent_front link sent
-
-      rest_row : Bool
-      rest_row =
-          list_all (λ (s : Sent). is_scripts course s s.frame) (calls_on course link)
-          && (implies (current || has_unmarked (calls_on course link)) (marked_from course (calls_on course link) (first_unmarked course (calls_on course link))) && unmarked_first course (calls_on course link))
-
-      parts : (in_row start (calls_on course link) ≡ true) × (rest_row ≡ true)
-      parts = and_parts (in_row start (calls_on course link)) rest_row row
+      row : InRow course (front ++ one ∷ rest)
+      row = subst (InRow course) is served

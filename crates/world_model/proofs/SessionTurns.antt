@@ -1,5 +1,5 @@
 -- What an event adds to the history, and what becomes of the frames that each connection served: a frame is served on one of them, or none.
-use Rattle.std.proofs.Common.{◌≡◌, ◌≢◌, refl, sym, ap, subst, ◌∙◌, Bool, true, false, ℕ, suc, zero, ◌+◌, ◌&&◌, List, [], ◌∷◌, ◌++◌, map, Option, Some, None, ◌⊎◌, inl, inr, if◌then◌else◌}
+use Rattle.std.proofs.Common.{◌≡◌, ◌≢◌, refl, sym, ap, subst, ◌∙◌, Bool, true, false, ℕ, ◌+◌, ◌&&◌, List, [], ◌∷◌, ◌++◌, map, Option, Some, None, ◌⊎◌, inl, inr, if◌then◌else◌}
 use Rattle.std.proofs.lemmas.Bool.{and_parts}
 use Rattle.svc_values.specs.declared.entry.SessionId.{SessionId}
 use Rattle.svc_values.specs.declared.frame.Down.{Down}
@@ -41,9 +41,9 @@ use Rattle.world_model.proofs.Items.{reaches, reaches_if, mapped}
 use Rattle.world_model.proofs.JudgedEvents.{noted_kind}
 use Rattle.world_model.proofs.Kept.{only_is, pair_is, reached_is}
 use Rattle.world_model.proofs.Lookups.{with_others, with_own}
-use Rattle.world_model.proofs.Lookups as lookups
 use Rattle.world_model.proofs.Moves.{only_met}
 use Rattle.world_model.proofs.SessionLists.{none_other}
+use Rattle.world_model.proofs.ShutStays.{mapped_at}
 use Rattle.world_model.proofs.Tests.{same_session_is, session_self, not_both}
 use Rattle.world_model.proofs.Turning.{Turns, Stays, IsSaid, IsTaken, IsServed, IsCut, IsReaped, HasFallen, WasStopped, WasServed, ComesFrom, IsNew, IsOld, all_turn, either, some_same, fallen_at}
 
@@ -111,10 +111,6 @@ with_turned links number front served new there more = record {
         let own : link_at (with_link links number new) at ≡ Some new = ap (link_at (with_link links number new)) same ∙ with_own links number front.link new there in
         AtFront same (subst (IsMore front served) (some_same (link_at (with_link links number new) at) new link own is) more)
     by at link is (inr differ) = Elsewhere differ link (sym (with_others links number at new differ) ∙ is) (record { served = refl; session = refl })
-
-mapped_at : (change : Link → Link) (links : List Link) (number : ℕ) (link : Link) → link_at links number ≡ Some link → link_at (map change links) number ≡ Some (change link)
-mapped_at change links zero link is = absurd (let none : ⊥ = cc in none)
-mapped_at change links (suc index) link is = lookups.mapped change links index link is
 
 fall_turned : (event : ℕ) (links : List Link) (number : ℕ) (front : Front) (served : Served) (later : List Link) → FrontTurned links number front served later → FrontTurned links number front served (map (fallen_link event) later)
 fall_turned event links number front served later turned = record {

@@ -50,7 +50,6 @@ use Rattle.world_model.proofs.CoursesStep.{all_step}
 use Rattle.world_model.proofs.Ends.{sends_alike}
 use Rattle.world_model.proofs.Happened.{Followed, follow_happens, at_event}
 use Rattle.world_model.proofs.Held.{held_now}
-use Rattle.world_model.proofs.KeptDraws.{other_owner}
 use Rattle.world_model.proofs.KeptRows.{before_on}
 use Rattle.world_model.proofs.KeptSendings.{each_passes, resting_none, spoken_passes}
 use Rattle.world_model.proofs.KeptUnasked.{held_session}
@@ -65,7 +64,8 @@ use Rattle.world_model.proofs.SentLists.{sent_lists, spoken}
 use Rattle.world_model.proofs.SessionsTold.{Holding, has_spoken, holds_still, is_talk, reaches, reaches_more, reaches_now, talks_of, told_on}
 use Rattle.world_model.proofs.SpokenFrames.{ask_talks, AtFrame, AtLent, call_talks, closing_silent, greeted_hello, input_talks, last_any, others_silent, own_silent, taken_here, TakenHere, talking, TalksAt, turn_holding}
 use Rattle.world_model.proofs.StepFacts.{behind_first, first_doing, first_step, step_owner}
-use Rattle.world_model.proofs.Strangers.{slot_strange}
+use Rattle.world_model.proofs.Strangers.{slot_strange, other_owner}
+use Rattle.world_model.proofs.Tests.{implies_more}
 use Rattle.world_model.proofs.Turning.{ComesFrom, IsNew, IsOld, all_turn, either, some_same}
 
 -- EVENTS ------------------------------------------------------------------------------------------
@@ -75,10 +75,6 @@ told_links links course = list_all (λ number. option_map_or (told_on course.own
 
 abbrev pub sessions_told : Traced → Bool
 sessions_told t = list_all (told_links t.machine.links) (courses_of t)
-
-implies_weaker : (a b c : Bool) → (b ≡ true → c ≡ true) → implies a b ≡ true → implies a c ≡ true
-implies_weaker true b c keeps here = keeps here
-implies_weaker false b c keeps here = refl
 
 not_spoken : (a b : Bool) → a ≡ false → implies a b ≡ true
 not_spoken true b is = absurd (let none : ⊥ = cc in none)
@@ -138,7 +134,7 @@ module _ (t : Traced) (inv : Orderly t) (new : Traced) (inv_new : Orderly new) (
               let test : List Sent → Bool = λ sents. implies (has_spoken course.owner sents) told in
               let before : told_on course.owner course.steps was ≡ true = sym (ap (λ (found : Option Link). option_map_or (told_on course.owner course.steps) found true) there) ∙ so in
               let first : test was.sent ≡ true =
-              implies_weaker (has_spoken course.owner was.sent) (option_map_or (λ x. reaches course.steps (session_of x)) was.held false) told
+              implies_more (has_spoken course.owner was.sent) (option_map_or (λ x. reaches course.steps (session_of x)) was.held false) told
               (holds_still course.steps was next (λ x held. was_its number was x there held) (λ x held. next_its number next x is held) holding) before in
               let passes = passes_from test (sent_lists new.machine.links) number
               (goes number test

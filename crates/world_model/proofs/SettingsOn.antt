@@ -9,7 +9,7 @@ take_none : (n : ℕ) → take {A = Call} n [] ≡ []
 take_none zero = refl
 take_none (suc n) = refl
 
-take_on : (first more : ℕ) (calls : List Call) → take (first + more) calls ≡ take first calls ++ take more (drop first calls)
+pub take_on : (first more : ℕ) (calls : List Call) → take (first + more) calls ≡ take first calls ++ take more (drop first calls)
 take_on zero more calls = let same : zero + more ≡ more = omega arith in ap (λ (n : ℕ). take n calls) same
 take_on (suc first) more [] = take_none (suc first + more) ∙ sym (take_none more)
 take_on (suc first) more (call ∷ calls) =

@@ -39,12 +39,12 @@ use Rattle.world_model.proofs.AllLists.{weaker_all}
 use Rattle.world_model.proofs.ClientSteps.{HasStepped, MayStep, Still, Closed, Stepped, happens_step}
 use Rattle.world_model.proofs.CoursesStep.{all_step}
 use Rattle.world_model.proofs.FirstBehind.{any_found}
-use Rattle.world_model.proofs.GivenMore.{any_more}
 use Rattle.world_model.proofs.Happened.{Followed, follow_happens, at_event}
 use Rattle.world_model.proofs.Held.{doing_course}
 use Rattle.world_model.proofs.KeptRows.{course_rows, before_rows, before_on}
 use Rattle.world_model.proofs.KeptSendings.{any_of_all, resting_none}
 use Rattle.world_model.proofs.KnownLinks.{known_of}
+use Rattle.world_model.proofs.Lists.{any_goes, at_any}
 use Rattle.world_model.proofs.OwnedKept.{left_held}
 use Rattle.world_model.proofs.RowLast.{row_of}
 use Rattle.world_model.proofs.RowSteps.{ShownStep, NoneMore, OneMore, shown_step, shown_after}
@@ -71,21 +71,16 @@ is_nothing (draw ∷ draws) = false
 abbrev pub any_served : (Handled → Bool) → List Link → Bool
 any_served test links = list_any (λ link. list_any test link.served) links
 
-any_there : {A : Type 0} (test : A → Bool) (xs : List A) (index : ℕ) (x : A) → slice_get xs index ≡ Some x → test x ≡ true → list_any test xs ≡ true
-any_there test [] index x at is = absurd (let none : ⊥ = cc in none)
-any_there test (y ∷ ys) zero x at is = let same : y ≡ x = cc in or_left (test y) (list_any test ys) (subst (λ z. test z ≡ true) (sym same) is)
-any_there test (y ∷ ys) (suc index) x at is = or_right (test y) (list_any test ys) (any_there test ys index x at is)
-
 -- what was served is served still
 pub still_served : (links later : List Link) → ((number : ℕ) (link : Link) → link_at links number ≡ Some link → IsLonger later number link) → (test : Handled → Bool) → any_served test links ≡ true → any_served test later ≡ true
 still_served links later longer test is =
     let found = any_found (λ link. list_any test link.served) links is in
     let next = longer (suc found.0) found.1 found.2.0 in
-    any_there (λ link. list_any test link.served) later found.0 next.now next.there (next.all test found.2.1)
+    at_any (λ link. list_any test link.served) later found.0 next.now next.there (next.all test found.2.1)
 
 pub served_at : (links : List Link) (number : ℕ) (link : Link) (test : Handled → Bool) → link_at links number ≡ Some link → list_any test link.served ≡ true → any_served test links ≡ true
 served_at links zero link test there is = absurd (let none : ⊥ = cc in none)
-served_at links (suc index) link test there is = any_there (λ l. list_any test l.served) links index link there is
+served_at links (suc index) link test there is = at_any (λ l. list_any test l.served) links index link there is
 
 -- CALLS THAT WERE SHOWN ---------------------------------------------------------------------------
 
@@ -187,12 +182,12 @@ module _ (old new : Traced) (inv : Orderly old) (rows : list_all (course_rows ol
             or_right (is_nothing shown.draws) (any_served (gives_to mine (length shown_before) shown.draws) new.machine.links)
             (still_served old.machine.links new.machine.links longer (gives_to mine (length shown_before) shown.draws)
             (served_at old.machine.links at found.link (gives_to mine (length shown_before) shown.draws) found.there
-            (any_more (λ (one : Handled). owned_by mine one.sent && ((one.sent.call == length shown_before) && is_shown_item found.call (shown_call shown) one.served.item)) (gives_to mine (length shown_before) shown.draws) found.link.served
+            (any_goes (λ (one : Handled). owned_by mine one.sent && ((one.sent.call == length shown_before) && is_shown_item found.call (shown_call shown) one.served.item)) (gives_to mine (length shown_before) shown.draws)
             (λ one here.
             let parts = and_parts (owned_by mine one.sent) _ here in
             let both = and_parts (one.sent.call == length shown_before) (is_shown_item found.call (shown_call shown) one.served.item) parts.1 in
             and_from (owned_by mine one.sent) ((one.sent.call == length shown_before) && gives_draws shown.draws one.served.item) parts.0
-            (and_from (one.sent.call == length shown_before) (gives_draws shown.draws one.served.item) both.0 (shown_gives found.call (shown_call shown) one.served.item both.1))) found.among)))
+            (and_from (one.sent.call == length shown_before) (gives_draws shown.draws one.served.item) both.0 (shown_gives found.call (shown_call shown) one.served.item both.1))) found.link.served found.among)))
         by (FromOutcome asking phase completed) =
             let told : (takes old.setting.terms step.before.talk step.before.talk.phase (down.OutcomeIs true true) completed.alive m.tick).1.shown ≡ Some shown =
             subst (λ (i : Input). (talk_step old.setting.terms step.before.talk i m.tick).1.shown ≡ Some shown) completed.input is in

@@ -28,8 +28,8 @@ use Rattle.world_model.specs.Traced.{Traced, Course, courses_of}
 use Rattle.world_model.specs.Words.{held_in}
 use Rattle.world_model.proofs.AllLinks.{at_link}
 use Rattle.world_model.proofs.AllLists.{at_all}
+use Rattle.world_model.proofs.Lists.{at_any}
 use Rattle.world_model.proofs.OneCourse.{any_at}
-use Rattle.world_model.proofs.OpenCalls.{any_from}
 use Rattle.world_model.proofs.ShownFrom.{from_at}
 use Rattle.world_model.proofs.Tests.{eq_from, eq_to}
 
@@ -82,7 +82,7 @@ shown_by t whole number course at_course index shown at =
         ByItem
         (record {
           number = n;
-          had = any_from (λ other. other == n) (held_in course.steps) place n held (eq_to n n refl);
+          had = at_any (λ other. other == n) (held_in course.steps) place n held (eq_to n n refl);
           link = link;
           there = there;
           place = found.0;

@@ -57,9 +57,6 @@ ends_there found index (x ∷ part) call xs go ends =
 abbrev pub Begins : List ShownCall → Type 0
 Begins before = (xs : List ShownCall) → behind_ends 0 0 (before ++ xs) ≡ behind_ends (length before) (length before) xs
 
-pub begins_first : Begins []
-begins_first xs = refl
-
 pub begins_next : (before part : List ShownCall) (call : ShownCall) → Begins before → all_go_on part ≡ true → ends_one call ≡ true → Begins (before ++ (part ++ call ∷ []))
 begins_next before part call begins go ends xs =
     ap (behind_ends 0 0) (append_assoc before (part ++ call ∷ []) xs ∙ ap (λ (rest : List ShownCall). before ++ rest) (append_assoc part (call ∷ []) xs))

@@ -1,7 +1,7 @@
 -- A connection that is not open, and that no request has, stays as it is in each event: what was sent and taken, what is held, and which event
 -- ended it.
 use Rattle.std.proofs.Common.{◌≡◌, ◌≢◌, refl, sym, ap, subst, ◌∙◌, Bool, true, false, ℕ, suc, zero, List, [], ◌∷◌, map, count_by, Option, Some, None, ◌⊎◌, inl, inr, if◌then◌else◌}
-use Rattle.std.specs.Prelude.{◌==◌, slice_get, unwrap_or, option_map}
+use Rattle.std.specs.Prelude.{◌==◌, unwrap_or, option_map}
 use Rattle.std.specs.List.{list_all}
 use Rattle.std.specs.Option.{option_or, option_map_or}
 use Rattle.std.proofs.lemmas.Bool.{and_parts}
@@ -23,13 +23,14 @@ use Rattle.world_model.specs.Crashing.{fallen_link, falls}
 use Rattle.world_model.specs.Outside.{closed_by_drain}
 use Rattle.world_model.proofs.AllLinks.{front_is, open_is}
 use Rattle.world_model.proofs.Ends.{ends_case, handled_case, fallen_case}
-use Rattle.world_model.proofs.HeldEvents.{not_zero}
+use Rattle.world_model.proofs.HadEvents.{not_zero}
+use Rattle.world_model.proofs.Lists.{get_mapped}
 use Rattle.world_model.proofs.Lookups.{with_others, with_own, changed_own, new_others, each_others}
 use Rattle.world_model.proofs.Moves.{IsDoing, Goes, Rests, Waits, Lends, Opens, Fails, Takes, Loses, takes_one, ServesLast, LastNone, LastStopped, LastServed, Happens, Nothing, IsStep, Serves, Cuts, Reaps, Crashes, OpensUp, StopsOpening, Ticks, RunsOutside, Asks, Drains}
 use Rattle.world_model.proofs.Others.{changed_others}
 use Rattle.world_model.proofs.SentLinks.{lent_idle}
 use Rattle.world_model.proofs.Tests.{not_both}
-use Rattle.world_model.proofs.Turning.{either}
+use Rattle.world_model.proofs.Turning.{either, some_same}
 
 -- the same was sent, taken and is held, and it is not open, by the same event
 pub record IsFrozen (a b : Link) : Type 0 where
@@ -51,9 +52,6 @@ self_frozen link shut = record { sent = refl; taken = refl; held = refl; ended =
 as_before : (links : List Link) (number : ℕ) (link : Link) → link_at links number ≡ Some link → link.is_open ≡ false → StaysShut links number link
 as_before links number link there shut = record { now = link; there = there; same = self_frozen link shut }
 
-found_same : (found : Option Link) (a b : Link) → found ≡ Some a → found ≡ Some b → a ≡ b
-found_same found a b one other = let same : Some a ≡ Some b = sym one ∙ other in let is : a ≡ b = cc in is
-
 -- LISTS -------------------------------------------------------------------------------------------
 
 set_shut : (links : List Link) (at : ℕ) (old new : Link) → link_at links at ≡ Some old → (old.is_open ≡ false → IsFrozen old new) → (number : ℕ) (link : Link) → link_at links number ≡ Some link → link.is_open ≡ false
@@ -63,7 +61,7 @@ set_shut links at old new is frozen number link there shut = by (either number a
     by : (number ≡ at) ⊎ (number ≢ at) → StaysShut (with_link links at new) number link
     by (inr apart) = record { now = link; there = with_others links at number new apart ∙ there; same = self_frozen link shut }
     by (inl same) =
-        let equal : old ≡ link = found_same (link_at links at) old link is (ap (link_at links) (sym same) ∙ there) in
+        let equal : old ≡ link = some_same (link_at links at) old link is (ap (link_at links) (sym same) ∙ there) in
         record {
           now = new;
           there = ap (link_at (with_link links at new)) same ∙ with_own links at old new is;
@@ -82,14 +80,9 @@ changed_shut change links at frozen number link there shut = by (either number a
       same = frozen link shut;
     }
 
-mapped_get : (change : Link → Link) (links : List Link) (index : ℕ) (link : Link) → slice_get links index ≡ Some link → slice_get (map change links) index ≡ Some (change link)
-mapped_get change [] index link is = absurd (let none : ⊥ = cc in none)
-mapped_get change (first ∷ links) zero link is = ap Some (let same : first ≡ link = cc in ap change same)
-mapped_get change (first ∷ links) (suc index) link is = mapped_get change links index link is
-
 pub mapped_at : (change : Link → Link) (links : List Link) (number : ℕ) (link : Link) → link_at links number ≡ Some link → link_at (map change links) number ≡ Some (change link)
 mapped_at change links zero link is = absurd (let none : ⊥ = cc in none)
-mapped_at change links (suc index) link is = mapped_get change links index link is
+mapped_at change links (suc index) link is = get_mapped change links index link is
 
 -- then all are changed
 mapped_shut : (change : Link → Link) (links : List Link) → ((link : Link) → link.is_open ≡ false → IsFrozen link (change link)) → (number : ℕ) (link : Link) → StaysShut links number link → StaysShut (map change links) number link

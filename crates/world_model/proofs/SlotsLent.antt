@@ -1,5 +1,5 @@
 -- The pool counts the slots that requests hold, behind each event.
-use Rattle.std.proofs.Common.{◌≡◌, refl, sym, ap, subst, ◌∙◌, Bool, true, false, ℕ, ◌+◌, ◌-◌, ◌≤◌, ◌&&◌, cond, List, [], ◌∷◌, count_by, Option, Some, if◌then◌else◌, arith}
+use Rattle.std.proofs.Common.{◌≡◌, refl, sym, ap, subst, ◌∙◌, Bool, true, false, ℕ, ◌+◌, ◌-◌, ◌≤◌, ◌&&◌, cond, List, count_by, Option, Some, if◌then◌else◌, arith}
 use Rattle.std.specs.Prelude.{◌==◌, not, nat_le, drop}
 use Rattle.std.specs.Option.{option_map_or}
 use Rattle.std.proofs.lemmas.Bool.{and_parts, and_from}
@@ -12,7 +12,8 @@ use Rattle.client_model.specs.Released.{has_slot, released}
 use Rattle.world_model.specs.Settings.{Setting}
 use Rattle.world_model.specs.Clients.{Doing, Client, client_at, with_client, after_hold}
 use Rattle.world_model.specs.Traced.{Course, courses_of_clients}
-use Rattle.world_model.proofs.Tests.{eq_from, eq_to, le_from, le_to}
+use Rattle.world_model.proofs.IdleEvents.{never_waits}
+use Rattle.world_model.proofs.Tests.{eq_from, eq_to, le_from, le_to, one_if, none_if}
 use Rattle.world_model.proofs.Counts.{clients_count, with_count}
 
 -- COUNTS ------------------------------------------------------------------------------------------
@@ -34,10 +35,6 @@ slots_count setting number clients =
 pub data IsTaken (a : Slots) : Bool → Slots → Type 0 where
   NoneTaken : (b : Slots) → b.lent ≡ a.lent → b.max ≡ a.max → IsTaken a false b
   OneTaken : (b : Slots) → b.lent ≡ a.lent + 1 → b.max ≡ a.max → a.lent + 1 ≤ a.max → IsTaken a true b
-
-never_waits : (idle : List ℕ) → lends idle ≡ take.Waiting → ⊥
-never_waits [] is = let none : ⊥ = cc in none
-never_waits (first ∷ later) is = let none : ⊥ = cc in none
 
 has_room : (max lent ahead : ℕ) → nat_le max (lent + ahead) ≡ false → lent + 1 ≤ max
 has_room max lent ahead is = grind (arith, nat_tests)
@@ -87,14 +84,6 @@ lent_count pool clients here = eq_from pool.lent (count_by holds_slot_now client
 
 lent_most : (pool : Slots) (clients : List Client) → lent_test pool clients ≡ true → pool.lent ≤ pool.max
 lent_most pool clients here = le_from pool.lent pool.max (and_parts (pool.lent == count_by holds_slot_now clients) (nat_le pool.lent pool.max) here).1
-
-one_if : (test : Bool) → test ≡ true → ◌≡◌ {A = ℕ} (cond test 1 0) 1
-one_if true is = refl
-one_if false is = absurd (let none : ⊥ = cc in none)
-
-none_if : (test : Bool) → test ≡ false → ◌≡◌ {A = ℕ} (cond test 1 0) 0
-none_if true is = absurd (let none : ⊥ = cc in none)
-none_if false is = refl
 
 -- the request in course, or none, has so many slots afterwards
 slot_kept : (setting : Setting) (number : ℕ) (client : Client) (next : Doing) (held : Hold) → (held ≡ hold.Keep → has_slot next.talk.phase ≡ true) → holds_slot_now (after_hold setting number client next held) ≡ slot_after held

@@ -36,6 +36,7 @@ use Rattle.world_model.proofs.FateSteps.{no_connection, Taking, on, out}
 use Rattle.world_model.proofs.FateTaken.{plain_none}
 use Rattle.world_model.proofs.Happened.{at_event}
 use Rattle.world_model.proofs.Held.{held_now}
+use Rattle.world_model.proofs.HeldSaid.{last_behind}
 use Rattle.world_model.proofs.LinkOut.{reps_more, idle_none, taken_none}
 use Rattle.world_model.proofs.Moves.{next_number}
 use Rattle.world_model.proofs.Placing.{IsLent, lent_at, said as spoken_frames}
@@ -46,10 +47,6 @@ use Rattle.world_model.proofs.StepFacts.{first_step, first_doing}
 use Rattle.world_model.proofs.Tests.{eq_from, not_both}
 
 -- FRAMES ------------------------------------------------------------------------------------------
-
-last_append : {A : Type 0} (found : Option A) (xs ys : List A) → last_or found (xs ++ ys) ≡ last_or (last_or found xs) ys
-last_append found [] ys = refl
-last_append found (x ∷ xs) ys = last_append (Some x) xs ys
 
 -- where the last one that is answered is a call with a commit, and there is none among these, none of these is answered
 none_answered : (found : Option Sent) (frames : List Sent) (last : Sent) → last_or found (filter is_rep frames) ≡ Some last → is_commit_call last ≡ true → list_any is_commit_call frames ≡ false → filter is_rep frames ≡ []
@@ -74,7 +71,7 @@ none_out frames link event level none = sends_alike (λ (l : Link). has_commit_o
     by : (last : Option Sent) → last_or None (filter is_rep (link.sent ++ frames)) ≡ last → option_map_or is_commit_call last false ≡ true → (count_reps (link.sent ++ frames) == length link.taken + 1) ≡ true → ⊥
     by None is commits out = let nothing : ⊥ = cc in nothing
     by (Some last) is commits out =
-        let split : last_or (last_or None (filter is_rep link.sent)) (filter is_rep frames) ≡ Some last = sym (ap (last_or None) (filter-append is_rep link.sent frames) ∙ last_append None (filter is_rep link.sent) (filter is_rep frames)) ∙ is in
+        let split : last_or (last_or None (filter is_rep link.sent)) (filter is_rep frames) ≡ Some last = sym (ap (last_or None) (filter-append is_rep link.sent frames) ∙ last_behind None (filter is_rep link.sent) (filter is_rep frames)) ∙ is in
         let silent : filter is_rep frames ≡ [] = none_answered (last_or None (filter is_rep link.sent)) frames last split commits none in
         let few : count_reps frames ≡ 0 = sym (length-filter is_rep frames) ∙ ap length silent in
         let sum : count_reps (link.sent ++ frames) ≡ count_reps link.sent + count_reps frames = reps_more link.sent frames in

@@ -1,5 +1,5 @@
 -- What the grammar of a connection says of its calls: between two with no Begin between them no other request is, and no marked one stands behind one without the mark.
-use Rattle.std.proofs.Common.{◌≡◌, refl, sym, ap, ◌∙◌, arith, Bool, true, false, ℕ, suc, zero, ◌<◌, ◌&&◌, ◌||◌, List, [], ◌∷◌, Option, Some, None}
+use Rattle.std.proofs.Common.{◌≡◌, refl, sym, ap, ◌∙◌, arith, Bool, true, false, ℕ, suc, zero, ◌<◌, ◌&&◌, ◌||◌, List, [], ◌∷◌, Option, Some}
 use Rattle.std.specs.Prelude.{not, is_none, is_some, slice_get}
 use Rattle.std.proofs.lemmas.Bool.{and_parts}
 use Rattle.svc_values.specs.declared.frame.Up.{Up}
@@ -11,7 +11,7 @@ use Rattle.world_model.specs.Shown.{is_call, is_marked}
 use Rattle.world_model.specs.Wire.{is_alter, Stage, New, Greeted, Told, Repeated, Begun, Rested, Shut, Wrong, next_stage, is_right, stage_if}
 use Rattle.world_model.proofs.AskedNear.{owners_are, right_before, stages}
 use Rattle.world_model.proofs.RepeatedGiven.{if_right}
-use Rattle.world_model.proofs.SameSelf.{owner_self}
+use Rattle.world_model.proofs.SameSelf.{owners_self}
 
 abbrev pub begins : Up → Bool
 begins (up.Begin settings) = true
@@ -27,10 +27,6 @@ in_request owner (Rested one) = true
 in_request owner Shut = true
 in_request owner Wrong = true
 in_request owner _ = false
-
-self_same : (owner : Option Owner) → same_owners owner owner ≡ true
-self_same None = refl
-self_same (Some owner) = owner_self owner
 
 if_in : (owner : Option Owner) (test : Bool) (stage : Stage) → (test ≡ true → in_request owner stage ≡ true) → in_request owner (stage_if test stage) ≡ true
 if_in owner true stage known = known refl
@@ -81,9 +77,9 @@ calls_in owner Wrong other (up.Call false kept call) in_it right called = absurd
 calls_in owner stage other frame in_it right called = absurd (let none : ⊥ = cc in none)
 
 begins_in : (stage : Stage) (owner : Option Owner) (frame : Up) → is_right (next_stage stage owner frame) ≡ true → is_call frame ≡ true → in_request owner (next_stage stage owner frame) ≡ true
-begins_in (Repeated one) owner (up.Call true kept call) right called = if_in owner (same_owners one owner && not (is_alter call)) (Repeated owner) (λ both. self_same owner)
-begins_in (Repeated one) owner (up.Call false kept call) right called = if_in owner (same_owners one owner) (Begun owner) (λ same. self_same owner)
-begins_in (Begun one) owner (up.Call false kept call) right called = if_in owner (same_owners one owner) (Begun owner) (λ same. self_same owner)
+begins_in (Repeated one) owner (up.Call true kept call) right called = if_in owner (same_owners one owner && not (is_alter call)) (Repeated owner) (λ both. owners_self owner)
+begins_in (Repeated one) owner (up.Call false kept call) right called = if_in owner (same_owners one owner) (Begun owner) (λ same. owners_self owner)
+begins_in (Begun one) owner (up.Call false kept call) right called = if_in owner (same_owners one owner) (Begun owner) (λ same. owners_self owner)
 begins_in (Begun one) owner (up.Call true kept call) right called = refl
 begins_in New owner (up.Call true kept call) right called = refl
 begins_in New owner (up.Call false kept call) right called = refl

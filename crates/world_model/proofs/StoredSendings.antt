@@ -42,24 +42,25 @@ use Rattle.world_model.proofs.CallFrames.{call_answered, calls_same, unmarked_sa
 use Rattle.world_model.proofs.CallRows.{IsFrom, is_from, less_or, rank, ranked, same_place}
 use Rattle.world_model.proofs.CallsApart.{WasSent, at_held}
 use Rattle.world_model.proofs.CallsBefore.{alone, count_taken, fits_at, handled, in_a_row, item_mark, start, taken_shown, unmarked_called}
-use Rattle.world_model.proofs.CommittedSendings.{any_filtered, any_goes, any_pair, any_reversed, calls_at, commit_alike, commit_unmarked, either_false, filter_any, pair_sends, sends_at}
+use Rattle.world_model.proofs.CommittedSendings.{any_filtered, any_pair, any_reversed, calls_at, commit_alike, commit_unmarked, either_false, filter_any, pair_sends, sends_at}
 use Rattle.world_model.proofs.FateLinks.{owned_same}
-use Rattle.world_model.proofs.Fates.{Fate, Waits, fate_from, none_is}
+use Rattle.world_model.proofs.Fates.{Fate, Waits, fate_from}
 use Rattle.world_model.proofs.GainedQuiet.{number_named}
 use Rattle.world_model.proofs.Gaining.{links_apart}
+use Rattle.world_model.proofs.HeldAgain.{counted_few}
 use Rattle.world_model.proofs.HeldBefore.{held_below}
 use Rattle.world_model.proofs.KeptOuts.{outs_from}
 use Rattle.world_model.proofs.KeptStored.{entry_there}
+use Rattle.world_model.proofs.KnownLinks.{known_of}
 use Rattle.world_model.proofs.LinkCounts.{Known}
 use Rattle.world_model.proofs.LinkLives.{implied}
-use Rattle.world_model.proofs.LinkSettled.{known_at}
+use Rattle.world_model.proofs.Lists.{any_goes, at_any}
 use Rattle.world_model.proofs.OneCourse.{any_at, one_course}
-use Rattle.world_model.proofs.OpenCalls.{any_from}
 use Rattle.world_model.proofs.ReplyFits.{last_at}
 use Rattle.world_model.proofs.SendingLookups.{InSendings, in_sendings, its_owner, of_all}
 use Rattle.world_model.proofs.StoredCommits.{stores_item}
-use Rattle.world_model.proofs.Storing.{Answered, Stopped, Storing, any_of_count, at_least, blocked_says, held_session, item_commit, last_place, of_session, shown_answers, storing}
-use Rattle.world_model.proofs.Tests.{eq_from, eq_to, le_from}
+use Rattle.world_model.proofs.Storing.{Answered, Stopped, Storing, any_of_count, blocked_says, held_session, item_commit, last_place, of_session, shown_answers, storing}
+use Rattle.world_model.proofs.Tests.{eq_from, eq_to, le_from, none_is}
 use Rattle.world_model.proofs.ToldCalls.{Replied, ShownAt, TookReply, handled_is, replied, reply_says, says, sent_at, told_call, took_reply}
 use Rattle.world_model.proofs.TriedApart.{is_under, under_at}
 use Rattle.world_model.proofs.Turning.{either}
@@ -100,7 +101,7 @@ module _ (t : Traced) (inv : Invariant t) (shows : show_replies t ≡ true) (fit
   most_taken = count_taken t inv shows fit index link there number course at_course had
 
   known : Known link
-  known = known_at t inv.orderly (suc index) link there
+  known = known_of t inv.orderly (suc index) link there
 
   -- its sending, under an identifier that has its entry
   pub record StoredSending : Type 0 where
@@ -121,7 +122,7 @@ module _ (t : Traced) (inv : Invariant t) (shows : show_replies t ≡ true) (fit
 
   under_this : (x : Ltxid) (m : ℕ) (s : Sending) → slice_get (commit_sendings course) m ≡ Some s → s.at ≡ count → is_open_or_committed s ≡ true → s.ltxid ≡ x → list_any (under_at (λ at. at == count) x) (commit_sendings course) ≡ true
   under_this x m s at_s at open_so same =
-      any_from (under_at (λ at. at == count) x) (commit_sendings course) m s at_s
+      at_any (under_at (λ at. at == count) x) (commit_sendings course) m s at_s
       (and_from (s.at == count) (is_under x s) (eq_to s.at count at) (and_from (is_open_or_committed s) (same_ltxid x s.ltxid) open_so ((same_ltxid_decides x s.ltxid).1 (sym same))))
 
   -- WHERE IT IS OUT -------------------------------------------------------------------------------
@@ -185,7 +186,7 @@ module _ (t : Traced) (inv : Invariant t) (shows : show_replies t ≡ true) (fit
             let x : Ltxid = found.sending.ltxid in
             let of_it = of_session x link.session own in
             let below = held_below link known (alone t inv shows fit index link there number course at_course had) last end ends_at (ap is_commit is ∙ committed) long in
-            let least = at_least (number_of t.entries link) link.commits (last_is_stopped_commit link) (at_link (is_counted t) t.machine.links (suc index) link inv.orderly.number.counted there) in
+            let least = counted_few (number_of t.entries link) link.commits (last_is_stopped_commit link) (at_link (is_counted t) t.machine.links (suc index) link inv.orderly.number.counted there) in
             let named : number_of t.entries link ≡ entries_of t.entries (session_of x) = number_named t.entries link of_it.one of_it.is ∙ ap (entries_of t.entries) (sym of_it.same) in
             let held_is : held_number link ≡ x.number = ap (λ (h : Option Ltxid). option_map_or (λ (y : Ltxid). y.number) h 0) held in
             let first : entries_of [] (session_of x) ≡ 0 = refl in
@@ -206,7 +207,7 @@ module _ (t : Traced) (inv : Invariant t) (shows : show_replies t ≡ true) (fit
         sent_so : has_sending t entry.1.0 ≡ true
         sent_so =
             implied (is_of_link t entry.1.0) (has_sending t entry.1.0)
-            (any_from (λ (l : Link). option_map_or (λ session. is_of_session session entry.1.0.ltxid) l.session false) t.machine.links index link there (ap (λ (y : Ltxid). option_map_or (λ session. is_of_session session y) link.session false) its ∙ own))
+            (at_any (λ (l : Link). option_map_or (λ session. is_of_session session entry.1.0.ltxid) l.session false) t.machine.links index link there (ap (λ (y : Ltxid). option_map_or (λ session. is_of_session session y) link.session false) its ∙ own))
             (at_all (λ (one : Entry). implies (is_of_link t one) (has_sending t one)) t.entries entry.0 entry.1.0 inv.once.entries entry.1.1.0)
 
         found : InSendings t (λ (s : Sending). is_open_or_committed s && same_ltxid s.ltxid entry.1.0.ltxid)
@@ -276,7 +277,7 @@ module _ (t : Traced) (inv : Invariant t) (shows : show_replies t ≡ true) (fit
 
       among : list_any (calls_at count) (sent_on course link) ≡ true
       among =
-          any_from (calls_at count) (sent_on course link) (rank (λ (s : Sent). owned_by course.owner s && is_unmarked s) link.sent last) was.sent
+          at_any (calls_at count) (sent_on course link) (rank (λ (s : Sent). owned_by course.owner s && is_unmarked s) link.sent last) was.sent
           (ranked (λ (s : Sent). owned_by course.owner s && is_unmarked s) link.sent last was.sent was.at (and_from (owned_by course.owner was.sent) (is_unmarked was.sent) mine_was (commit_unmarked was.sent.frame commit_was)))
           (and_from (was.sent.call == count) (is_commit_call was.sent) (eq_to was.sent.call count (sym was.call)) commit_was)
 

@@ -1,5 +1,5 @@
 -- How the call that stored a transaction was served: as a commit that was answered, or stopped, with the entry of what is held; and what is known of one identifier.
-use Rattle.std.proofs.Common.{◌≡◌, refl, sym, ap, subst, ◌∙◌, arith, Bool, true, false, ℕ, suc, zero, ◌+◌, ◌≤◌, ◌&&◌, ◌||◌, cond, length, List, [], ◌∷◌, Option, Some, None, ◌⊎◌, inl, inr}
+use Rattle.std.proofs.Common.{◌≡◌, refl, sym, ap, subst, ◌∙◌, arith, Bool, true, false, ℕ, suc, zero, ◌+◌, ◌&&◌, ◌||◌, cond, length, List, [], ◌∷◌, Option, Some, None, ◌⊎◌, inl, inr}
 use Rattle.std.specs.Prelude.{◌==◌, count_by, is_none, is_some, not, slice_get}
 use Rattle.std.specs.List.{list_all, list_any, last_or}
 use Rattle.std.specs.Option.{option_map_or}
@@ -33,9 +33,10 @@ use Rattle.world_model.specs.Serving.{is_item_of, reply_of}
 use Rattle.world_model.specs.StoredOnce.{stood_in}
 use Rattle.world_model.specs.Traced.{Traced}
 use Rattle.world_model.specs.Wire.{is_handled, same_replies}
+use Rattle.world_model.proofs.AnsweredCalls.{crashed_not}
 use Rattle.world_model.proofs.LinkLives.{implied}
 use Rattle.world_model.proofs.StoredCommits.{stores_item}
-use Rattle.world_model.proofs.Tests.{eq_from, same_session_is}
+use Rattle.world_model.proofs.Tests.{same_session_is}
 use Rattle.world_model.proofs.ToldCalls.{ShownAt, says}
 
 -- THE CALL ----------------------------------------------------------------------------------------
@@ -53,13 +54,6 @@ any_of_count test (x ∷ xs) is = by (test x) (sum_by-cons (λ y. cond (test y) 
     by true sum later = refl
     by false sum later = later (omega (arith, sum, is))
 
-pub at_least : (n commits : ℕ) (stopped : Bool) → ((n == commits) || ((n == commits + 1) && stopped)) ≡ true → commits ≤ n
-at_least n commits stopped is = by (or_cases (n == commits) ((n == commits + 1) && stopped) is)
-  where
-    by : ((n == commits) ≡ true) ⊎ (((n == commits + 1) && stopped) ≡ true) → commits ≤ n
-    by (inl same) = let equal = eq_from n commits same in omega (arith, equal)
-    by (inr more) = let equal = eq_from n (commits + 1) (and_parts (n == commits + 1) stopped more).0 in omega (arith, equal)
-
 -- the identifier is of a session
 pub record OfSession (x : Ltxid) (session : Option SessionId) : Type 0 where
   pub one : SessionId
@@ -74,11 +68,6 @@ of_session x (Some one) is = record { one = one; is = refl; same = same_session_
 pub data Storing (t : Traced) (link : Link) (end : Handled) : Type 0 where
   Answered : (called : Call) (answers : List Answer) (draws : List Draw) → end.served.item ≡ item.Call false called answers draws → is_item_of end.sent.frame (item.Call false called answers draws) ≡ true → ends_committed answers ≡ true → has_commit called ≡ true → Storing t link end
   Stopped : (x : Ltxid) → link.held ≡ Some x → has_entry t.entries x ≡ true → is_none end.reply ≡ true → Storing t link end
-
-crashed_call : {A : Type 0} (frame : Up) (marked : Bool) (called : Call) (answers : List Answer) (draws : List Draw) → is_crashed_item frame (item.Call marked called answers draws) ≡ true → A
-crashed_call (up.Call replay kept sent) marked called answers draws is = absurd (let none : ⊥ = cc in none)
-crashed_call (up.Outcome x) marked called answers draws is = absurd (let none : ⊥ = cc in none)
-crashed_call frame marked called answers draws is = absurd (let none : ⊥ = cc in none)
 
 ordinary_crash : {A : Type 0} (frame : Up) (marked : Bool) (called : Call) → is_item_of frame (item.CrashedCall marked called) ≡ true → A
 ordinary_crash (up.Call replay kept sent) marked called is = absurd (let none : ⊥ = cc in none)
@@ -110,7 +99,7 @@ storing t link n end handled_so fits stores = by end.served.item refl fits store
 
         cases : ((is_item_of end.sent.frame end.served.item && same_replies end.reply (reply_of end.served.session n end.served.item)) ≡ true) ⊎ ((is_crashed_item end.sent.frame end.served.item && is_none end.reply) ≡ true) → Storing t link end
         cases (inl so) = plain marked both.0 is (subst (λ (i : Item). is_item_of end.sent.frame i ≡ true) is (and_parts (is_item_of end.sent.frame end.served.item) (same_replies end.reply (reply_of end.served.session n end.served.item)) so).0)
-        cases (inr so) = crashed_call end.sent.frame marked called answers draws (subst (λ (i : Item). is_crashed_item end.sent.frame i ≡ true) is (and_parts (is_crashed_item end.sent.frame end.served.item) (is_none end.reply) so).0)
+        cases (inr so) = crashed_not end.sent.frame marked called answers draws (subst (λ (i : Item). is_crashed_item end.sent.frame i ≡ true) is (and_parts (is_crashed_item end.sent.frame end.served.item) (is_none end.reply) so).0)
     by (item.CrashedCall marked called) is fits stores = cases ways
       where
         cases : ((is_item_of end.sent.frame end.served.item && same_replies end.reply (reply_of end.served.session n end.served.item)) ≡ true) ⊎ ((is_crashed_item end.sent.frame end.served.item && is_none end.reply) ≡ true) → Storing t link end

@@ -1,5 +1,5 @@
 -- A request that has no slot sent nothing on any connection; and each request in course is ready.
-use Rattle.std.proofs.Common.{◌≡◌, refl, sym, ap, subst, ◌∙◌, Bool, true, false, ℕ, suc, zero, ◌+◌, ◌<◌, ◌&&◌, length, List, [], ◌∷◌, Option, Some, None, arith}
+use Rattle.std.proofs.Common.{◌≡◌, ◌≢◌, refl, sym, ap, subst, ◌∙◌, Bool, true, false, ℕ, suc, zero, ◌+◌, ◌<◌, ◌&&◌, length, List, [], ◌∷◌, Option, Some, None, arith}
 use Rattle.std.specs.Prelude.{◌==◌, not, option_map, slice_get}
 use Rattle.std.specs.List.{list_all, list_any}
 use Rattle.std.specs.Option.{option_or, option_map_or}
@@ -154,18 +154,18 @@ module _ (setting : Setting) (owner : Owner) (connection : ℕ) where
 -- FRAMES ------------------------------------------------------------------------------------------
 
 -- the owners of the frames on a connection held it
-owned_at : (courses : List Course) (start : ℕ) (links : List Link) (index number : ℕ) (link : Link) → number ≡ start + index → owned_rightly courses start links ≡ true → slice_get links index ≡ Some link
+pub owned_from : (courses : List Course) (start : ℕ) (links : List Link) (index number : ℕ) (link : Link) → number ≡ start + index → owned_rightly courses start links ≡ true → slice_get links index ≡ Some link
     → list_all (λ sent. option_map_or (is_held_by courses number) sent.owner true) link.sent ≡ true
-owned_at courses start [] index number link same owned is = absurd (let none : ⊥ = cc in none)
-owned_at courses start (first ∷ links) zero number link same owned is =
+owned_from courses start [] index number link same owned is = absurd (let none : ⊥ = cc in none)
+owned_from courses start (first ∷ links) zero number link same owned is =
     let here : first ≡ link = cc in
     let now : start ≡ number = omega arith in
     subst (λ (one : Link). list_all (λ sent. option_map_or (is_held_by courses number) sent.owner true) one.sent ≡ true) here
     (subst (λ (n : ℕ). list_all (λ sent. option_map_or (is_held_by courses n) sent.owner true) first.sent ≡ true) now
     (and_parts (list_all (λ sent. option_map_or (is_held_by courses start) sent.owner true) first.sent) (owned_rightly courses (start + 1) links) owned).0)
-owned_at courses start (first ∷ links) (suc index) number link same owned is =
+owned_from courses start (first ∷ links) (suc index) number link same owned is =
     let now : number ≡ (start + 1) + index = omega arith in
-    owned_at courses (start + 1) links index number link now (and_parts (list_all (λ sent. option_map_or (is_held_by courses start) sent.owner true) first.sent) (owned_rightly courses (start + 1) links) owned).1 is
+    owned_from courses (start + 1) links index number link now (and_parts (list_all (λ sent. option_map_or (is_held_by courses start) sent.owner true) first.sent) (owned_rightly courses (start + 1) links) owned).1 is
 
 pub same_owner_is : (a b : Owner) → same_owner a b ≡ true → a ≡ b
 same_owner_is a b same = λ i. record { client = one i; place = other i }
@@ -178,6 +178,13 @@ same_owner_is a b same = λ i. record { client = one i; place = other i }
 
     other : a.place ≡ b.place
     other = eq_from a.place b.place parts.1
+
+pub other_owner : (a b : Owner) → a ≢ b → same_owner a b ≡ false
+other_owner a b differs = by (same_owner a b) refl
+  where
+    by : (test : Bool) → same_owner a b ≡ test → test ≡ false
+    by true is = absurd (differs (same_owner_is a b is))
+    by false is = refl
 
 pub owned_is : (owner : Owner) (sent : Sent) → owned_by owner sent ≡ true → sent.owner ≡ Some owner
 owned_is owner sent is = by sent.owner is
@@ -204,7 +211,7 @@ strange_at t index client (suc at) link owned is none there =
     let second : suc at ≡ 1 + at = omega arith in
     let never : is_held_by (courses_of t) (suc at) owner ≡ false = all_none t.setting owner (suc at) 1 t.machine.clients index client first is refl none in
     weaker_all (λ (sent : Sent). option_map_or (is_held_by (courses_of t) (suc at)) sent.owner true) (λ (sent : Sent). not (owned_by owner sent)) link.sent
-    (λ sent held. not_mine (courses_of t) (suc at) owner sent never held) (owned_at (courses_of t) 1 t.machine.links at (suc at) link second owned there)
+    (λ sent held. not_mine (courses_of t) (suc at) owner sent never held) (owned_from (courses_of t) 1 t.machine.links at (suc at) link second owned there)
 
 pub doing_strange : (t : Traced) (number : ℕ) (client : Client) (connection : ℕ) (link : Link) → owned_rightly (courses_of t) 1 t.machine.links ≡ true → client_at t.machine.clients number ≡ Some client → had_none client.now ≡ true
     → link_at t.machine.links connection ≡ Some link → is_strange (record { client = number; place = length client.past }) link ≡ true

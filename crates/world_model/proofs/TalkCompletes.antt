@@ -1,26 +1,15 @@
 -- Where an outcome says committed and completed, the lost call is shown with that one answer.
-use Rattle.std.proofs.Common.{◌≡◌, refl, ap, ◌∙◌, Bool, true, false, ℕ, [], ◌∷◌, ◌&&◌, Option, Some, None, if◌then◌else◌}
-use Rattle.std.specs.Prelude.{not}
+use Rattle.std.proofs.Common.{◌≡◌, ap, ◌∙◌, Bool, true, ℕ, [], ◌∷◌, Option, Some}
 use Rattle.svc_values.specs.declared.answer.Answer.TheVariants as answer
 use Rattle.svc_values.specs.declared.call.Call.{Call}
 use Rattle.svc_values.specs.declared.frame.Down.TheVariants as down
-use Rattle.request_bounds.specs.declared.rule.Why.TheVariants as why
-use Rattle.client_model.specs.declared.act.Failed.TheVariants.{Disabled}
 use Rattle.client_model.specs.declared.act.Shown.{Shown}
 use Rattle.client_model.specs.declared.input.Input.TheVariants.{Took}
 use Rattle.client_model.specs.States.{Asking, Living, resumed}
-use Rattle.client_model.specs.Talk.{fails, begin_of, sends_call, talk_shown, with_shown, after_completed, on_completed, takes, next_call, talk_step}
+use Rattle.client_model.specs.Talk.{talk_shown, with_shown, on_completed, takes, next_call, talk_step}
 use Rattle.client_model.specs.Terms.{Terms, Talk, Phase, Asked}
 use Rattle.client_model.specs.Told.{completed_on}
-
-behind_shows : (terms : Terms) (talk : Talk) (state : Living) (event : ℕ) (alive : Bool) (shown : Shown) (now : ℕ) (next : Option Call) → (after_completed terms talk state event alive shown now next).1.shown ≡ Some shown
-behind_shows terms talk state event alive shown now None = refl
-behind_shows terms talk state event alive shown now (Some call) = by (state.track.set_shown && not terms.rules.keeps) alive
-  where
-    by : (gone live : Bool) → (if gone then fails talk live (Some shown) (Disabled (why.StateLost state.track.call) event) else sends_call terms talk state live (begin_of talk ∷ []) (Some shown) now call).1.shown ≡ Some shown
-    by true live = refl
-    by false true = refl
-    by false false = refl
+use Rattle.world_model.proofs.TalkShows.{behind_shows}
 
 -- that it is committed is all that is known of its answers
 abbrev pub completed_as : Asking → Shown

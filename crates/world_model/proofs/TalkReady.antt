@@ -35,6 +35,7 @@ use Rattle.world_model.specs.Parts.{implies}
 use Rattle.world_model.specs.Wire.{is_alter}
 use Rattle.world_model.specs.Ready.{is_unbegun, alters_none, is_recording, forgets_commits, repeats_rightly, is_repeatable, alters_nothing, records_rightly}
 use Rattle.world_model.proofs.AllLists.{append_all, one_all}
+use Rattle.world_model.proofs.Tests.{implied_by, met, none_some}
 
 -- RULES -------------------------------------------------------------------------------------------
 
@@ -63,18 +64,6 @@ records_same terms talk (Greeting lost) = refl
 records_same terms talk (Asked asking) = refl
 records_same terms talk (Running state) = refl
 records_same terms talk (Replaying state) = refl
-
-none_some : {A : Type 0} (one : Option A) → is_none one ≡ true → is_some one ≡ true → ⊥
-none_some None is other = let none : ⊥ = cc in none
-none_some (Some x) is other = let none : ⊥ = cc in none
-
-pub unless : (test one : Bool) → (test ≡ true → one ≡ true) → implies test one ≡ true
-unless true one here = here refl
-unless false one here = refl
-
-met : (test one : Bool) → implies test one ≡ true → test ≡ true → one ≡ true
-met true one here is = here
-met false one here is = absurd (let none : ⊥ = cc in none)
 
 -- CALLS -------------------------------------------------------------------------------------------
 
@@ -107,8 +96,8 @@ module _ (terms : Terms) (right : AreRight terms.rules) where
   sent_ready talk state true before shown now one next may dead =
       let track : Track = with_submitted terms state.track one now in
       and_from (is_repeatable terms track) (implies (is_none track.why) (alters_nothing talk))
-      (unless (is_none track.why) (repeats_rightly terms track) (λ none. let both = first_none state.track.why (terms.rules.submit one state.track.call) none in may both.0 both.1))
-      (unless (is_none track.why) (alters_nothing talk)
+      (implied_by (is_none track.why) (repeats_rightly terms track) (λ none. let both = first_none state.track.why (terms.rules.submit one state.track.call) none in may both.0 both.1))
+      (implied_by (is_none track.why) (alters_nothing talk)
       (λ none. next_alters talk one next (no_reason one state.track.call (first_none state.track.why (terms.rules.submit one state.track.call) none).1)))
   sent_ready talk state false before shown now one next may dead = and_from (is_repeatable terms state.track) true (dead refl) refl
 
@@ -145,7 +134,7 @@ module _ (terms : Terms) (right : AreRight terms.rules) where
       by : (full : Bool) → is_repeatable terms
           (if full then record track { why = Some (why.Full terms.recorded) } else record track { recorder = record track.recorder { calls = track.recorder.calls ++ one ∷ [] } }) ≡ true
       by true = refl
-      by false = unless (is_none track.why) (repeats_rightly terms (record track { recorder = record track.recorder { calls = track.recorder.calls ++ one ∷ [] } })) (λ is. noted)
+      by false = implied_by (is_none track.why) (repeats_rightly terms (record track { recorder = record track.recorder { calls = track.recorder.calls ++ one ∷ [] } })) (λ is. noted)
 
   replied_ready : (track : Track) (one : Recorded) (reply : After) → is_repeatable terms track ≡ true → (is_none track.why ≡ true → (not (is_alter one.call) ≡ true) ⊎ (is_recording reply ≡ false))
       → is_repeatable terms (with_reply terms track one reply) ≡ true
@@ -155,7 +144,7 @@ module _ (terms : Terms) (right : AreRight terms.rules) where
       by (inl plain) = plain
       by (inr never) = absurd (let none : ⊥ = cc in none)
   replied_ready track one after.Purge here may =
-      unless (is_none track.why) (forgets_commits terms) (λ none. (and_parts (alters_none track.recorder.calls) (forgets_commits terms) (met (is_none track.why) (repeats_rightly terms track) here none)).1)
+      implied_by (is_none track.why) (forgets_commits terms) (λ none. (and_parts (alters_none track.recorder.calls) (forgets_commits terms) (met (is_none track.why) (repeats_rightly terms track) here none)).1)
   replied_ready track one (after.Stop reason) here may = by track.why
     where
       by : (first : Option Why) → implies (is_none (option_or first (Some reason))) (repeats_rightly terms track) ≡ true
@@ -196,7 +185,7 @@ module _ (terms : Terms) (right : AreRight terms.rules) where
 
   marked_ready : (talk : Talk) (state : Repeating) (alive : Bool) (before : List Up) (now : ℕ) (one : Option Recorded) → repeats_rightly terms state.track ≡ true → talk_ready alive terms (sends_marked terms talk state alive before now one).0 ≡ true
   marked_ready talk state alive before now None here =
-      next_ready talk (submitted state) alive before None now (next_call talk) refl (λ one none other. here) (λ dead. unless (is_none state.track.why) (repeats_rightly terms state.track) (λ none. here))
+      next_ready talk (submitted state) alive before None now (next_call talk) refl (λ one none other. here) (λ dead. implied_by (is_none state.track.why) (repeats_rightly terms state.track) (λ none. here))
   marked_ready talk state alive before now (Some one) here = here
 
   compared_ready : (talk : Talk) (state : Repeating) (seen answers : List ℕ) (alive : Bool) (now : ℕ) (test : Bool) → repeats_rightly terms state.track ≡ true
@@ -295,4 +284,4 @@ module _ (terms : Terms) (right : AreRight terms.rules) where
       by (Greeting (Some lost)) left is = is
       by (Asked asking) left is = is
       by (Running state) left is = (and_parts (is_repeatable terms state.track) true is).0
-      by (Replaying state) left is = unless (is_none state.track.why) (repeats_rightly terms state.track) (λ none. is)
+      by (Replaying state) left is = implied_by (is_none state.track.why) (repeats_rightly terms state.track) (λ none. is)

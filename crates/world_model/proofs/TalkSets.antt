@@ -3,7 +3,7 @@ use Rattle.std.proofs.Common.{◌≡◌, refl, sym, ap, subst, ◌∙◌, Bool, 
 use Rattle.std.specs.Prelude.{not, nat_le, is_some, is_none, Ok, Err}
 use Rattle.std.specs.Option.{option_or, option_map_or}
 use Rattle.std.specs.Str.{bytes_eq}
-use Rattle.std.proofs.lemmas.Bool.{and_parts, and_from}
+use Rattle.std.proofs.lemmas.Bool.{and_parts, and_from, not-true}
 use Rattle.svc_values.specs.declared.call.Call.{Call}
 use Rattle.svc_values.specs.declared.call.Call.TheVariants as call
 use Rattle.svc_values.specs.declared.answer.Answer.{Answer}
@@ -37,6 +37,7 @@ use Rattle.client_model.specs.Told as told
 use Rattle.client_model.specs.Verifying.{verified_more, mismatch, submitted}
 use Rattle.world_model.specs.Parts.{implies}
 use Rattle.world_model.proofs.Saying.{Spoken, Quiet, Fails, Ends, Asks, Calls, Marks, has_next, is_hushed, said}
+use Rattle.world_model.proofs.Tests.{implied_by, met, none_some}
 
 -- THE TEST ----------------------------------------------------------------------------------------
 
@@ -59,21 +60,9 @@ is_plain_talk alive talk = plain_in alive talk talk.phase
 abbrev pub is_plain_step : Bool → Step → Bool
 is_plain_step alive step = is_plain_talk alive step.0
 
-implied_by : (test one : Bool) → (test ≡ true → one ≡ true) → implies test one ≡ true
-implied_by true one here = here refl
-implied_by false one here = refl
-
-met : (test one : Bool) → implies test one ≡ true → test ≡ true → one ≡ true
-met true one here is = here
-met false one here is = absurd (let none : ⊥ = cc in none)
-
 first_none : {A : Type 0} (one other : Option A) → is_none (option_or one other) ≡ true → (is_none one ≡ true) × (is_none other ≡ true)
 first_none None other is = (refl, is)
 first_none (Some x) other is = absurd (let none : ⊥ = cc in none)
-
-none_some : {A : Type 0} (one : Option A) → is_none one ≡ true → is_some one ≡ true → ⊥
-none_some None is other = let none : ⊥ = cc in none
-none_some (Some x) is other = let none : ⊥ = cc in none
 
 weaker : (alive : Bool) (talk : Talk) (phase : Phase) → plain_in true talk phase ≡ true → plain_in alive talk phase ≡ true
 weaker true talk phase here = here
@@ -273,10 +262,6 @@ module _ (terms : Terms) (refuses : (name : List ℕ) (x : Value) (index : ℕ) 
   keeps_or_idle before left alive hushed _ _ _ (Calls opens settings call state) = inl refl
   keeps_or_idle before left alive hushed _ _ _ (Marks opens may settings one state next plain) = inl refl
 
-  not_due : (due : Bool) → (false || not due) ≡ true → due ≡ false
-  not_due true is = absurd (let none : ⊥ = cc in none)
-  not_due false is = refl
-
   module _ (unkept : terms.rules.keeps ≡ false) where
     took_plain : (talk : Talk) (frame : Down) (alive : Bool) (now : ℕ) → is_plain_talk true talk ≡ true
         → is_plain_talk (not (is_gone_next (Took frame alive) (takes terms talk talk.phase frame alive now).1.hold)) (takes terms talk talk.phase frame alive now).0 ≡ true
@@ -298,13 +283,13 @@ module _ (terms : Terms) (refuses : (name : List ℕ) (x : Value) (index : ℕ) 
         by : (test : Bool) → is_plain_talk (not test) talk ≡ true → is_plain_talk false talk ≡ true
         by true is = is
         by false is = weaker false talk talk.phase is
-    step_plain talk due (Took frame alive) now may here = took_plain talk frame alive now (subst (λ (test : Bool). is_plain_talk (not test) talk ≡ true) (not_due due may) here)
+    step_plain talk due (Took frame alive) now may here = took_plain talk frame alive now (subst (λ (test : Bool). is_plain_talk (not test) talk ≡ true) (not-true due may) here)
     step_plain talk due Start now may here = refl
     step_plain talk due Waiting now may here = waits_plain talk (waits_from talk.phase now) now
     step_plain talk due (Lent connection ltxid) now may here = hello_plain talk None ltxid true now refl
     step_plain talk due (Opened connection) now may here =
-        (lost_plain talk (record talk { tries = 0; phase = Greeting (lost_of talk.phase) }) talk.phase (subst (λ (test : Bool). is_plain_talk (not test) talk ≡ true) (not_due due may) here)).0
-    step_plain talk due TryFailed now may here = tries_plain talk now (subst (λ (test : Bool). is_plain_talk (not test) talk ≡ true) (not_due due may) here)
+        (lost_plain talk (record talk { tries = 0; phase = Greeting (lost_of talk.phase) }) talk.phase (subst (λ (test : Bool). is_plain_talk (not test) talk ≡ true) (not-true due may) here)).0
+    step_plain talk due TryFailed now may here = tries_plain talk now (subst (λ (test : Bool). is_plain_talk (not test) talk ≡ true) (not-true due may) here)
 
     inputs_plain : (inputs : List Timed) (talk : Talk) (due : Bool) → MayCome terms talk due inputs → is_plain_talk (not due) talk ≡ true → is_plain_talk false (talk_after terms talk inputs) ≡ true
     inputs_plain [] talk true may here = here

@@ -54,7 +54,7 @@ reply_shows terms talk state answers draws ltxid alive now shown (Some call) is 
     ap (λ (s : Shown). down.Reply s.answers s.draws s.ltxid)
     (same_shown (on_reply terms talk state answers draws ltxid alive now (Some call)).1.shown one shown (next_shows terms after (record { track = with_shown terms state.track call answers draws; ltxid = ltxid }) alive [] (Some one) now (next_call after)) is)
 
-behind_shows : (terms : Terms) (talk : Talk) (state : Living) (event : ℕ) (alive : Bool) (shown : Shown) (now : ℕ) (next : Option Call) → (after_completed terms talk state event alive shown now next).1.shown ≡ Some shown
+pub behind_shows : (terms : Terms) (talk : Talk) (state : Living) (event : ℕ) (alive : Bool) (shown : Shown) (now : ℕ) (next : Option Call) → (after_completed terms talk state event alive shown now next).1.shown ≡ Some shown
 behind_shows terms talk state event true shown now None = refl
 behind_shows terms talk state event false shown now None = refl
 behind_shows terms talk state event alive shown now (Some call) = by (state.track.set_shown && not terms.rules.keeps) alive

@@ -85,7 +85,7 @@ talks_converse t all =
 abbrev reports_so : RequestReport → RequestReport → Bool
 reports_so told report = (length told.calls == length report.calls) && (tells_steps told report && same_bool (is_some told.failed) (is_some report.failed))
 
-outcome_self : (one : Outcome) → same_outcome one one ≡ true
+pub outcome_self : (one : Outcome) → same_outcome one one ≡ true
 outcome_self one =
     and_from (same_ltxid one.ltxid one.ltxid) (same_bool one.committed one.committed && same_bool one.completed one.completed) (ltxid_self one.ltxid)
     (and_from (same_bool one.committed one.committed) (same_bool one.completed one.completed) (bool_self one.committed) (bool_self one.completed))

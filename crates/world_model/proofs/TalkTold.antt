@@ -17,6 +17,7 @@ use Rattle.world_model.specs.Conversing.{timed, inputs_of, connected}
 use Rattle.world_model.specs.Links.{told_by}
 use Rattle.world_model.specs.Parts.{Scan, scanned, implies}
 use Rattle.world_model.specs.Words.{brought, dones_of}
+use Rattle.world_model.proofs.Keeping.{second_some}
 use Rattle.world_model.proofs.TalkCounts.{counts_so, step_counted}
 
 abbrev is_told : Phase → Bool
@@ -29,13 +30,9 @@ is_told _ = false
 abbrev pub told_so : Option Ltxid → Phase → Bool
 told_so held phase = implies (is_told phase) (is_some held)
 
-first_some : {A : Type 0} (one other : Option A) → is_some other ≡ true → is_some (option_or one other) ≡ true
-first_some (Some x) other is = refl
-first_some None other is = is
-
 module _ (held : Option Ltxid) where
   still_told : (one : Option Ltxid) (phase : Phase) → is_some held ≡ true → told_so (option_or one held) phase ≡ true
-  still_told one phase is = or_right (not (is_told phase)) (is_some (option_or one held)) (first_some one held is)
+  still_told one phase is = or_right (not (is_told phase)) (is_some (option_or one held)) (second_some one held is)
 
   now_told : (ltxid : Ltxid) (phase : Phase) → told_so (Some ltxid) phase ≡ true
   now_told ltxid phase = or_right (not (is_told phase)) true refl

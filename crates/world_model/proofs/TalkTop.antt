@@ -2,7 +2,7 @@
 use Rattle.std.proofs.Common.{◌≡◌, refl, sym, ap, subst, ◌∙◌, Bool, true, false, ℕ, ◌-◌, ◌+◌, ◌&&◌, cond, fold, List, [], ◌∷◌, ◌++◌, Option, Some, None, if◌then◌else◌}
 use Rattle.std.specs.Prelude.{◌==◌, ◌||◌, not, nat_le, is_some, is_none}
 use Rattle.std.specs.Option.{option_or, option_map_or}
-use Rattle.std.proofs.lemmas.Bool.{and_parts, and_from}
+use Rattle.std.proofs.lemmas.Bool.{and_parts, and_from, not-true}
 use Rattle.svc_values.specs.declared.call.Call.{Call}
 use Rattle.svc_values.specs.declared.entry.Ltxid.{Ltxid}
 use Rattle.svc_values.specs.declared.frame.Down.{Down}
@@ -118,10 +118,6 @@ tried_runs terms talk now = by (nat_le terms.limits.retries (talk.tries + 1))
     by true = refl
     by false = refl
 
-not_due : (due : Bool) → (false || not due) ≡ true → due ≡ false
-not_due true is = absurd (let none : ⊥ = cc in none)
-not_due false is = refl
-
 module _ (terms : Terms) (talk : Talk) (scan : Scan) (now : ℕ) where
   abbrev Behind : Input → Type 0
   Behind input =
@@ -163,7 +159,7 @@ module _ (terms : Terms) (talk : Talk) (scan : Scan) (now : ℕ) where
   next_top due (Lent connection x) may top told after runs = lent_top connection x told after runs
   next_top due (Opened connection) may top told after runs = absurd (let none : ⊥ = cc in none)
   next_top due TryFailed may top told after runs = absurd (not_both _ runs (tried_runs terms talk now))
-  next_top due (Took frame true) may top told after runs = taken_top frame (subst (λ (d : Bool). TopSo d scan talk.phase) (not_due due may) top) told after runs
+  next_top due (Took frame true) may top told after runs = taken_top frame (subst (λ (d : Bool). TopSo d scan talk.phase) (not-true due may) top) told after runs
   next_top due (Took frame false) may top told after runs = dead_top frame told after runs
   next_top due (Gone event) may top told after runs = absurd (not_both _ runs (gone_runs talk.phase event))
 

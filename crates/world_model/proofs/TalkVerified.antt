@@ -27,6 +27,7 @@ use Rattle.client_model.specs.Verifying.{index_of, verified_more, mismatch}
 use Rattle.client_model.proofs.Offered.{Fits, Tracked}
 use Rattle.world_model.specs.Clients.{Doing}
 use Rattle.world_model.specs.Shown.{is_call}
+use Rattle.world_model.proofs.Lists.{get_mapped}
 use Rattle.world_model.proofs.StepFacts.{account_now, FitsNow}
 use Rattle.world_model.proofs.TalkShows.{next_shows}
 
@@ -130,11 +131,6 @@ get_behind : {A : Type 0} (xs ys : List A) (index place : ℕ) (y : A) → place
 get_behind [] ys index place y at is = let same : place ≡ index = omega (arith, at) in ap (slice_get ys) same ∙ is
 get_behind (x ∷ xs) ys index zero y at is = absurd (let none : ⊥ = omega (arith, at) in none)
 get_behind (x ∷ xs) ys index (suc place) y at is = let less : place ≡ length xs + index = omega (arith, at) in get_behind xs ys index place y less is
-
-pub get_mapped : {A B : Type 0} (f : A → B) (xs : List A) (index : ℕ) (x : A) → slice_get xs index ≡ Some x → slice_get (map f xs) index ≡ Some (f x)
-get_mapped f [] index x is = absurd (let none : ⊥ = cc in none)
-get_mapped f (y ∷ ys) zero x is = let same : y ≡ x = cc in ap Some (ap f same)
-get_mapped f (y ∷ ys) (suc index) x is = get_mapped f ys index x is
 
 got_mapped : {A B : Type 0} (f : A → B) (xs : List A) (index : ℕ) (y : B) → slice_get (map f xs) index ≡ Some y → (x : A) × (slice_get xs index ≡ Some x) × (f x ≡ y)
 got_mapped f [] index y is = absurd (let none : ⊥ = cc in none)

@@ -34,8 +34,8 @@ use Rattle.world_model.proofs.AllLists.{at_all}
 use Rattle.world_model.proofs.CallFrames.{call_answered, calls_same, sent_parts, unmarked_same}
 use Rattle.world_model.proofs.CallRows.{rank, ranked, same_place}
 use Rattle.world_model.proofs.CallsApart.{WasSent, front_got, was_sent}
-use Rattle.world_model.proofs.KeptDraws.{get_mapped}
 use Rattle.world_model.proofs.LinkLives.{implied}
+use Rattle.world_model.proofs.Lists.{get_mapped}
 use Rattle.world_model.proofs.Recalling.{get_further}
 
 -- FRAMES ------------------------------------------------------------------------------------------

@@ -3,7 +3,7 @@ use Rattle.std.proofs.Common.{◌≡◌, refl, sym, ap, subst, ◌∙◌, Bool, 
 use Rattle.std.specs.Prelude.{◌==◌, not, nat_le, nat_lt}
 use Rattle.std.specs.Cmp.Lexicographic.{pointwise_decides}
 use Rattle.std.specs.List.{list_all, list_any}
-use Rattle.std.proofs.lemmas.Bool.{and_parts, and_from, or_cases, or_left, or_right, not-true, not_from_false}
+use Rattle.std.proofs.lemmas.Bool.{and_parts, and_from, or_cases, or_left, or_right, not-true, not_from_false, or_from}
 use Rattle.std.proofs.lemmas.List.Folds.{list_any-append}
 use Rattle.svc_values.specs.declared.entry.Ltxid.{Ltxid}
 use Rattle.svc_values.specs.Calls.{has_commit}
@@ -17,8 +17,8 @@ use Rattle.world_model.specs.Parts.{Sending, commit_sendings, sendings_of}
 use Rattle.world_model.specs.Sames.{all_with, each_pair}
 use Rattle.world_model.specs.Traced.{Course}
 use Rattle.world_model.proofs.AskedNear.{any_all}
-use Rattle.world_model.proofs.CommittedSendings.{any_goes}
 use Rattle.world_model.proofs.FateTops.{all_with_is}
+use Rattle.world_model.proofs.Lists.{any_goes}
 use Rattle.world_model.proofs.SameSelf.{ltxid_self}
 use Rattle.world_model.proofs.Tests.{le_from, le_to, lt_from, not_both}
 
@@ -27,10 +27,6 @@ use Rattle.world_model.proofs.Tests.{le_from, le_to, lt_from, not_both}
 pub false_by : (test : Bool) → (test ≡ true → ⊥) → test ≡ false
 false_by true never = absurd (never refl)
 false_by false never = refl
-
-either_false : (a b : Bool) → a ≡ false → b ≡ false → (a || b) ≡ false
-either_false false b one other = other
-either_false true b one other = absurd (let none : ⊥ = cc in none)
 
 pub holds_append : (ids more : List Ltxid) (x : Ltxid) → holds (ids ++ more) x ≡ (holds ids x || holds more x)
 holds_append ids more x = list_any-append (same_ltxid x) ids more
@@ -41,7 +37,7 @@ joined [] more one other apart = other
 joined (x ∷ ids) more one other apart =
     let parts = and_parts (not (holds ids x)) (ids_differ ids) one in
     and_from (not (holds (ids ++ more) x)) (ids_differ (ids ++ more))
-    (not_from_false (holds (ids ++ more) x) (holds_append ids more x ∙ either_false (holds ids x) (holds more x) (not-true (holds ids x) parts.0)
+    (not_from_false (holds (ids ++ more) x) (holds_append ids more x ∙ or_from (holds ids x) (holds more x) (not-true (holds ids x) parts.0)
     (false_by (holds more x) (λ here. apart x (or_left (same_ltxid x x) (holds ids x) (ltxid_self x)) here))))
     (joined ids more parts.1 other (λ y mine its. apart y (or_right (same_ltxid y x) (holds ids y) mine) its))
 

@@ -14,7 +14,7 @@ use Rattle.run_clauses.specs.Tried.{Sending as Tried, holds, may_have_committed,
 use Rattle.world_model.specs.Once.{is_open_or_committed, reverse_onto, tells_tried, tried_one}
 use Rattle.world_model.specs.Parts.{Sending, commit_sendings, sendings_of}
 use Rattle.world_model.specs.Traced.{Course}
-use Rattle.world_model.proofs.CommittedSendings.{any_goes}
+use Rattle.world_model.proofs.Lists.{any_goes}
 use Rattle.world_model.proofs.NotedParts.{some_part}
 use Rattle.world_model.proofs.Tests.{le_to}
 use Rattle.world_model.proofs.TriedApart.{commits, holds_append, is_under, lists_of, may_at, sent_under, tried_sent, under_at}

@@ -25,13 +25,14 @@ use Rattle.world_model.specs.Outside.{closed_by_drain}
 use Rattle.world_model.specs.Hold.{is_idle}
 use Rattle.world_model.specs.Parts.{is_out}
 use Rattle.world_model.specs.Sames.{all_with, each_pair}
+use Rattle.world_model.proofs.Recalling.{get_last}
 use Rattle.world_model.proofs.Tests.{eq_from, eq_to}
 use Rattle.world_model.proofs.AllLinks.{front_is, open_is}
 use Rattle.world_model.proofs.LinkOut.{awaits_out}
 use Rattle.world_model.proofs.Lookups.{with_others, with_own, changed_own}
 use Rattle.world_model.proofs.Others.{changed_others}
 use Rattle.world_model.proofs.Moves.{next_number, Goes, Rests, Waits, Lends, Opens, Fails, Takes, Loses, takes_one, ServesLast, LastNone, LastStopped, LastServed, Happens, Nothing, IsStep, Serves, Cuts, Reaps, Crashes, OpensUp, StopsOpening, Ticks, RunsOutside, Asks, Drains}
-use Rattle.world_model.proofs.SentLinks.{IsHeld, spoken_by, sends_none, last_at, lent_idle, waiting_silent, failed_silent, differ, passes_at, still_pass, differs_from}
+use Rattle.world_model.proofs.SentLinks.{IsHeld, spoken_by, sends_none, lent_idle, waiting_silent, failed_silent, differ, passes_at, still_pass, differs_from}
 use Rattle.world_model.proofs.Strangers.{frame_now}
 
 -- THE CASES ---------------------------------------------------------------------------------------
@@ -131,7 +132,7 @@ module _ (m : Machine) (items left : List Served) (kind : Noted) where
       change = sends m.event (sent_by owner 0 up.Connect ∷ [])
 
       new : link_at (m.links ++ new_link ∷ []) (next_number m) ≡ Some new_link
-      new = ap (λ (n : ℕ). link_at (m.links ++ new_link ∷ []) n) (add-one (length m.links)) ∙ last_at m.links new_link
+      new = ap (λ (n : ℕ). link_at (m.links ++ new_link ∷ []) n) (add-one (length m.links)) ∙ get_last m.links new_link
 
       by : (number ≡ next_number m) ⊎ (number ≢ next_number m) → ComesFrom m items left kind number next
       by (inr apart) = stays number next (older m.links new_link next number (sym (changed_others change (m.links ++ new_link ∷ []) (next_number m) number apart) ∙ is) apart)

@@ -1,8 +1,9 @@
 -- What may still be served on a connection: frames come to it from a request that speaks on it alone, and so nothing of another request does.
-use Rattle.std.proofs.Common.{◌≡◌, ◌≢◌, refl, sym, ap, subst, ◌∙◌, Bool, true, false, ℕ, ◌-◌, ◌||◌, List, [], ◌∷◌, ◌++◌, map, fold, Option, Some, None, ◌⊎◌, inl, inr, if◌then◌else◌}
+use Rattle.std.proofs.Common.{◌≡◌, ◌≢◌, refl, sym, ap, subst, ◌∙◌, Bool, true, false, ℕ, ◌-◌, List, [], ◌∷◌, ◌++◌, map, fold, Option, Some, None, ◌⊎◌, inl, inr, if◌then◌else◌}
 use Rattle.std.specs.Prelude.{nat_le}
 use Rattle.std.specs.List.{list_any}
 use Rattle.std.proofs.lemmas.List.Folds.{list_any-append}
+use Rattle.std.proofs.lemmas.Bool.{or_from, or_parts}
 use Rattle.svc_values.specs.declared.frame.Up.{Up}
 use Rattle.outage_schedule.specs.declared.item.Served.{Served}
 use Rattle.pool_core.specs.Slots.{Slots, after_take}
@@ -26,27 +27,19 @@ use Rattle.world_model.proofs.Lookups.{with_others, with_own, changed_own, new_o
 use Rattle.world_model.proofs.Moves.{Goes, Rests, Waits, Lends, Opens, Fails, Takes, Loses, takes_one, ServesLast, LastNone, LastStopped, LastServed, Happens, Nothing, IsStep, Serves, Cuts, Reaps, Crashes, OpensUp, StopsOpening, Ticks, RunsOutside, Asks, Drains}
 use Rattle.world_model.proofs.Others.{changed_others}
 use Rattle.world_model.proofs.ShutStays.{mapped_at}
-use Rattle.world_model.proofs.Turning.{either}
-
-or_false_parts : (a b : Bool) → (a || b) ≡ false → (a ≡ false) × (b ≡ false)
-or_false_parts true b is = absurd (let none : ⊥ = cc in none)
-or_false_parts false b is = (refl, is)
-
-pub or_false_from : (a b : Bool) → a ≡ false → b ≡ false → (a || b) ≡ false
-or_false_from true b one other = absurd (let none : ⊥ = cc in none)
-or_false_from false b one other = other
+use Rattle.world_model.proofs.Turning.{either, some_same}
 
 module _ (test : Sent → Bool) where
   pub none_both : (xs ys : List Sent) → list_any test xs ≡ false → list_any test ys ≡ false → list_any test (xs ++ ys) ≡ false
-  none_both xs ys one other = list_any-append test xs ys ∙ or_false_from (list_any test xs) (list_any test ys) one other
+  none_both xs ys one other = list_any-append test xs ys ∙ or_from (list_any test xs) (list_any test ys) one other
 
   none_front : (bytes : ℕ) (sents : List Sent) → list_any test sents ≡ false → list_any test (whole_front up_size bytes sents) ≡ false
   none_front bytes [] none = refl
-  none_front bytes (first ∷ later) none = by (nat_le (up_size first) bytes) (or_false_parts (test first) (list_any test later) none) (λ less rest. none_front less later rest)
+  none_front bytes (first ∷ later) none = by (nat_le (up_size first) bytes) (or_parts (test first) (list_any test later) none) (λ less rest. none_front less later rest)
     where
       by : (fits : Bool) → (test first ≡ false) × (list_any test later ≡ false) → ((less : ℕ) → list_any test later ≡ false → list_any test (whole_front up_size less later) ≡ false)
           → list_any test (if fits then first ∷ whole_front up_size (bytes - up_size first) later else []) ≡ false
-      by true parts rest = or_false_from (test first) (list_any test (whole_front up_size (bytes - up_size first) later)) parts.0 (rest (bytes - up_size first) parts.1)
+      by true parts rest = or_from (test first) (list_any test (whole_front up_size (bytes - up_size first) later)) parts.0 (rest (bytes - up_size first) parts.1)
       by false parts rest = refl
 
   -- nothing that passes the test may be served, where nothing did before
@@ -65,9 +58,6 @@ module _ (test : Sent → Bool) where
   as_before : (links : List Link) (number : ℕ) (link : Link) → link_at links number ≡ Some link → HasLess links number link
   as_before links number link there = record { now = link; there = there; same = self_less link }
 
-  found_same : (found : Option Link) (a b : Link) → found ≡ Some a → found ≡ Some b → a ≡ b
-  found_same found a b one other = let same : Some a ≡ Some b = sym one ∙ other in let is : a ≡ b = cc in is
-
   -- LISTS -----------------------------------------------------------------------------------------
 
   set_less : (links : List Link) (at : ℕ) (old new : Link) → link_at links at ≡ Some old → IsLess old new → (number : ℕ) (link : Link) → link_at links number ≡ Some link → HasLess (with_link links at new) number link
@@ -76,7 +66,7 @@ module _ (test : Sent → Bool) where
       by : (number ≡ at) ⊎ (number ≢ at) → HasLess (with_link links at new) number link
       by (inr apart) = record { now = link; there = with_others links at number new apart ∙ there; same = self_less link }
       by (inl same) =
-          let equal : old ≡ link = found_same (link_at links at) old link is (ap (link_at links) (sym same) ∙ there) in
+          let equal : old ≡ link = some_same (link_at links at) old link is (ap (link_at links) (sym same) ∙ there) in
           record { now = new; there = ap (link_at (with_link links at new)) same ∙ with_own links at old new is; same = subst (λ (one : Link). IsLess one new) equal less }
 
   changed_less : (change : Link → Link) (links : List Link) (at : ℕ) → ((link : Link) → IsLess link (change link)) → (number : ℕ) (link : Link) → link_at links number ≡ Some link → HasLess (changed change links at) number link
@@ -104,7 +94,7 @@ module _ (test : Sent → Bool) where
 
   later_less : (front : Front) (next : Link) → front.link.up ≡ front.first ∷ front.later → next.up ≡ front.later → IsLess front.link next
   later_less front next up is =
-      record { less = λ before. ap (list_any test) is ∙ (or_false_parts (test front.first) (list_any test front.later) (sym (ap (list_any test) up) ∙ before)).1 }
+      record { less = λ before. ap (list_any test) is ∙ (or_parts (test front.first) (list_any test front.later) (sym (ap (list_any test) up) ∙ before)).1 }
 
   handled_less : (event : ℕ) (front : Front) (served : Served) → front.link.up ≡ front.first ∷ front.later → IsLess front.link (handled event front served)
   handled_less event front served up =
@@ -122,7 +112,7 @@ module _ (test : Sent → Bool) where
   module _ (setting : Setting) (m : Machine) (closes : test closed_by_drain ≡ false) (quiet : (who call : ℕ) (frame : Up) → test (sent_by (owner_at m who) call frame) ≡ false) where
     said_none : (who call : ℕ) (frames : List Up) → list_any test (map (sent_by (owner_at m who) call) frames) ≡ false
     said_none who call [] = refl
-    said_none who call (frame ∷ frames) = or_false_from (test (sent_by (owner_at m who) call frame)) (list_any test (map (sent_by (owner_at m who) call) frames)) (quiet who call frame) (said_none who call frames)
+    said_none who call (frame ∷ frames) = or_from (test (sent_by (owner_at m who) call frame)) (list_any test (map (sent_by (owner_at m who) call) frames)) (quiet who call frame) (said_none who call frames)
 
     unless_same : (a : Machine) (who : ℕ) (ended : Option ℕ) (doing : Option Doing) (opens : Bool) → (if opens then a else lost_at_once setting a who ended doing).links ≡ a.links
     unless_same a who ended doing true = refl
@@ -181,4 +171,4 @@ module _ (test : Sent → Bool) where
     happens_less items left happened _ (RunsOutside ran runs) number link there = as_before m.links number link there
     happens_less items left happened _ (Asks ltxid result runs) number link there = as_before m.links number link there
     happens_less items left happened n (Drains closed) number link there =
-        each_less (sends m.event (closed_by_drain ∷ [])) (sends_less m.event (closed_by_drain ∷ []) (or_false_from (test closed_by_drain) false closes refl)) m.links m.pool.idle number link there
+        each_less (sends m.event (closed_by_drain ∷ [])) (sends_less m.event (closed_by_drain ∷ []) (or_from (test closed_by_drain) false closes refl)) m.links m.pool.idle number link there

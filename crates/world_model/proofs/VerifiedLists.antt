@@ -5,15 +5,14 @@ use Rattle.std.specs.List.{list_all, last_or}
 use Rattle.std.specs.Option.{option_map_or}
 use Rattle.std.proofs.lemmas.Bool.{and_parts, and_from}
 use Rattle.std.proofs.lemmas.List.Sums.{length-filter}
-use Rattle.svc_values.specs.declared.frame.Up.{Up}
-use Rattle.svc_values.specs.declared.frame.Up.TheVariants as up
 use Rattle.world_model.specs.Frames.{Sent, Handled}
 use Rattle.world_model.specs.Links.{Link}
-use Rattle.world_model.specs.Parts.{is_answered, is_rep, count_reps, served_reps}
+use Rattle.world_model.specs.Parts.{is_rep, count_reps, served_reps}
 use Rattle.world_model.specs.Sames.{owned_by, same_sent, is_front}
 use Rattle.world_model.specs.Shown.{is_call}
 use Rattle.world_model.specs.Traced.{Course}
 use Rattle.world_model.specs.Wire.{up_of}
+use Rattle.world_model.proofs.CallFrames.{call_answered}
 use Rattle.world_model.proofs.FrontLists.{front_begun, last_kept}
 use Rattle.world_model.proofs.LinkCounts.{Known}
 use Rattle.world_model.proofs.LinkNumbers.{rep_of}
@@ -67,15 +66,6 @@ filter_sents test (one ∷ others) = by (test one.sent) (filter_sents test other
     by false rest = rest
 
 -- CALLS OF ONE OWNER ------------------------------------------------------------------------------
-
--- a call is an answered frame
-call_answered : (frame : Up) → is_call frame ≡ true → is_answered frame ≡ true
-call_answered (up.Call replay kept call) is = refl
-call_answered up.Connect is = absurd (let none : ⊥ = cc in none)
-call_answered (up.Begin settings) is = absurd (let none : ⊥ = cc in none)
-call_answered (up.Outcome x) is = absurd (let none : ⊥ = cc in none)
-call_answered up.End is = absurd (let none : ⊥ = cc in none)
-call_answered up.Close is = absurd (let none : ⊥ = cc in none)
 
 module _ (course : Course) where
   abbrev pub mine_in : Handled → Bool

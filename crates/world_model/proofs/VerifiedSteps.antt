@@ -7,14 +7,12 @@ use Rattle.std.specs.Str.{bytes_eq}
 use Rattle.std.proofs.lemmas.Bool.{and_parts, and_from}
 use Rattle.std.proofs.lemmas.List.{map-append}
 use Rattle.svc_values.specs.declared.answer.Answer.{Answer}
-use Rattle.svc_values.specs.declared.call.Call.{Call}
 use Rattle.svc_values.specs.declared.draw.Draw.{Draw}
 use Rattle.svc_values.specs.declared.entry.Ltxid.{Ltxid}
 use Rattle.svc_values.specs.declared.frame.Up.{Up}
-use Rattle.svc_values.specs.declared.frame.Up.TheVariants as up
 use Rattle.svc_values.specs.declared.frame.Down.{Down}
 use Rattle.svc_values.specs.declared.frame.Down.TheVariants as down
-use Rattle.svc_values.specs.Same.{same_answers, same_bool, same_call, same_draws}
+use Rattle.svc_values.specs.Same.{same_answers, same_draws}
 use Rattle.svc_values.specs.SameLaws.{same_answers_decide, same_draws_decide}
 use Rattle.outage_schedule.specs.declared.item.Item.{Item}
 use Rattle.outage_schedule.specs.declared.item.Item.TheVariants as item
@@ -37,18 +35,17 @@ use Rattle.world_model.specs.Links.{Link, link_at}
 use Rattle.world_model.specs.Machines.{Machine}
 use Rattle.world_model.specs.Parts.{is_rep}
 use Rattle.world_model.specs.Sames.{owned_by, same_down, same_owners, same_sent, same_up}
-use Rattle.world_model.specs.Serving.{is_item_of}
 use Rattle.world_model.specs.Settings.{Setting}
 use Rattle.world_model.specs.Shown.{is_call}
 use Rattle.world_model.specs.Traced.{Course, course_now}
 use Rattle.world_model.specs.Verified.{is_verified, is_verified_item}
-use Rattle.world_model.specs.Wire.{same_replies}
 use Rattle.world_model.proofs.AllLists.{weaker_all}
 use Rattle.world_model.proofs.ClientSteps.{HasStepped}
 use Rattle.world_model.proofs.LinkCounts.{Known, IsLast}
+use Rattle.world_model.proofs.Lists.{get_mapped}
 use Rattle.world_model.proofs.RanCalls.{is_mine, mine_alike}
 use Rattle.world_model.proofs.Recalling.{get_further, get_last}
-use Rattle.world_model.proofs.ReplyItems.{IsSaidBy, answering, answers_last, said_by}
+use Rattle.world_model.proofs.ReplyItems.{answering, answers_last, said_by, SaysCall, awaited_mark, mark_alike, says_call}
 use Rattle.world_model.proofs.RowCourses.{OnIt, AwaitedCall, ask_opens, awaited_call, connect_opens, row_append}
 use Rattle.world_model.proofs.RowKept.{no_row_yet, said_silent}
 use Rattle.world_model.proofs.RowLast.{row_of}
@@ -58,70 +55,10 @@ use Rattle.world_model.proofs.SentLists.{sent_lists, spoken}
 use Rattle.world_model.proofs.ShownNow.{FirstReply, first_reply}
 use Rattle.world_model.proofs.StepFacts.{account_now, first_doing, first_step}
 use Rattle.world_model.proofs.TalkRows.{no_calls}
-use Rattle.world_model.proofs.TalkVerified.{AtFrame, AtLent, IsCompared, IsRecorded, IsReplied, Speaks, compared_speaks, get_mapped, input_speaks, next_digest, reply_speaks, speaks}
+use Rattle.world_model.proofs.TalkVerified.{AtFrame, AtLent, IsCompared, IsRecorded, IsReplied, Speaks, compared_speaks, input_speaks, next_digest, reply_speaks, speaks}
 use Rattle.world_model.proofs.Tests.{eq_from}
 use Rattle.world_model.proofs.Turning.{either, some_same}
 use Rattle.world_model.proofs.VerifiedLists.{calls_few, last_call, last_too, take_all}
-
--- WHAT THE ITEM SAYS ------------------------------------------------------------------------------
-
--- it is a call of this mark, with what the reply says
-pub record SaysCall (mark : Bool) (answers : List Answer) (draws : List Draw) (one : Item) : Type 0 where
-  pub call : Call
-  pub is : one ≡ item.Call mark call answers draws
-
-same_mark : (a b : Bool) → same_bool a b ≡ true → a ≡ b
-same_mark true true is = refl
-same_mark false false is = refl
-same_mark true false is = absurd (let none : ⊥ = cc in none)
-same_mark false true is = absurd (let none : ⊥ = cc in none)
-
-reply_says : (mark marked : Bool) (call served : Call) (a answers : List Answer) (d draws : List Draw) (x : Ltxid) (said : Down) → (same_bool marked mark && same_call served call) ≡ true → same_down (down.Reply answers draws x) said ≡ true
-    → (y : Ltxid) → same_replies (Some said) (Some (down.Reply a d y)) ≡ true → SaysCall mark answers draws (item.Call marked served a d)
-reply_says mark marked call served a answers d draws x (down.Reply b e z) is same y replies =
-    let one = and_parts (same_answers answers b) _ same in
-    let two = and_parts (same_draws draws e) _ one.1 in
-    let three = and_parts (same_answers b a) _ replies in
-    let four = and_parts (same_draws e d) _ three.1 in
-    let answers_are : a ≡ answers = sym ((same_answers_decide answers b).0 one.0 ∙ (same_answers_decide b a).0 three.0) in
-    let draws_are : d ≡ draws = sym ((same_draws_decide draws e).0 two.0 ∙ (same_draws_decide e d).0 four.0) in
-    let mark_is : marked ≡ mark = same_mark marked mark (and_parts (same_bool marked mark) (same_call served call) is).0 in
-    record { call = served; is = λ i. item.Call (mark_is i) served (answers_are i) (draws_are i) }
-reply_says mark marked call served a answers d draws x (down.Hello z) is same y replies = absurd (let none : ⊥ = cc in none)
-reply_says mark marked call served a answers d draws x (down.OutcomeIs p q) is same y replies = absurd (let none : ⊥ = cc in none)
-reply_says mark marked call served a answers d draws x (down.OutcomeRefused p q) is same y replies = absurd (let none : ⊥ = cc in none)
-reply_says mark marked call served a answers d draws x down.Blocked is same y replies = absurd (let none : ⊥ = cc in none)
-reply_says mark marked call served a answers d draws x (down.Refused p) is same y replies = absurd (let none : ⊥ = cc in none)
-
-blocked_not : {A : Type 0} (answers : List Answer) (draws : List Draw) (x : Ltxid) (said : Down) → same_down (down.Reply answers draws x) said ≡ true → same_replies (Some said) (Some down.Blocked) ≡ true → A
-blocked_not answers draws x (down.Reply b e y) same replies = absurd (let none : ⊥ = cc in none)
-blocked_not answers draws x (down.Hello y) same replies = absurd (let none : ⊥ = cc in none)
-blocked_not answers draws x (down.OutcomeIs p q) same replies = absurd (let none : ⊥ = cc in none)
-blocked_not answers draws x (down.OutcomeRefused p q) same replies = absurd (let none : ⊥ = cc in none)
-blocked_not answers draws x down.Blocked same replies = absurd (let none : ⊥ = cc in none)
-blocked_not answers draws x (down.Refused p) same replies = absurd (let none : ⊥ = cc in none)
-
-abbrev is_call_of : Bool → Up → Bool
-is_call_of mark (up.Call replay kept call) = same_bool mark replay
-is_call_of mark _ = false
-
-says_call : (mark : Bool) (answers : List Answer) (draws : List Draw) (x : Ltxid) (frame : Up) (one : Item) (said : Down) → is_call_of mark frame ≡ true → IsSaidBy frame one said → same_down (down.Reply answers draws x) said ≡ true → SaysCall mark answers draws one
-says_call mark answers draws x (up.Call replay kept call) (item.Call marked served a d) said of by same =
-    let mark_is : mark ≡ replay = same_mark mark replay of in
-    reply_says mark marked call served a answers d draws x said (subst (λ (m : Bool). (same_bool marked m && same_call served call) ≡ true) (sym mark_is) by.is) same _ by.replies
-says_call mark answers draws x (up.Call replay kept call) (item.Blocked served) said of by same = blocked_not answers draws x said same by.replies
-says_call mark answers draws x (up.Call replay kept call) one said of by same = absurd (let e : is_item_of (up.Call replay kept call) one ≡ true = by.is in let none : ⊥ = cc in none)
-says_call mark answers draws x frame one said of by same = absurd (let none : ⊥ = cc in none)
-
-call_alike : (mark : Bool) (a b : Up) → same_up a b ≡ true → is_call_of mark b ≡ true → is_call_of mark a ≡ true
-call_alike mark (up.Call r k c) (up.Call s l d) same is =
-    let mark_is : r ≡ s = same_mark r s (and_parts (same_bool r s) (same_draws k l && same_call c d) same).0 in subst (λ (m : Bool). same_bool mark m ≡ true) (sym mark_is) is
-call_alike mark a (up.Call s l d) same is = absurd (let none : ⊥ = cc in none)
-call_alike mark a b same is = absurd (let none : ⊥ = cc in none)
-
-awaited_mark : (mark : Bool) (index : ℕ) (sent : Sent) (frame : Up) → is_awaited_call mark index sent frame ≡ true → is_call_of mark frame ≡ true
-awaited_mark mark index sent (up.Call replay kept call) is = (and_parts (same_bool mark replay) (sent.call == index) is).0
-awaited_mark mark index sent frame is = absurd (let none : ⊥ = cc in none)
 
 -- THE STEP ----------------------------------------------------------------------------------------
 
@@ -259,7 +196,7 @@ module _ (setting : Setting) (m : Machine) (talks : AllTalk setting.terms m.clie
 
       item_says : SaysCall mark answers draws last.one.served.item
       item_says =
-          says_call mark answers draws x last.one.sent.frame last.one.served.item last.frame (call_alike mark last.one.sent.frame it.last.frame frame_parts.1 (awaited_mark mark index it.last it.last.frame awaited)) (said_by link knows first_one.reply last)
+          says_call mark answers draws x last.one.sent.frame last.one.served.item last.frame (mark_alike mark last.one.sent.frame it.last.frame frame_parts.1 (awaited_mark mark index it.last it.last.frame awaited)) (said_by link knows first_one.reply last)
           (subst (λ (g : Down). same_down g last.frame ≡ true) (first_one.is ∙ frame_is) last.same)
 
       -- so all are verified, if it is

@@ -1,5 +1,5 @@
 -- The invariant as a whole, wherever a run has come to, its finish among it.
-use Rattle.std.proofs.Common.{List, [], ◌∷◌, ◌++◌}
+use Rattle.std.proofs.Common.{List, []}
 use Rattle.commit_log.specs.Keeping.{EachKeeps}
 use Rattle.outage_schedule.specs.declared.document.Document.{Document}
 use Rattle.outage_schedule.specs.declared.event.Event.{Event}
@@ -7,13 +7,12 @@ use Rattle.outage_schedule.specs.declared.item.Served.{Served}
 use Rattle.outage_schedule.specs.declared.note.Note.{Note}
 use Rattle.server_model.specs.Laws.{EntryNumbers}
 use Rattle.server_model.specs.Seen.{Seen}
-use Rattle.world_model.specs.Finishing.{Place}
 use Rattle.world_model.specs.Invariant.{Invariant}
 use Rattle.world_model.specs.KeptLaws.{FinishesKeepInvariant, RunsKeepInvariant, WholeRunsKeepInvariant}
 use Rattle.world_model.specs.Lost.{Lost}
 use Rattle.world_model.specs.Once.{Once}
 use Rattle.world_model.specs.OneEvent.{OneEvent}
-use Rattle.world_model.specs.Reached.{traced_start, Reached, Begins, GoesOn, IsFinishing, Scheduled, Finishes}
+use Rattle.world_model.specs.Reached.{traced_start, Begins, GoesOn}
 use Rattle.world_model.specs.RunLaws.{RunsAreOrderly}
 use Rattle.world_model.specs.SameLaws.{RunsRan, RunsStarted}
 use Rattle.world_model.specs.Shown.{Shown}
@@ -53,6 +52,7 @@ use Rattle.world_model.proofs.KeptTold.{told_law}
 use Rattle.world_model.proofs.KeptTried.{lists_law, tried_law}
 use Rattle.world_model.proofs.KeptUnasked.{unasked_law}
 use Rattle.world_model.proofs.KeptWanted.{next_law}
+use Rattle.world_model.proofs.RunStarts.{finishing_reached}
 
 -- THE START ---------------------------------------------------------------------------------------
 
@@ -150,12 +150,6 @@ module _ (before after : Seen) (old new : Traced) (event : Event) (note : Note) 
   }
 
 -- A RUN -------------------------------------------------------------------------------------------
-
--- the finish is reached as any event is
-pub finishing_reached : (document : Document) (place : Place) (notes : List Note) (items : List Served) (seen : Seen) (t : Traced) → IsFinishing document place notes items seen t → (events : List Event) × Reached document events notes items seen t
-finishing_reached document _ _ _ _ _ (Scheduled notes items seen t reached) = (document.schedule, reached)
-finishing_reached document _ _ _ _ _ (Finishes place later notes items more before after old new event note finishing next one forgets) =
-    let so = finishing_reached document place notes items before old finishing in (so.0 ++ event ∷ [], GoesOn so.0 notes items more before after old new event note so.1 one forgets)
 
 module _ (keeps : EachKeeps) (numbers : EntryNumbers) (orderly : RunsAreOrderly) (ran : RunsRan) (started : RunsStarted) where
   pub reached_invariant : RunsKeepInvariant

@@ -1,7 +1,6 @@
 pub mod Acting
 pub mod Basic
 pub mod Begins
-pub mod BegunWith
 pub mod Clients
 pub mod Conversing
 pub mod Coupled
@@ -26,7 +25,6 @@ pub mod Matching
 pub mod NearCalls
 pub mod Noting
 pub mod Number
-pub mod Observed
 pub mod Once
 pub mod OneEvent
 pub mod Opening
@@ -46,7 +44,6 @@ pub mod Serving
 pub mod Settings
 pub mod Showing
 pub mod Shown
-pub mod Told
 pub mod ToldByStore
 pub mod Traced
 pub mod UnservedBegins

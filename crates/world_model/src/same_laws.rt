@@ -2,7 +2,6 @@
 //! settings those of requests; how the answers to calls end, that replies were shown, and what repeated calls draw. Each law is the clause
 //! of a function with nothing to run.
 ghost use Rattle.world_model.specs.Begins.{carry_settings, sessions_stand, transactions_start};
-ghost use Rattle.world_model.specs.BegunWith.{RunsBeginWith, RunsLead};
 ghost use Rattle.world_model.specs.CallEndings.{end_fittingly};
 ghost use Rattle.world_model.specs.CommitAnswers.{commit_fittingly, store_alone};
 ghost use Rattle.world_model.specs.FirstBegins.{begin_once};
@@ -225,15 +224,6 @@ pub fn entries_go_on()
     committed_sendings_ran_last();
 }
 
-/// Wherever such a run has come to: each Begin carries the settings that the call behind it runs in, those of the request changed by each
-/// `set` before that call; and that call is sent right behind it.
-pub fn requests_begin_with_settings()
-    ensures settings { RunsBeginWith }
-    ensures leads { RunsLead }
-{
-    crate::laws::runs_are_orderly();
-}
-
 /// Wherever such a run has come to, and at its end: on each connection that a request held, a call with the mark that was answered as its
 /// first time was shown drew the granted values that were shown, in order.
 pub fn repeated_calls_redraw()
@@ -243,7 +233,6 @@ pub fn repeated_calls_redraw()
     crate::kept_laws::runs_keep_invariant();
     runs_serve();
     server_model::laws::runs_legal();
-    requests_begin_with_settings();
 }
 
 /// Wherever such a run has come to, and at its end: each Begin that was sent on a connection is of a request that had sent no call there.
