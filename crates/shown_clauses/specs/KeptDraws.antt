@@ -1,5 +1,5 @@
 -- What a call with the mark was shown with: the draws that its frame carries.
-use Rattle.std.specs.Prelude.{ℕ, zero, suc, ◌+◌, ◌==◌, ◌&&◌, Bool, true, false, is_some, nat_lt, List, [], ◌∷◌, ◌++◌, length, filter, reverse, Option, option_and_then, slice_get}
+use Rattle.std.specs.Prelude.{ℕ, zero, suc, ◌+◌, ◌==◌, ◌&&◌, Bool, true, false, is_some, nat_lt, List, [], ◌∷◌, ◌++◌, length, filter, reverse, Option, slice_get}
 use Rattle.std.specs.List.{list_any}
 use Rattle.std.specs.Option.{option_map_or}
 use Rattle.svc_values.specs.declared.draw.Draw.{Draw}
@@ -62,22 +62,26 @@ is_step_of event part = list_any (λ step. step.event == event) part.steps
 abbrev pub acquired_by : List Part → Acquired → Option Part
 acquired_by parts acquired = first_of (is_step_of acquired.event) parts
 
--- The replayed call of this place: a replay begins anew with the call after the last one that was shown with such answers.
+-- The replayed call of this place: a replay begins anew with the call after the last one that was shown with such answers. It is of calls that were shown
+-- before the session was acquired: one whose connection was lost may serve its calls when more were shown on a later one.
 abbrev pub draws_shown : ℕ → ℕ → Part → List Draw
-draws_shown event place part =
-    option_map_or (λ shown. shown.draws) (slice_get (shown_since (shown_before part.steps event) [] part.submission.copy.calls) place) []
+draws_shown acquired place part =
+    option_map_or (λ shown. shown.draws) (slice_get (shown_since (shown_before part.steps acquired) [] part.submission.copy.calls) place) []
 
 -- how many calls with the mark the turn has
 abbrev pub place_in : Turn → ℕ
 place_in turn = length (filter is_marked turn.calls)
 
-abbrev pub kept_in_turn : List Part → ℕ → Turn → List Draw
-kept_in_turn parts event turn = option_map_or (draws_shown event (place_in turn)) (option_and_then (acquired_by parts) turn.acquired) []
+abbrev pub kept_since : List Part → ℕ → Acquired → List Draw
+kept_since parts place acquired = option_map_or (draws_shown acquired.event place) (acquired_by parts acquired) []
 
-abbrev pub kept_on_link : List Part → ℕ → Link → List Draw
-kept_on_link parts event link = option_map_or (kept_in_turn parts event) link.turn []
+abbrev pub kept_in_turn : List Part → Turn → List Draw
+kept_in_turn parts turn = option_map_or (kept_since parts (place_in turn)) turn.acquired []
 
--- The draws that a call was shown with which its session serves with the mark at this event; none where the notes give no such call.
+abbrev pub kept_on_link : List Part → Link → List Draw
+kept_on_link parts link = option_map_or (kept_in_turn parts) link.turn []
+
+-- The draws that a call was shown with which its session serves with the mark; none where the notes give no such call.
 -- (The connections are those before the item.)
-abbrev pub kept_at : List Part → Seen → ℕ → SessionId → List Draw
-kept_at parts seen event session = option_map_or (kept_on_link parts event) (link_of_session session seen.links) []
+abbrev pub kept_at : List Part → Seen → SessionId → List Draw
+kept_at parts seen session = option_map_or (kept_on_link parts) (link_of_session session seen.links) []

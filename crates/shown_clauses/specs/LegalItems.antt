@@ -28,7 +28,7 @@ did_at at now session thing = Did at now (record { incarnation = session.incarna
 
 -- A call with the mark brings what it was shown with, and every other item brings nothing.
 abbrev pub kept_if : Bool → List Part → Front → Served → List Draw
-kept_if true parts front one = kept_at parts front.place.seen one.event one.session
+kept_if true parts front one = kept_at parts front.place.seen one.session
 kept_if false parts front one = []
 
 abbrev pub item_of : List Part → Front → ℕ → Served → Item
