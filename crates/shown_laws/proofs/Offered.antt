@@ -10,5 +10,13 @@ pub use Rattle.shown_laws.proofs.SessionsApart.{at_link}
 -- what was done at all steps of a request is what it did
 pub use Rattle.shown_laws.proofs.ActsTold.{acts_in, acts_told}
 -- each event does what its note and its items say
-pub use Rattle.shown_laws.proofs.Following.{Does, at_event, follow_does}
+pub use Rattle.shown_laws.proofs.Following.{Does, Goes, ServesNone, Serves, CutsNone, Cuts, ReapsNone, Reaps, IsDown, Crashes, CrashStops, CrashServes, Ticks, Drains, IsServers, at_event, follow_does}
 pub use Rattle.shown_laws.proofs.GoNotes.{GoesAs, follow_goes}
+-- the connection of a frame that may be served, and the connection of a number where one becomes another, or all change
+pub use Rattle.shown_laws.proofs.ItemsTold.{IsFront, front_is}
+pub use Rattle.shown_laws.proofs.Lookups.{with_own, all_changed}
+-- what a connection had served stays where it ends
+pub use Rattle.shown_laws.proofs.ServedStays.{fallen_served}
+pub use Rattle.shown_laws.proofs.TurnsHappen.{blocked_served}
+-- machine and service stand beside one another
+pub use Rattle.shown_laws.proofs.FinishesReached.{reached_coupled}

@@ -1,0 +1,10 @@
+pub mod BareItems
+pub mod EventsDid
+pub mod EventsTold
+pub mod FinishPoints
+pub mod FrontMoves
+pub mod ItemsTold
+pub mod LegalRuns
+pub mod MomentsOrder
+pub mod SettingsSame
+pub mod ThingsTold

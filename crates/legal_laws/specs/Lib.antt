@@ -1,0 +1,3 @@
+pub mod MarksTold
+pub mod Points
+pub mod ToldLegal
