@@ -117,4 +117,5 @@ pub mod Unclosed
 pub mod UnclosedGoes
 pub mod UnclosedRuns
 pub mod UnclosedTakes
+pub mod WholeLines
 pub mod WireFronts

@@ -25,3 +25,4 @@ pub mod TurnsOver
 pub mod TurnsRight
 pub mod TurnsServed
 pub mod Unblocked
+pub mod WholeLines

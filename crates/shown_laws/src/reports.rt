@@ -2,6 +2,7 @@
 ghost use Rattle.shown_laws.specs.AnswersTold.{ReportsAnswerCalls, ReportsServeCalls};
 ghost use Rattle.shown_laws.specs.ReportsTold.{ReportsListSessions, ReportsListShowings, ReportsListOutcomes, ReportsTakeReplies, ReportsAreOrdered};
 ghost use Rattle.shown_laws.specs.TurnReports.{ReportsTurnsHaveClients, ReportsTurnsAreRight, ReportsTurnsHaveRequests};
+ghost use Rattle.shown_laws.specs.WholeLines.{LinesMakeWhole};
 
 /// The steps of each client, cut by the sessions of its reports: each report lists the sessions that its part acquired, the outcomes that it took,
 /// and the calls that it was shown.
@@ -60,3 +61,8 @@ pub fn reports_own_turns()
     crate::laws::steps_are_told();
     crate::turns::turns_are_of_acquirers();
 }
+
+/// A report is whole of which each line of `Whole` holds.
+pub fn lines_make_whole()
+    ensures { LinesMakeWhole }
+{}
