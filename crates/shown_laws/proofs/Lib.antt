@@ -118,4 +118,5 @@ pub mod UnclosedGoes
 pub mod UnclosedRuns
 pub mod UnclosedTakes
 pub mod WholeLines
+pub mod WholeReports
 pub mod WireFronts

@@ -51,7 +51,7 @@ each_client test (one ∷ scripts) (own ∷ clients) number long holds =
     subst (λ (n : ℕ). test n (submissions_in script.requests (reports_of other.past)) ≡ true) same (holds (suc index) other script here there)))
 
 -- the tests of its parts are such
-parts_by : (test : Part → Bool) (number : ℕ) (all : List StepTold) (submissions : List (List Submission)) → are_parts test number all submissions ≡ by_number (λ n mine. list_all test (parts_of mine (steps_of n all))) number submissions
+pub parts_by : (test : Part → Bool) (number : ℕ) (all : List StepTold) (submissions : List (List Submission)) → are_parts test number all submissions ≡ by_number (λ n mine. list_all test (parts_of mine (steps_of n all))) number submissions
 parts_by test number all [] = refl
 parts_by test number all (mine ∷ more) = ap (λ (rest : Bool). list_all test (parts_of mine (steps_of number all)) && rest) (parts_by test (number + 1) all more)
 

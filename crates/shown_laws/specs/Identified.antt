@@ -20,6 +20,7 @@ use Rattle.world_model.specs.Reported.{IsReported}
 use Rattle.world_model.specs.Settings.{Setting}
 use Rattle.world_model.specs.Traced.{Traced}
 use Rattle.shown_laws.specs.PartsTold.{submission_of}
+use Rattle.shown_laws.specs.ReportsTold.{HoldsOfReports, of_parts}
 use Rattle.shown_laws.specs.Telling.{steps_told}
 use Rattle.shown_laws.specs.Tellings.{Telling, TellsClient}
 
@@ -54,3 +55,7 @@ IdentifiersAreStored =
     (document : Document) (report : Report) (seen : Seen) (t : Traced) (server : Server) (client : ℕ) (own : Client)
     → IsTrue (all_requests_right document) → IsReported document report seen t server → client_at t.machine.clients client ≡ Some own → own.now ≡ None
     → IsTrue (list_all (have_identifiers (journal_before document).entries (stored_entries report)) (parts_of (map submission_of own.past) (steps_of client (steps_told report.notes report.served))))
+
+-- so of each part of its report
+abbrev pub ReportsIdentifyCalls : Type 0
+ReportsIdentifyCalls = HoldsOfReports (λ document report. of_parts (have_identifiers (journal_before document).entries (stored_entries report)) document report)

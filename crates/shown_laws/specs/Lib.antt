@@ -26,3 +26,4 @@ pub mod TurnsRight
 pub mod TurnsServed
 pub mod Unblocked
 pub mod WholeLines
+pub mod WholeRuns

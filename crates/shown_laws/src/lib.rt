@@ -1,5 +1,5 @@
 //! What the notes and the served items of a run tell is what its machine did: the events that a report gives, its connections, and the steps
-//! of its clients. So the clause `Caused` holds of the report of every whole run, and of `Whole` the lines on what a report lists.
+//! of its clients. So the clauses `Caused` and `Whole` hold of the report of every whole run.
 //!
 //! It has definitions and their laws, and no code. A law is the contract of a function that does nothing.
 #![tactic(auto)]

@@ -3,6 +3,8 @@ ghost use Rattle.shown_laws.specs.AnswersTold.{ReportsAnswerCalls, ReportsServeC
 ghost use Rattle.shown_laws.specs.ReportsTold.{ReportsListSessions, ReportsListShowings, ReportsListOutcomes, ReportsTakeReplies, ReportsAreOrdered};
 ghost use Rattle.shown_laws.specs.TurnReports.{ReportsTurnsHaveClients, ReportsTurnsAreRight, ReportsTurnsHaveRequests};
 ghost use Rattle.shown_laws.specs.WholeLines.{LinesMakeWhole};
+ghost use Rattle.shown_laws.specs.Identified.{ReportsIdentifyCalls};
+ghost use Rattle.shown_laws.specs.WholeRuns.{RunsAreWhole};
 
 /// The steps of each client, cut by the sessions of its reports: each report lists the sessions that its part acquired, the outcomes that it took,
 /// and the calls that it was shown.
@@ -62,7 +64,29 @@ pub fn reports_own_turns()
     crate::turns::turns_are_of_acquirers();
 }
 
+/// Each call of each report has the identifier of the item that showed it.
+pub fn reports_identify_calls()
+    ensures { ReportsIdentifyCalls }
+{
+    crate::laws::steps_are_told();
+    crate::whole::identifiers_are_stored();
+}
+
 /// A report is whole of which each line of `Whole` holds.
 pub fn lines_make_whole()
     ensures { LinesMakeWhole }
 {}
+
+/// The clause `Whole` holds of the report of every whole run: each request is shown its script's calls in order, by what sessions of its own
+/// served or by outcomes of its identifiers, and what a session served since a Begin is what the request sent that had the session.
+pub fn runs_are_whole()
+    ensures { RunsAreWhole }
+{
+    lines_make_whole();
+    reports_are_ordered();
+    reports_take_replies();
+    reports_list_parts();
+    reports_serve_calls();
+    reports_identify_calls();
+    reports_own_turns();
+}
