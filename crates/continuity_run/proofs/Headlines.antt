@@ -194,6 +194,7 @@ module _ (document : Document) (ran : Ran Within) (before : Before) (report : Re
     same_so = laws.same document report has.seen has.traced gained.server calls reported;
     stored_so = stored_so laws calls;
     caused_so = laws.caused document report has.seen has.traced gained.server calls tries reported;
+    whole_so = laws.whole document report has.seen has.traced gained.server calls reported;
     journal = off.journal;
     read = read_from;
     image = printed_as document.print_image off.image;

@@ -12,6 +12,7 @@ use Rattle.run_clauses.specs.Same.{same}
 use Rattle.run_clauses.specs.Serial.{IsSerial, printed_tables}
 use Rattle.run_clauses.specs.Stored.{stored}
 use Rattle.shown_clauses.specs.Caused.{caused}
+use Rattle.shown_clauses.specs.Whole.{whole}
 use Rattle.world_model.specs.Followed.{followed}
 use Rattle.world_model.specs.Judged.{is_legal, is_fresh_new}
 
@@ -53,6 +54,9 @@ pub record Headline (document : Document) (report : Report) : Type 0 where
   pub stored_so : IsTrue (stored document report)
   -- each request failed for the cause that its steps show, and no other failed
   pub caused_so : IsTrue (caused document report)
+  -- each request was shown its script's calls in order, by replies of sessions of its own or by outcomes of its identifiers, and what a session
+  -- served since a Begin is what that request sent
+  pub whole_so : IsTrue (whole document report)
   -- it is read from what the store holds at the end
   pub journal : Journal
   pub read : IsReadFrom document report journal

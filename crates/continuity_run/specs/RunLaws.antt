@@ -1,6 +1,7 @@
 -- What is proved of whole runs and of their reports, before any is made.
 use Rattle.server_model.specs.Laws.{RunsSerial}
 use Rattle.shown_laws.specs.CausedRuns.{RunsAreCaused}
+use Rattle.shown_laws.specs.WholeRuns.{RunsAreWhole}
 use Rattle.world_model.specs.OnceLaws.{ReportsAreOnce}
 use Rattle.world_model.specs.Reported.{RunsAreLegal, RunsAreFreshNew, RunsAreFresh, RunsAreSame}
 use Rattle.world_model.specs.RunLaws.{RunsAreFollowed}
@@ -21,3 +22,4 @@ pub record RunsHold : Type 0 where
   pub answered : BlocksAreAnswered
   pub ordered : BlocksComeInOrder
   pub caused : RunsAreCaused
+  pub whole : RunsAreWhole

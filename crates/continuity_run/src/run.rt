@@ -19,6 +19,7 @@ use server_model::laws::runs_serial;
 use service_calls::Service;
 use service_core::OneService;
 use shown_laws::laws::runs_are_caused;
+use shown_laws::reports::runs_are_whole;
 use std::alloc::Global;
 use svc_values::NoMemory;
 use world_model::laws::{
@@ -108,6 +109,7 @@ fn runs_hold()
     blocks_stay_apart();
     blocks_are_answered();
     runs_are_caused();
+    runs_are_whole();
 }
 
 /// The run of a document, and its report.

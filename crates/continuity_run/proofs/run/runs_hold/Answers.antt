@@ -16,4 +16,5 @@ returns c = record {
   answered = c.blocks_are_answered.ensures.answered;
   ordered = c.blocks_are_answered.ensures.order;
   caused = c.runs_are_caused.ensures;
+  whole = c.runs_are_whole.ensures;
 }
