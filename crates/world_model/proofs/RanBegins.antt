@@ -8,9 +8,6 @@ use Rattle.std.proofs.lemmas.Bool.{and_parts, and_from, or_from, or_left, or_rig
 use Rattle.std.proofs.lemmas.List.Folds.{list_any-append}
 use Rattle.svc_values.specs.declared.answer.Answer.{Answer}
 use Rattle.svc_values.specs.declared.answer.Answer.TheVariants as answer
-use Rattle.svc_values.specs.declared.call.Call.{Call}
-use Rattle.svc_values.specs.declared.draw.Draw.{Draw}
-use Rattle.svc_values.specs.declared.entry.Ltxid.{Ltxid}
 use Rattle.svc_values.specs.declared.frame.Up.{Up}
 use Rattle.svc_values.specs.declared.frame.Up.TheVariants as up
 use Rattle.svc_values.specs.declared.value.Value.{Value}
@@ -23,19 +20,20 @@ use Rattle.world_model.specs.FirstCalls.{begins_behind, begins_there, ends_befor
 use Rattle.world_model.specs.Frames.{Owner, Sent, Handled}
 use Rattle.world_model.specs.Parts.{implies}
 use Rattle.world_model.specs.Same.{ServedCall, Ran, did_all, ends_on_server, first_call, is_no_commit, ran_item, with_call}
-use Rattle.world_model.specs.Sames.{is_of, owned_by, same_owners}
+use Rattle.world_model.specs.Sames.{is_of, owned_by}
 use Rattle.world_model.specs.Serving.{is_last}
 use Rattle.world_model.specs.Shown.{in_row, is_call}
 use Rattle.world_model.specs.Traced.{Course}
-use Rattle.world_model.specs.Wire.{Stage, New, Greeted, Told, Repeated, Begun, Rested, Shut, Wrong, counted_with, handled_from, is_handled, next_stage, stage_if, is_alter, is_right}
+use Rattle.world_model.specs.Wire.{Stage, counted_with, handled_from, is_handled, next_stage, is_right}
 use Rattle.world_model.proofs.AllLists.{append_all, one_all}
 use Rattle.world_model.proofs.Fronts.{moved}
 use Rattle.world_model.proofs.KeptDecided.{carries}
 use Rattle.world_model.proofs.LinkLives.{lone_later, none_later}
 use Rattle.world_model.proofs.RanCalls.{is_mine, was_right}
-use Rattle.world_model.proofs.RanScripts.{Deal, Greets, Asks, Begins, Ends, Calls, Stops, IsLast, handled_deal, first_more, if_same, if_same_plain, owns, plain_left}
+use Rattle.world_model.proofs.RanScripts.{Deal, Greets, Asks, Begins, Ends, Calls, Stops, IsLast, handled_deal, first_more, owns, plain_left}
 use Rattle.world_model.proofs.RanSettings.{set_beside}
 use Rattle.world_model.proofs.RanStarts.{follows_so, row_from}
+use Rattle.world_model.proofs.StageStands.{StandsAt as stands_at, greeted_stands, asked_stands, end_stands, begin_stands, was_within, now_within}
 use Rattle.world_model.proofs.Tests.{eq_from}
 
 module _ (course : Course) (whole : List Handled) where
@@ -47,52 +45,11 @@ module _ (course : Course) (whole : List Handled) where
     pub mine : is_of course.owner owner ≡ true → may (first_call dids n) ≡ true
     pub others : is_of course.owner owner ≡ false → list_any (owns course) dids ≡ false
 
+  abbrev IsFree : List ServedCall → Type 0
+  IsFree dids = dids ≡ []
+
   abbrev pub StandsAt : Stage → ℕ → List ServedCall → Type 0
-  StandsAt (Repeated owner) n dids = IsFirst n owner dids
-  StandsAt (Begun owner) n dids = IsFirst n owner dids
-  StandsAt New n dids = dids ≡ []
-  StandsAt (Greeted owner) n dids = dids ≡ []
-  StandsAt (Told owner) n dids = dids ≡ []
-  StandsAt (Rested owner) n dids = dids ≡ []
-  StandsAt Shut n dids = dids ≡ []
-  StandsAt Wrong n dids = dids ≡ []
-
-  if_stands : (test : Bool) (stage : Stage) (n : ℕ) (dids : List ServedCall) → is_right (stage_if test stage) ≡ true → StandsAt stage n dids → StandsAt (stage_if test stage) n dids
-  if_stands true stage n dids right stands = stands
-  if_stands false stage n dids right stands = absurd (let none : ⊥ = cc in none)
-
-  greeted_stands : (stage : Stage) (owner : Option Owner) (n : ℕ) (dids : List ServedCall) → is_right (next_stage stage owner up.Connect) ≡ true → StandsAt stage n dids → StandsAt (next_stage stage owner up.Connect) n dids
-  greeted_stands New owner n dids right stands = if_stands _ (Greeted owner) n dids right stands
-  greeted_stands stage owner n dids right stands = absurd (let none : ⊥ = cc in none)
-
-  asked_stands : (stage : Stage) (owner : Option Owner) (x : Ltxid) (n : ℕ) (dids : List ServedCall) → is_right (next_stage stage owner (up.Outcome x)) ≡ true → StandsAt stage n dids → StandsAt (next_stage stage owner (up.Outcome x)) n dids
-  asked_stands (Greeted one) owner x n dids right stands = if_stands (same_owners one owner) (Told owner) n dids right stands
-  asked_stands stage owner x n dids right stands = absurd (let none : ⊥ = cc in none)
-
-  end_stands : (stage : Stage) (owner : Option Owner) (n : ℕ) → is_right (next_stage stage owner up.End) ≡ true → StandsAt (next_stage stage owner up.End) n []
-  end_stands (Begun one) owner n right = if_stands (same_owners one owner) (Rested owner) n [] right refl
-  end_stands (Told one) owner n right = if_stands (same_owners one owner) (Rested owner) n [] right refl
-  end_stands (Repeated one) owner n right = if_stands (same_owners one owner) (Rested owner) n [] right refl
-  end_stands stage owner n right = absurd (let never : ⊥ = cc in never)
-
-  begin_stands : (stage : Stage) (owner : Option Owner) (settings : List (List ℕ × Value)) (n : ℕ) → is_right (next_stage stage owner (up.Begin settings)) ≡ true → IsFirst n owner [] → StandsAt (next_stage stage owner (up.Begin settings)) n []
-  begin_stands (Greeted one) owner settings n right first = if_stands (same_owners one owner) (Begun owner) n [] right first
-  begin_stands (Told one) owner settings n right first = if_stands (same_owners one owner) (Repeated owner) n [] right first
-  begin_stands (Rested one) owner settings n right first = if_stands _ (Begun owner) n [] right first
-  begin_stands stage owner settings n right first = absurd (let never : ⊥ = cc in never)
-
-  was_first : (stage : Stage) (owner : Option Owner) (replay : Bool) (kept : List Draw) (call : Call) (n : ℕ) (dids : List ServedCall) → is_right (next_stage stage owner (up.Call replay kept call)) ≡ true → StandsAt stage n dids → IsFirst n owner dids
-  was_first (Repeated one) owner true kept call n dids right stands = subst (λ (o : Option Owner). IsFirst n o dids) (if_same course one owner (not (is_alter call)) (Repeated owner) right) stands
-  was_first (Repeated one) owner false kept call n dids right stands = subst (λ (o : Option Owner). IsFirst n o dids) (if_same_plain course one owner (Begun owner) right) stands
-  was_first (Begun one) owner false kept call n dids right stands = subst (λ (o : Option Owner). IsFirst n o dids) (if_same_plain course one owner (Begun owner) right) stands
-  was_first stage owner replay kept call n dids right stands = absurd (let none : ⊥ = cc in none)
-
-  now_first : (stage : Stage) (owner : Option Owner) (replay : Bool) (kept : List Draw) (call : Call) (n : ℕ) (dids : List ServedCall) → is_right (next_stage stage owner (up.Call replay kept call)) ≡ true → IsFirst n owner dids
-      → StandsAt (next_stage stage owner (up.Call replay kept call)) n dids
-  now_first (Repeated one) owner true kept call n dids right first = if_stands (same_owners one owner && not (is_alter call)) (Repeated owner) n dids right first
-  now_first (Repeated one) owner false kept call n dids right first = if_stands (same_owners one owner) (Begun owner) n dids right first
-  now_first (Begun one) owner false kept call n dids right first = if_stands (same_owners one owner) (Begun owner) n dids right first
-  now_first stage owner replay kept call n dids right first = absurd (let none : ⊥ = cc in none)
+  StandsAt = stands_at IsFirst IsFree
 
   -- A CALL ----------------------------------------------------------------------------------------
 
@@ -167,11 +124,11 @@ module _ (course : Course) (whole : List Handled) where
       by : (own : Bool) → owned_by course.owner sent ≡ own → implies own (is_behind_decided course.report.calls sent.call) ≡ true → Next rests (next_stage stage sent.owner (up.Begin settings)) (ran_item ran sent (item.Begin settings)) (item.Begin settings)
       by true own carry =
           GoesOn sent.call
-          (begin_stands stage sent.owner settings sent.call right (record { mine = λ is. or_left (is_behind_decided course.report.calls sent.call) (list_any (ends_before course sent.call) whole) carry; others = λ differs. refl }))
+          (begin_stands IsFirst IsFree stage sent.owner settings sent.call [] right (record { mine = λ is. or_left (is_behind_decided course.report.calls sent.call) (list_any (ends_before course sent.call) whole) carry; others = λ differs. refl }))
           (row_from course n sent rests own follow row) known
       by false own carry =
           GoesOn n
-          (begin_stands stage sent.owner settings n right (record { mine = λ is. absurd (let both : true ≡ false = sym is ∙ own in let none : ⊥ = cc in none); others = λ differs. refl })) row known
+          (begin_stands IsFirst IsFree stage sent.owner settings n [] right (record { mine = λ is. absurd (let both : true ≡ false = sym is ∙ own in let none : ⊥ = cc in none); others = λ differs. refl })) row known
 
   -- a commit ends the server's transaction
   ends_server : (last : Option Answer) → option_map_or is_committed last false ≡ true → (option_map_or (λ a. is_committed a || (is_conflict a || is_rolled_back a)) last false || option_map_or is_no_commit last false) ≡ true
@@ -191,25 +148,25 @@ module _ (course : Course) (whole : List Handled) where
       → implies (owned_by course.owner sent) (begins_behind course.report.calls sent.call frame) ≡ true → follows_so (if is_begin_frame frame then Some sent else None) rests ≡ true → MayEnd sent one → StandsAt stage n ran.pieces → knows ran ≡ true
       → Next rests (next_stage stage sent.owner frame) (ran_item ran sent one) one
   one_next rests stage n ran sent _ _ Greets right row carry follow ends stands known =
-      GoesOn n (greeted_stands stage sent.owner n ran.pieces right stands) (plain_left (in_row n) (owned_by course.owner sent) (sent ∷ filter (is_mine course) rests) (filter (is_mine course) rests) row) known
+      GoesOn n (greeted_stands IsFirst IsFree stage sent.owner n ran.pieces right stands) (plain_left (in_row n) (owned_by course.owner sent) (sent ∷ filter (is_mine course) rests) (filter (is_mine course) rests) row) known
   one_next rests stage n ran sent _ _ (Asks x asked result) right row carry follow ends stands known =
-      GoesOn n (asked_stands stage sent.owner x n ran.pieces right stands) (plain_left (in_row n) (owned_by course.owner sent) (sent ∷ filter (is_mine course) rests) (filter (is_mine course) rests) row) known
+      GoesOn n (asked_stands IsFirst IsFree stage sent.owner x n ran.pieces right stands) (plain_left (in_row n) (owned_by course.owner sent) (sent ∷ filter (is_mine course) rests) (filter (is_mine course) rests) row) known
   one_next rests stage n ran sent _ _ (Begins settings) right row carry follow ends stands known =
       begun_next rests stage n ran sent settings right (plain_left (in_row n) (owned_by course.owner sent) (sent ∷ filter (is_mine course) rests) (filter (is_mine course) rests) row) carry follow
       (and_parts (list_all (begins_there course whole) ran.over) (begins_there course whole ran.pieces) known).0
   one_next rests stage n ran sent _ _ Ends right row carry follow ends stands known =
-      GoesOn n (end_stands stage sent.owner n right) (plain_left (in_row n) (owned_by course.owner sent) (sent ∷ filter (is_mine course) rests) (filter (is_mine course) rests) row)
+      GoesOn n (end_stands IsFirst IsFree stage sent.owner n [] right refl) (plain_left (in_row n) (owned_by course.owner sent) (sent ∷ filter (is_mine course) rests) (filter (is_mine course) rests) row)
       (and_from (list_all (begins_there course whole) ran.over) true (and_parts (list_all (begins_there course whole) ran.over) (begins_there course whole ran.pieces) known).0 refl)
   one_next rests stage n ran sent _ _ (Calls replay marked kept call answers draws) right row carry follow ends stands known =
       let did : ServedCall = record { sent = sent; mark = marked; piece = record { call = call; answers = answers; draws = draws } } in
-      let opened : Opened ran.pieces did rests = call_opens n ran.pieces did rests (was_first stage sent.owner replay kept call n ran.pieces right stands) row in
+      let opened : Opened ran.pieces did rests = call_opens n ran.pieces did rests (was_within IsFirst IsFree stage sent.owner replay kept call n ran.pieces right stands) row in
       did_next rests (next_stage stage sent.owner (up.Call replay kept call)) sent.owner (with_call ran call) (ends_committed answers) (ends_on_server answers) (ran.pieces ++ did ∷ []) (item.Call marked call answers draws) opened.next
       (ap (list_all (begins_there course whole)) (set_beside ran call).over ∙ (and_parts (list_all (begins_there course whole) ran.over) (begins_there course whole ran.pieces) known).0) opened.begins
-      (λ pieces. now_first stage sent.owner replay kept call opened.next pieces right) opened.first (λ ended own. ap may (opened.is_next own) ∙ ends own (either_ends answers ended)) opened.row
+      (λ pieces. now_within IsFirst IsFree stage sent.owner replay kept call opened.next pieces right) opened.first (λ ended own. ap may (opened.is_next own) ∙ ends own (either_ends answers ended)) opened.row
   one_next rests stage n ran sent _ _ (Stops replay marked kept call) right row carry follow ends stands known =
       let did : ServedCall = record { sent = sent; mark = marked; piece = record { call = call; answers = []; draws = [] } } in
       let parts = and_parts (list_all (begins_there course whole) ran.over) (begins_there course whole ran.pieces) known in
-      let opened : Opened ran.pieces did rests = call_opens n ran.pieces did rests (was_first stage sent.owner replay kept call n ran.pieces right stands) row in
+      let opened : Opened ran.pieces did rests = call_opens n ran.pieces did rests (was_within IsFirst IsFree stage sent.owner replay kept call n ran.pieces right stands) row in
       IsDone refl
       (and_from (list_all (begins_there course whole) (ran.over ++ (ran.pieces ++ did ∷ []) ∷ [])) (begins_there course whole ran.pieces)
       (append_all (begins_there course whole) ran.over ((ran.pieces ++ did ∷ []) ∷ []) parts.0 (one_all (begins_there course whole) (ran.pieces ++ did ∷ []) opened.begins)) parts.1)

@@ -26,13 +26,12 @@ use Rattle.world_model.specs.Invariant.{Invariant}
 use Rattle.world_model.specs.Links.{Link}
 use Rattle.world_model.specs.Parts.{implies}
 use Rattle.world_model.specs.Same.{ServedCall, Ran, did_all, ends_on_server, first_call, has_script_calls, ran_item, run_script_calls, runs_script_calls, is_scripts, scripts_from, with_call}
-use Rattle.world_model.specs.Sames.{is_of, owned_by, same_owners}
+use Rattle.world_model.specs.Sames.{is_of, owned_by}
 use Rattle.world_model.specs.Serving.{is_item_of, is_last}
 use Rattle.world_model.specs.Shown.{in_row, is_call, is_scripts as is_script_frame}
 use Rattle.world_model.specs.Traced.{Traced, Course}
-use Rattle.world_model.specs.Wire.{Stage, New, Greeted, Told, Repeated, Begun, Rested, Shut, Wrong, counted_with, handled_from, is_handled, next_stage, stage_if, is_alter, is_right}
+use Rattle.world_model.specs.Wire.{Stage, New, Greeted, Told, Repeated, Begun, Rested, Shut, Wrong, counted_with, handled_from, is_handled, next_stage, is_right}
 use Rattle.world_model.proofs.AllLists.{append_all, one_all}
-use Rattle.world_model.proofs.AskedNear.{owners_are}
 use Rattle.world_model.proofs.Fronts.{moved}
 use Rattle.world_model.proofs.LinkLives.{lone_later, none_later}
 use Rattle.world_model.proofs.LinkNumbers.{Was, Ordinary, Halted, was_so}
@@ -41,6 +40,7 @@ use Rattle.world_model.proofs.RanLists.{none_ran}
 use Rattle.world_model.proofs.RanSessions.{over_same}
 use Rattle.world_model.proofs.RanSettings.{settings_decide}
 use Rattle.world_model.proofs.ServedRows.{InRow, held_so}
+use Rattle.world_model.proofs.StageStands.{StandsAt as stands_at, greeted_stands, asked_stands, was_within, now_within}
 use Rattle.world_model.proofs.Tests.{eq_from}
 
 -- WHAT WAS DONE WITH A FRAME ----------------------------------------------------------------------
@@ -110,15 +110,11 @@ module _ (course : Course) where
   open_none : (n : ℕ) (owner : Option Owner) → IsOpen n owner []
   open_none n owner = record { mine = λ is. (refl, let same : n + 0 ≡ n = omega arith in same); others = λ is. refl }
 
+  abbrev IsFree : List ServedCall → Type 0
+  IsFree dids = dids ≡ []
+
   abbrev StandsAt : Stage → ℕ → List ServedCall → Type 0
-  StandsAt (Repeated owner) n dids = IsOpen n owner dids
-  StandsAt (Begun owner) n dids = IsOpen n owner dids
-  StandsAt New n dids = dids ≡ []
-  StandsAt (Greeted owner) n dids = dids ≡ []
-  StandsAt (Told owner) n dids = dids ≡ []
-  StandsAt (Rested owner) n dids = dids ≡ []
-  StandsAt Shut n dids = dids ≡ []
-  StandsAt Wrong n dids = dids ≡ []
+  StandsAt = stands_at IsOpen IsFree
 
   none_stands : (stage : Stage) (n : ℕ) → StandsAt stage n []
   none_stands (Repeated owner) n = open_none n owner
@@ -129,46 +125,6 @@ module _ (course : Course) where
   none_stands (Rested owner) n = refl
   none_stands Shut n = refl
   none_stands Wrong n = refl
-
-  if_stands : (test : Bool) (stage : Stage) (n : ℕ) (dids : List ServedCall) → is_right (stage_if test stage) ≡ true → StandsAt stage n dids → StandsAt (stage_if test stage) n dids
-  if_stands true stage n dids right stands = stands
-  if_stands false stage n dids right stands = absurd (let none : ⊥ = cc in none)
-
-  greeted_stands : (stage : Stage) (owner : Option Owner) (n : ℕ) (dids : List ServedCall) → is_right (next_stage stage owner up.Connect) ≡ true → StandsAt stage n dids → StandsAt (next_stage stage owner up.Connect) n dids
-  greeted_stands New owner n dids right stands = if_stands _ (Greeted owner) n dids right stands
-  greeted_stands stage owner n dids right stands = absurd (let none : ⊥ = cc in none)
-
-  asked_stands : (stage : Stage) (owner : Option Owner) (x : Ltxid) (n : ℕ) (dids : List ServedCall) → is_right (next_stage stage owner (up.Outcome x)) ≡ true → StandsAt stage n dids → StandsAt (next_stage stage owner (up.Outcome x)) n dids
-  asked_stands (Greeted one) owner x n dids right stands = if_stands (same_owners one owner) (Told owner) n dids right stands
-  asked_stands stage owner x n dids right stands = absurd (let none : ⊥ = cc in none)
-
-  -- a call is of the owner whose transaction is open
-  pub if_same : (one owner : Option Owner) (also : Bool) (stage : Stage) → is_right (stage_if (same_owners one owner && also) stage) ≡ true → one ≡ owner
-  if_same one owner also stage right = by (same_owners one owner) refl right
-    where
-      by : (test : Bool) → same_owners one owner ≡ test → is_right (stage_if (test && also) stage) ≡ true → one ≡ owner
-      by true is right = owners_are one owner is
-      by false is right = absurd (let none : ⊥ = cc in none)
-
-  pub if_same_plain : (one owner : Option Owner) (stage : Stage) → is_right (stage_if (same_owners one owner) stage) ≡ true → one ≡ owner
-  if_same_plain one owner stage right = by (same_owners one owner) refl right
-    where
-      by : (test : Bool) → same_owners one owner ≡ test → is_right (stage_if test stage) ≡ true → one ≡ owner
-      by true is right = owners_are one owner is
-      by false is right = absurd (let none : ⊥ = cc in none)
-
-  was_open : (stage : Stage) (owner : Option Owner) (replay : Bool) (kept : List Draw) (call : Call) (n : ℕ) (dids : List ServedCall) → is_right (next_stage stage owner (up.Call replay kept call)) ≡ true → StandsAt stage n dids → IsOpen n owner dids
-  was_open (Repeated one) owner true kept call n dids right stands = subst (λ (o : Option Owner). IsOpen n o dids) (if_same one owner (not (is_alter call)) (Repeated owner) right) stands
-  was_open (Repeated one) owner false kept call n dids right stands = subst (λ (o : Option Owner). IsOpen n o dids) (if_same_plain one owner (Begun owner) right) stands
-  was_open (Begun one) owner false kept call n dids right stands = subst (λ (o : Option Owner). IsOpen n o dids) (if_same_plain one owner (Begun owner) right) stands
-  was_open stage owner replay kept call n dids right stands = absurd (let none : ⊥ = cc in none)
-
-  now_open : (stage : Stage) (owner : Option Owner) (replay : Bool) (kept : List Draw) (call : Call) (n : ℕ) (dids : List ServedCall) → is_right (next_stage stage owner (up.Call replay kept call)) ≡ true → IsOpen n owner dids
-      → StandsAt (next_stage stage owner (up.Call replay kept call)) n dids
-  now_open (Repeated one) owner true kept call n dids right opens = if_stands (same_owners one owner && not (is_alter call)) (Repeated owner) n dids right opens
-  now_open (Repeated one) owner false kept call n dids right opens = if_stands (same_owners one owner) (Begun owner) n dids right opens
-  now_open (Begun one) owner false kept call n dids right opens = if_stands (same_owners one owner) (Begun owner) n dids right opens
-  now_open stage owner replay kept call n dids right opens = absurd (let none : ⊥ = cc in none)
 
   -- A CALL ----------------------------------------------------------------------------------------
 
@@ -244,9 +200,9 @@ module _ (course : Course) where
       → in_row n (if owned_by course.owner sent && is_call frame then sent ∷ filter (is_mine course) rests else filter (is_mine course) rests) ≡ true
       → implies (owned_by course.owner sent && is_call frame) (is_script_frame course sent frame) ≡ true → StandsAt stage n ran.pieces → knows ran ≡ true → Next rests (next_stage stage sent.owner frame) (ran_item ran sent one) one
   one_next rests stage n ran sent _ _ Greets right row script stands known =
-      GoesOn n (greeted_stands stage sent.owner n ran.pieces right stands) (plain_left (in_row n) (owned_by course.owner sent) (sent ∷ filter (is_mine course) rests) (filter (is_mine course) rests) row) known
+      GoesOn n (greeted_stands IsOpen IsFree stage sent.owner n ran.pieces right stands) (plain_left (in_row n) (owned_by course.owner sent) (sent ∷ filter (is_mine course) rests) (filter (is_mine course) rests) row) known
   one_next rests stage n ran sent _ _ (Asks x asked result) right row script stands known =
-      GoesOn n (asked_stands stage sent.owner x n ran.pieces right stands) (plain_left (in_row n) (owned_by course.owner sent) (sent ∷ filter (is_mine course) rests) (filter (is_mine course) rests) row) known
+      GoesOn n (asked_stands IsOpen IsFree stage sent.owner x n ran.pieces right stands) (plain_left (in_row n) (owned_by course.owner sent) (sent ∷ filter (is_mine course) rests) (filter (is_mine course) rests) row) known
   one_next rests stage n ran sent _ _ (Begins settings) right row script stands known =
       GoesOn n (none_stands (next_stage stage sent.owner (up.Begin settings)) n) (plain_left (in_row n) (owned_by course.owner sent) (sent ∷ filter (is_mine course) rests) (filter (is_mine course) rests) row)
       (and_from (list_all (has_script_calls course) ran.over) true (and_parts (list_all (has_script_calls course) ran.over) (has_script_calls course ran.pieces) known).0 refl)
@@ -256,14 +212,14 @@ module _ (course : Course) where
   one_next rests stage n ran sent _ _ (Calls replay marked kept call answers draws) right row script stands known =
       let did : ServedCall = record { sent = sent; mark = marked; piece = record { call = call; answers = answers; draws = draws } } in
       let parts = and_parts (list_all (has_script_calls course) ran.over) (has_script_calls course ran.pieces) known in
-      let opened : Opened ran.pieces did rests = call_opens n ran.pieces did rests (was_open stage sent.owner replay kept call n ran.pieces right stands) row script in
+      let opened : Opened ran.pieces did rests = call_opens n ran.pieces did rests (was_within IsOpen IsFree stage sent.owner replay kept call n ran.pieces right stands) row script in
       did_next rests (next_stage stage sent.owner (up.Call replay kept call)) (with_call ran call) (ends_committed answers) (ends_on_server answers) (ran.pieces ++ did ∷ []) (item.Call marked call answers draws) opened.next
       (ap (list_all (has_script_calls course)) (over_same ran call) ∙ parts.0) opened.calls
-      (now_open stage sent.owner replay kept call opened.next (ran.pieces ++ did ∷ []) right opened.opens) opened.row
+      (now_within IsOpen IsFree stage sent.owner replay kept call opened.next (ran.pieces ++ did ∷ []) right opened.opens) opened.row
   one_next rests stage n ran sent _ _ (Stops replay marked kept call) right row script stands known =
       let did : ServedCall = record { sent = sent; mark = marked; piece = record { call = call; answers = []; draws = [] } } in
       let parts = and_parts (list_all (has_script_calls course) ran.over) (has_script_calls course ran.pieces) known in
-      let opened : Opened ran.pieces did rests = call_opens n ran.pieces did rests (was_open stage sent.owner replay kept call n ran.pieces right stands) row script in
+      let opened : Opened ran.pieces did rests = call_opens n ran.pieces did rests (was_within IsOpen IsFree stage sent.owner replay kept call n ran.pieces right stands) row script in
       IsDone refl
       (and_from (list_all (has_script_calls course) (ran.over ++ (ran.pieces ++ did ∷ []) ∷ [])) (has_script_calls course ran.pieces)
       (append_all (has_script_calls course) ran.over ((ran.pieces ++ did ∷ []) ∷ []) parts.0 (one_all (has_script_calls course) (ran.pieces ++ did ∷ []) opened.calls)) parts.1)

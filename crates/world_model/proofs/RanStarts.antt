@@ -9,7 +9,6 @@ use Rattle.std.proofs.lemmas.List.Folds.{list_any-append}
 use Rattle.std.proofs.lemmas.List.Sums.{fold-append}
 use Rattle.svc_values.specs.declared.call.Call.{Call}
 use Rattle.svc_values.specs.declared.draw.Draw.{Draw}
-use Rattle.svc_values.specs.declared.entry.Ltxid.{Ltxid}
 use Rattle.svc_values.specs.declared.frame.Up.{Up}
 use Rattle.svc_values.specs.declared.frame.Up.TheVariants as up
 use Rattle.svc_values.specs.declared.value.Value.{Value}
@@ -29,14 +28,15 @@ use Rattle.world_model.specs.Sames.{is_of, owned_by, same_owners}
 use Rattle.world_model.specs.Serving.{is_last}
 use Rattle.world_model.specs.Shown.{in_row, is_call, is_scripts as is_script_frame}
 use Rattle.world_model.specs.Traced.{Course}
-use Rattle.world_model.specs.Wire.{Stage, New, Greeted, Told, Repeated, Begun, Rested, Shut, Wrong, counted_with, handled_from, is_handled, next_stage, stage_if, is_alter, is_right}
+use Rattle.world_model.specs.Wire.{Stage, New, Greeted, Told, Repeated, Begun, Rested, Shut, Wrong, counted_with, handled_from, is_handled, next_stage, is_right}
 use Rattle.world_model.proofs.AskedNear.{owners_are}
 use Rattle.world_model.proofs.Fronts.{moved}
 use Rattle.world_model.proofs.KeptSettings.{carries}
 use Rattle.world_model.proofs.LinkLives.{lone_later, none_later}
 use Rattle.world_model.proofs.RanCalls.{follows, is_mine, was_right}
-use Rattle.world_model.proofs.RanScripts.{Deal, Greets, Asks, Begins, Ends, Calls, Stops, IsLast, handled_deal, first_more, if_same, if_same_plain, owns, plain_left}
+use Rattle.world_model.proofs.RanScripts.{Deal, Greets, Asks, Begins, Ends, Calls, Stops, IsLast, handled_deal, first_more, owns, plain_left}
 use Rattle.world_model.proofs.RanSettings.{IsBeside, set_beside, set_settings, settings_decide}
+use Rattle.world_model.proofs.StageStands.{StandsAt as stands_at, greeted_stands, asked_stands, end_stands, begin_stands, was_within, now_within}
 use Rattle.world_model.proofs.Tests.{eq_from}
 
 -- SETTINGS ----------------------------------------------------------------------------------------
@@ -96,53 +96,17 @@ module _ (course : Course) where
     pub pieces : ran.pieces ≡ []
     pub next_is : next ≡ None
 
+  abbrev SetAt : ℕ → Option Owner → Ran × Option ℕ → Type 0
+  SetAt n owner at = IsSet n owner at.0 at.1
+
+  abbrev NoneAt : Ran × Option ℕ → Type 0
+  NoneAt at = IsNone at.0 at.1
+
   abbrev pub StandsAt : Stage → ℕ → Ran → Option ℕ → Type 0
-  StandsAt (Repeated owner) n ran next = IsSet n owner ran next
-  StandsAt (Begun owner) n ran next = IsSet n owner ran next
-  StandsAt New n ran next = IsNone ran next
-  StandsAt (Greeted owner) n ran next = IsNone ran next
-  StandsAt (Told owner) n ran next = IsNone ran next
-  StandsAt (Rested owner) n ran next = IsNone ran next
-  StandsAt Shut n ran next = IsNone ran next
-  StandsAt Wrong n ran next = IsNone ran next
-
-  if_stands : (test : Bool) (stage : Stage) (n : ℕ) (ran : Ran) (next : Option ℕ) → is_right (stage_if test stage) ≡ true → StandsAt stage n ran next → StandsAt (stage_if test stage) n ran next
-  if_stands true stage n ran next right stands = stands
-  if_stands false stage n ran next right stands = absurd (let none : ⊥ = cc in none)
-
-  greeted_stands : (stage : Stage) (owner : Option Owner) (n : ℕ) (ran : Ran) (next : Option ℕ) → is_right (next_stage stage owner up.Connect) ≡ true → StandsAt stage n ran next → StandsAt (next_stage stage owner up.Connect) n ran next
-  greeted_stands New owner n ran next right stands = if_stands _ (Greeted owner) n ran next right stands
-  greeted_stands stage owner n ran next right stands = absurd (let none : ⊥ = cc in none)
-
-  asked_stands : (stage : Stage) (owner : Option Owner) (x : Ltxid) (n : ℕ) (ran : Ran) (next : Option ℕ) → is_right (next_stage stage owner (up.Outcome x)) ≡ true → StandsAt stage n ran next → StandsAt (next_stage stage owner (up.Outcome x)) n ran next
-  asked_stands (Greeted one) owner x n ran next right stands = if_stands (same_owners one owner) (Told owner) n ran next right stands
-  asked_stands stage owner x n ran next right stands = absurd (let none : ⊥ = cc in none)
-
-  end_stands : (stage : Stage) (owner : Option Owner) (n : ℕ) (ran : Ran) → is_right (next_stage stage owner up.End) ≡ true → ran.pieces ≡ [] → StandsAt (next_stage stage owner up.End) n ran None
-  end_stands (Begun one) owner n ran right none = if_stands (same_owners one owner) (Rested owner) n ran None right (record { pieces = none; next_is = refl })
-  end_stands (Told one) owner n ran right none = if_stands (same_owners one owner) (Rested owner) n ran None right (record { pieces = none; next_is = refl })
-  end_stands (Repeated one) owner n ran right none = if_stands (same_owners one owner) (Rested owner) n ran None right (record { pieces = none; next_is = refl })
-  end_stands stage owner n ran right none = absurd (let never : ⊥ = cc in never)
-
-  begin_stands : (stage : Stage) (owner : Option Owner) (settings : List (List ℕ × Value)) (n : ℕ) (ran : Ran) (next : Option ℕ) → is_right (next_stage stage owner (up.Begin settings)) ≡ true → IsSet n owner ran next
-      → StandsAt (next_stage stage owner (up.Begin settings)) n ran next
-  begin_stands (Greeted one) owner settings n ran next right set = if_stands (same_owners one owner) (Begun owner) n ran next right set
-  begin_stands (Told one) owner settings n ran next right set = if_stands (same_owners one owner) (Repeated owner) n ran next right set
-  begin_stands (Rested one) owner settings n ran next right set = if_stands _ (Begun owner) n ran next right set
-  begin_stands stage owner settings n ran next right set = absurd (let never : ⊥ = cc in never)
+  StandsAt stage n ran next = stands_at SetAt NoneAt stage n (ran, next)
 
   pub was_set : (stage : Stage) (owner : Option Owner) (replay : Bool) (kept : List Draw) (call : Call) (n : ℕ) (ran : Ran) (next : Option ℕ) → is_right (next_stage stage owner (up.Call replay kept call)) ≡ true → StandsAt stage n ran next → IsSet n owner ran next
-  was_set (Repeated one) owner true kept call n ran next right stands = subst (λ (o : Option Owner). IsSet n o ran next) (if_same course one owner (not (is_alter call)) (Repeated owner) right) stands
-  was_set (Repeated one) owner false kept call n ran next right stands = subst (λ (o : Option Owner). IsSet n o ran next) (if_same_plain course one owner (Begun owner) right) stands
-  was_set (Begun one) owner false kept call n ran next right stands = subst (λ (o : Option Owner). IsSet n o ran next) (if_same_plain course one owner (Begun owner) right) stands
-  was_set stage owner replay kept call n ran next right stands = absurd (let none : ⊥ = cc in none)
-
-  now_set : (stage : Stage) (owner : Option Owner) (replay : Bool) (kept : List Draw) (call : Call) (n : ℕ) (ran : Ran) (next : Option ℕ) → is_right (next_stage stage owner (up.Call replay kept call)) ≡ true → IsSet n owner ran next
-      → StandsAt (next_stage stage owner (up.Call replay kept call)) n ran next
-  now_set (Repeated one) owner true kept call n ran next right set = if_stands (same_owners one owner && not (is_alter call)) (Repeated owner) n ran next right set
-  now_set (Repeated one) owner false kept call n ran next right set = if_stands (same_owners one owner) (Begun owner) n ran next right set
-  now_set (Begun one) owner false kept call n ran next right set = if_stands (same_owners one owner) (Begun owner) n ran next right set
-  now_set stage owner replay kept call n ran next right set = absurd (let none : ⊥ = cc in none)
+  was_set stage owner replay kept call n ran next right stands = was_within SetAt NoneAt stage owner replay kept call n (ran, next) right stands
 
   -- a session that has begun the request has the settings before its next call
   set_known : (n : ℕ) (owner : Option Owner) (ran : Ran) (next : Option ℕ) → IsSet n owner ran next → option_map_or (stands_before course ran) next true ≡ true
@@ -276,12 +240,12 @@ module _ (course : Course) where
       by true own carry =
           let same : settings ≡ since sent.call = (settings_decide settings (since sent.call)).0 carry in
           GoesOn sent.call
-          (begin_stands stage sent.owner settings sent.call later next right
+          (begin_stands SetAt NoneAt stage sent.owner settings sent.call (later, next) right
           (record { mine = λ is. (same, same, ap (λ (test : Bool). if test then Some sent.call else None) own); others = λ differs. absurd (let both : true ≡ false = sym own ∙ differs in let none : ⊥ = cc in none) }))
           (row_from n sent rests own follow row) known
       by false own carry =
           GoesOn n
-          (begin_stands stage sent.owner settings n later next right
+          (begin_stands SetAt NoneAt stage sent.owner settings n (later, next) right
           (record { mine = λ is. absurd (let both : true ≡ false = sym is ∙ own in let none : ⊥ = cc in none); others = λ differs. (refl, ap (λ (test : Bool). if test then Some sent.call else None) own) })) row known
 
   -- an item behind which none is served leaves it
@@ -296,14 +260,14 @@ module _ (course : Course) where
       → implies (owned_by course.owner sent && is_call frame) (is_script_frame course sent frame) ≡ true → implies (owned_by course.owner sent) (carries_settings course.request sent.call frame) ≡ true
       → follows_so (if is_begin_frame frame then Some sent else None) rests ≡ true → StandsAt stage n ran next → knows ran ≡ true → Next rests (next_stage stage sent.owner frame) (ran_item ran sent one) (next_behind course next sent one) one
   one_next rests stage n ran next sent _ _ Greets right row script carry follow stands known =
-      GoesOn n (greeted_stands stage sent.owner n ran next right stands) (plain_left (in_row n) (owned_by course.owner sent) (sent ∷ filter (is_mine course) rests) (filter (is_mine course) rests) row) known
+      GoesOn n (greeted_stands SetAt NoneAt stage sent.owner n (ran, next) right stands) (plain_left (in_row n) (owned_by course.owner sent) (sent ∷ filter (is_mine course) rests) (filter (is_mine course) rests) row) known
   one_next rests stage n ran next sent _ _ (Asks x asked result) right row script carry follow stands known =
-      GoesOn n (asked_stands stage sent.owner x n ran next right stands) (plain_left (in_row n) (owned_by course.owner sent) (sent ∷ filter (is_mine course) rests) (filter (is_mine course) rests) row) known
+      GoesOn n (asked_stands SetAt NoneAt stage sent.owner x n (ran, next) right stands) (plain_left (in_row n) (owned_by course.owner sent) (sent ∷ filter (is_mine course) rests) (filter (is_mine course) rests) row) known
   one_next rests stage n ran next sent _ _ (Begins settings) right row script carry follow stands known =
       begun_next rests stage n ran sent settings right (plain_left (in_row n) (owned_by course.owner sent) (sent ∷ filter (is_mine course) rests) (filter (is_mine course) rests) row) carry follow
       (and_parts (have_starts course ran.over ran.starts) (has_start course ran.pieces ran.at_start) known).0
   one_next rests stage n ran next sent _ _ Ends right row script carry follow stands known =
-      GoesOn n (end_stands stage sent.owner n (ran_item ran sent item.End) right refl) (plain_left (in_row n) (owned_by course.owner sent) (sent ∷ filter (is_mine course) rests) (filter (is_mine course) rests) row)
+      GoesOn n (end_stands SetAt NoneAt stage sent.owner n (ran_item ran sent item.End, None) right (record { pieces = refl; next_is = refl })) (plain_left (in_row n) (owned_by course.owner sent) (sent ∷ filter (is_mine course) rests) (filter (is_mine course) rests) row)
       (and_from (have_starts course ran.over ran.starts) true (and_parts (have_starts course ran.over ran.starts) (has_start course ran.pieces ran.at_start) known).0 refl)
   one_next rests stage n ran next sent _ _ (Calls replay marked kept call answers draws) right row script carry follow stands known =
       let did : ServedCall = record { sent = sent; mark = marked; piece = record { call = call; answers = answers; draws = draws } } in
@@ -313,7 +277,7 @@ module _ (course : Course) where
       (ap (λ (over : List (List ServedCall)). have_starts course over (with_call ran call).starts) beside.over
       ∙ (ap (have_starts course ran.over) beside.starts ∙ (and_parts (have_starts course ran.over ran.starts) (has_start course ran.pieces ran.at_start) known).0))
       (ap (has_start course (ran.pieces ++ did ∷ [])) beside.at_start ∙ opened.starts)
-      (λ later. now_set stage sent.owner replay kept call opened.at later (next_called next sent) right) opened.set opened.row
+      (λ later. now_within SetAt NoneAt stage sent.owner replay kept call opened.at (later, next_called next sent) right) opened.set opened.row
   one_next rests stage n ran next sent _ _ (Stops replay marked kept call) right row script carry follow stands known =
       let did : ServedCall = record { sent = sent; mark = marked; piece = record { call = call; answers = []; draws = [] } } in
       let parts = and_parts (have_starts course ran.over ran.starts) (has_start course ran.pieces ran.at_start) known in
