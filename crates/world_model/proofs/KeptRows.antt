@@ -1,7 +1,7 @@
 -- Of Shown: the calls that a request sent on each connection are in a row, at the start and behind each event.
 use Rattle.std.proofs.Common.{◌≡◌, ◌≢◌, refl, sym, ap, subst, ◌∙◌, Bool, true, false, ℕ, ◌+◌, ◌&&◌, ◌||◌, length, List, [], ◌∷◌, ◌++◌, map, Option, Some, None}
 use Rattle.std.specs.Prelude.{◌==◌, not, is_none, unwrap_or, option_map}
-use Rattle.std.specs.List.{list_all, last_or}
+use Rattle.std.specs.List.{list_all, list_any, last_or}
 use Rattle.std.specs.Option.{option_or, option_map_or}
 use Rattle.std.proofs.lemmas.Bool.{and_parts}
 use Rattle.std.proofs.lemmas.List.{append-nil}
@@ -30,7 +30,7 @@ use Rattle.world_model.specs.Ready.{is_ready_client}
 use Rattle.world_model.specs.Sames.{owned_by}
 use Rattle.world_model.specs.Script.{owned_rightly, same_digests, recorded_from, keeps, is_kept, account}
 use Rattle.world_model.specs.Settings.{Setting, setting_of}
-use Rattle.world_model.specs.Shown.{calls_on, is_current, is_row, in_rows}
+use Rattle.world_model.specs.Shown.{calls_on, is_current, is_row, in_rows, in_row, first_of, is_scripts}
 use Rattle.world_model.specs.Traced.{Traced, Course, course_now, course_over, courses_of_clients, courses_of}
 use Rattle.world_model.specs.Wire.{stage_of, is_right, in_grammar}
 use Rattle.world_model.specs.Words.{held_in}
@@ -40,8 +40,9 @@ use Rattle.world_model.proofs.ClientSteps.{HasStepped, GoesOn, AtOnce, LostToo, 
 use Rattle.world_model.proofs.CoursesStep.{all_step}
 use Rattle.world_model.proofs.Happened.{Followed, follow_happens, at_event}
 use Rattle.world_model.proofs.Held.{doing_course}
-use Rattle.world_model.proofs.KeptSendings.{spoken_passes, each_passes, before_sent, resting_none}
+use Rattle.world_model.proofs.KeptSendings.{spoken_passes, each_passes, before_sent, resting_none, any_of_all}
 use Rattle.world_model.proofs.Moves.{IsDoing}
+use Rattle.world_model.proofs.OwnedKept.{left_held}
 use Rattle.world_model.proofs.RowCourses.{row_test, others_row, row_append, strange_row, OnIt, awaits_last}
 use Rattle.world_model.proofs.RowHeld.{mine_rows}
 use Rattle.world_model.proofs.RowLast.{row_of}
@@ -50,7 +51,7 @@ use Rattle.world_model.proofs.SendingSteps.{sent_on_held, course_sent, slot_want
 use Rattle.world_model.proofs.SentAt.{sents_pass, PassesAt, passes_from, passes_to, grown_at, link_passes}
 use Rattle.world_model.proofs.SentLinks.{is_strange}
 use Rattle.world_model.proofs.SentLists.{sent_lists}
-use Rattle.world_model.proofs.StepFacts.{account_now, first_step, first_doing, step_owner, request_after}
+use Rattle.world_model.proofs.StepFacts.{account_now, first_step, first_doing, step_owner, request_after, before_talks}
 use Rattle.world_model.proofs.Strangers.{slot_strange, other_owner}
 use Rattle.world_model.proofs.Tests.{eq_from}
 
@@ -117,6 +118,19 @@ module _ (t : Traced) (m : Machine) (number : ℕ) (n : Machine) (step : HasStep
           let same : begun t.setting.terms m.event m.tick request ≡ step.before = cc in
           subst (λ (d : Doing). course_rows t.machine.links (course_now t.setting number (length step.client.past) d) ≡ true) same refl
       by None is None does = absurd (let none : ⊥ = cc in none)
+
+  -- its connection is one that it held
+  pub was_held : AllTalk t.setting.terms m.clients → (at : ℕ) → step.before.connection ≡ Some at → list_any (λ other. other == at) (held_in step.before.steps) ≡ true
+  was_held talks at has = left_held None at step.before.steps (λ one never same. let none : ⊥ = cc in none) ((before_talks t.setting m talks number n step).has ∙ has)
+
+  -- and the calls that it sent there are its script's
+  pub held_scripts : AllTalk t.setting.terms m.clients → in_rows t ≡ true → (at : ℕ) (link : Link) → step.before.connection ≡ Some at → link_at t.machine.links at ≡ Some link → list_all (λ sent. is_scripts course sent sent.frame) (row_of mine link.sent) ≡ true
+  held_scripts talks rows at link has there =
+      let row : option_map_or (λ l. is_row course (is_current course at) (calls_on course l)) (link_at t.machine.links at) false ≡ true =
+      any_of_all (λ k. option_map_or (λ l. is_row course (is_current course k) (calls_on course l)) (link_at t.machine.links k) false) (held_in step.before.steps) at (before_rows rows) (was_held talks at has) in
+      let here : is_row course (is_current course at) (row_of mine link.sent) ≡ true = subst (λ (found : Option Link). option_map_or (λ l. is_row course (is_current course at) (calls_on course l)) found false ≡ true) there row in
+      let one = and_parts (in_row (option_map_or (λ sent. sent.call) (first_of (row_of mine link.sent)) 0) (row_of mine link.sent)) _ here in
+      (and_parts (list_all (λ sent. is_scripts course sent sent.frame) (row_of mine link.sent)) _ one.1).0
 
   -- what it keeps to be repeated, where it asked for an outcome
   asked_keeps : (asking : Asking) → step.before.talk.phase ≡ Asked asking → asking.track.why ≡ None → is_kept t course ≡ true

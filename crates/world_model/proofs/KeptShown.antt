@@ -34,7 +34,7 @@ use Rattle.world_model.specs.Parts.{Sending, sendings_of}
 use Rattle.world_model.specs.Reached.{traced_start}
 use Rattle.world_model.specs.Sames.{owned_by}
 use Rattle.world_model.specs.Settings.{Setting, setting_of}
-use Rattle.world_model.specs.Shown.{calls_on, is_current, is_row, in_row, first_of, is_scripts, is_shown_item, link_shows, has_completed, is_from, all_from, are_from, shows_commit}
+use Rattle.world_model.specs.Shown.{is_shown_item, link_shows, has_completed, is_from, all_from, are_from, shows_commit}
 use Rattle.world_model.specs.Traced.{Traced, Course, course_now, course_over, courses_of_clients, courses_of}
 use Rattle.world_model.specs.Words.{brought, held_in}
 use Rattle.world_model.proofs.AllLists.{weaker_all}
@@ -45,8 +45,8 @@ use Rattle.world_model.proofs.CoursesStep.{all_step}
 use Rattle.world_model.proofs.GivenMore.{shows_by, all_more, all_push, all_weaker}
 use Rattle.world_model.proofs.Happened.{Followed, follow_happens, at_event}
 use Rattle.world_model.proofs.Held.{doing_course}
-use Rattle.world_model.proofs.KeptRows.{course_rows, before_rows, before_on}
-use Rattle.world_model.proofs.KeptSendings.{any_of_all, resting_none}
+use Rattle.world_model.proofs.KeptRows.{course_rows, before_on, held_scripts, was_held}
+use Rattle.world_model.proofs.KeptSendings.{resting_none}
 use Rattle.world_model.proofs.KeptTried.{tried_law}
 use Rattle.world_model.proofs.KnownLinks.{known_of}
 use Rattle.world_model.proofs.LinkCounts.{Known}
@@ -54,13 +54,11 @@ use Rattle.world_model.proofs.Lists.{any_goes}
 use Rattle.world_model.proofs.LoneCalls.{lone_now}
 use Rattle.world_model.proofs.LostKept.{both_all}
 use Rattle.world_model.proofs.OutcomesTold.{told_more, outcomes_are}
-use Rattle.world_model.proofs.OwnedKept.{left_held}
-use Rattle.world_model.proofs.RowLast.{row_of}
 use Rattle.world_model.proofs.RowSteps.{ShownStep, NoneMore, OneMore, shown_step, shown_after}
 use Rattle.world_model.proofs.SendingSteps.{after_held, scan_by}
 use Rattle.world_model.proofs.ServedGrows.{IsLonger, happens_longer}
 use Rattle.world_model.proofs.ShownNow.{IsShownOn, Completed, ShownNow, FromItem, FromOutcome, shown_now}
-use Rattle.world_model.proofs.StepFacts.{account_now, first_step, first_doing, before_talks, request_after}
+use Rattle.world_model.proofs.StepFacts.{account_now, first_step, first_doing, request_after}
 use Rattle.world_model.proofs.Strangers.{same_owner_is}
 use Rattle.world_model.proofs.Tests.{eq_from}
 use Rattle.world_model.proofs.TalkShows.{completed_gives}
@@ -116,18 +114,6 @@ module _ (old new : Traced) (whole : Invariant old) (rows : list_all (course_row
             subst (λ (d : Doing). given_test old (course_now old.setting number (length step.client.past) d) ≡ true) same refl
         by None is None does = absurd (let none : ⊥ = cc in none)
 
-    -- its connection is one that it held
-    was_held : (at : ℕ) → step.before.connection ≡ Some at → list_any (λ other. other == at) (held_in step.before.steps) ≡ true
-    was_held at has = left_held None at step.before.steps (λ one never same. let none : ⊥ = cc in none) ((before_talks old.setting m inv.script.talks number n step).has ∙ has)
-
-    scripts : (at : ℕ) (link : Link) → step.before.connection ≡ Some at → link_at m.links at ≡ Some link → list_all (λ sent. is_scripts before_course sent sent.frame) (row_of mine link.sent) ≡ true
-    scripts at link has there =
-        let row : option_map_or (λ l. is_row before_course (is_current before_course at) (calls_on before_course l)) (link_at old.machine.links at) false ≡ true =
-        any_of_all (λ k. option_map_or (λ l. is_row before_course (is_current before_course k) (calls_on before_course l)) (link_at old.machine.links k) false) (held_in step.before.steps) at (before_rows old m number n step step.here rows) (was_held at has) in
-        let here : is_row before_course (is_current before_course at) (row_of mine link.sent) ≡ true = subst (λ (found : Option Link). option_map_or (λ l. is_row before_course (is_current before_course at) (calls_on before_course l)) found false ≡ true) there row in
-        let one = and_parts (in_row (option_map_or (λ sent. sent.call) (first_of (row_of mine link.sent)) 0) (row_of mine link.sent)) _ here in
-        (and_parts (list_all (λ sent. is_scripts before_course sent sent.frame) (row_of mine link.sent)) _ one.1).0
-
     module _ (d : Course) (owner : d.owner ≡ mine) (steps : d.steps ≡ step.after.steps) (calls : d.report.calls ≡ map shown_call (account_now old.setting.terms step.after).shown)
         (outcomes : d.report.outcomes ≡ map told_outcome (account_now old.setting.terms step.after).outcomes) (request : d.request ≡ step.after.request) where
       request_same : d.request.calls ≡ step.before.request.calls
@@ -164,7 +150,7 @@ module _ (old new : Traced) (whole : Invariant old) (rows : list_all (course_row
           let held : list_any (λ other. other == at) (held_in d.steps) ≡ true =
           ap (λ (all : List ℕ). list_any (λ other. other == at) all) held_are
           ∙ (list_any-append (λ other. other == at) (held_in step.before.steps) (cons_option (brought step.input) [])
-          ∙ or_left (list_any (λ other. other == at) (held_in step.before.steps)) (list_any (λ other. other == at) (cons_option (brought step.input) [])) (was_held at has)) in
+          ∙ or_left (list_any (λ other. other == at) (held_in step.before.steps)) (list_any (λ other. other == at) (cons_option (brought step.input) [])) (was_held old m number n step step.here inv.script.talks at has)) in
           subst (λ (c : Option Call). is_from (completed_sent d) new d (length shown_before) c (shown_call shown) ≡ true) (sym (ap (λ (all : List Call). slice_get all (length shown_before)) request_same ∙ found.script))
           (or_left (list_any (link_shows new d (length shown_before) found.call (shown_call shown)) (held_in d.steps)) (is_lone_commit found.call && (shows_commit (shown_call shown) && completed_sent d))
           (any_at (link_shows new d (length shown_before) found.call (shown_call shown)) (held_in d.steps) at held
@@ -216,7 +202,7 @@ module _ (old new : Traced) (whole : Invariant old) (rows : list_all (course_row
               (all_push (completed_sent d) new d 0 (length shown_before) before_course.report.calls (shown_call shown) place so_far
               (is_now shown is
               (shown_now old.setting m inv.script.talks number n step same_owner_is (λ at has. before_on old m number n step step.here inv.hold.held inv.wire.grammar at has) (λ at link there. known at link there)
-              scripts shown is)))
+              (held_scripts old m number n step step.here inv.script.talks rows) shown is)))
 
   may_give : MayStep old.setting m new.machine → list_all (given_test new) (courses_of_clients old.setting 1 new.machine.clients) ≡ true
   may_give (Still same sents) =

@@ -2,7 +2,7 @@
 use Rattle.std.proofs.Common.{◌≡◌, refl, sym, ap, subst, ◌∙◌, Bool, true, false, ℕ, suc, zero, ◌+◌, ◌&&◌, length, List, [], ◌∷◌, ◌++◌, map, Option, Some, None, arith, ◌||◌}
 use Rattle.std.specs.Prelude.{◌==◌, slice_get, option_map}
 use Rattle.std.specs.List.{list_all, list_any}
-use Rattle.std.specs.Option.{option_or, option_map_or}
+use Rattle.std.specs.Option.{option_or}
 use Rattle.std.proofs.lemmas.Bool.{and_parts, and_from, or_left, or_right}
 use Rattle.std.proofs.lemmas.List.{map-append, length-map}
 use Rattle.svc_values.specs.declared.call.Call.{Call}
@@ -32,25 +32,22 @@ use Rattle.world_model.specs.OneEvent.{OneEvent}
 use Rattle.world_model.specs.Reached.{traced_start}
 use Rattle.world_model.specs.Sames.{owned_by}
 use Rattle.world_model.specs.Settings.{setting_of}
-use Rattle.world_model.specs.Shown.{calls_on, is_current, is_row, in_row, first_of, is_scripts, is_shown_item, in_rows}
+use Rattle.world_model.specs.Shown.{is_shown_item, in_rows}
 use Rattle.world_model.specs.Traced.{Traced, Course, course_now, course_over, courses_of_clients, courses_of}
-use Rattle.world_model.specs.Words.{held_in}
 use Rattle.world_model.proofs.AllLists.{weaker_all}
 use Rattle.world_model.proofs.ClientSteps.{HasStepped, MayStep, Still, Closed, Stepped, happens_step}
 use Rattle.world_model.proofs.CoursesStep.{all_step}
 use Rattle.world_model.proofs.FirstBehind.{any_found}
 use Rattle.world_model.proofs.Happened.{Followed, follow_happens, at_event}
 use Rattle.world_model.proofs.Held.{doing_course}
-use Rattle.world_model.proofs.KeptRows.{course_rows, before_rows, before_on}
-use Rattle.world_model.proofs.KeptSendings.{any_of_all, resting_none}
+use Rattle.world_model.proofs.KeptRows.{course_rows, before_on, held_scripts}
+use Rattle.world_model.proofs.KeptSendings.{resting_none}
 use Rattle.world_model.proofs.KnownLinks.{known_of}
 use Rattle.world_model.proofs.Lists.{any_goes, at_any}
-use Rattle.world_model.proofs.OwnedKept.{left_held}
-use Rattle.world_model.proofs.RowLast.{row_of}
 use Rattle.world_model.proofs.RowSteps.{ShownStep, NoneMore, OneMore, shown_step, shown_after}
 use Rattle.world_model.proofs.ServedGrows.{IsLonger, happens_longer}
 use Rattle.world_model.proofs.ShownNow.{ShownNow, FromItem, FromOutcome, shown_now}
-use Rattle.world_model.proofs.StepFacts.{account_now, first_step, before_talks, first_doing}
+use Rattle.world_model.proofs.StepFacts.{account_now, first_step, first_doing}
 use Rattle.world_model.proofs.Strangers.{same_owner_is}
 use Rattle.world_model.proofs.TalkShows.{completed_gives}
 
@@ -161,21 +158,9 @@ module _ (old new : Traced) (inv : Orderly old) (rows : list_all (course_rows ol
             subst (λ (d : Doing). shown_given old (course_now old.setting number (length step.client.past) d) ≡ true) same refl
         by None is None does = absurd (let none : ⊥ = cc in none)
 
-    -- its connection is one that it held
-    was_held : (at : ℕ) → step.before.connection ≡ Some at → list_any (λ other. other == at) (held_in step.before.steps) ≡ true
-    was_held at has = left_held None at step.before.steps (λ one never same. let none : ⊥ = cc in none) ((before_talks old.setting m inv.script.talks number n step).has ∙ has)
-
-    scripts : (at : ℕ) (link : Link) → step.before.connection ≡ Some at → link_at m.links at ≡ Some link → list_all (λ sent. is_scripts before_course sent sent.frame) (row_of mine link.sent) ≡ true
-    scripts at link has there =
-        let row : option_map_or (λ l. is_row before_course (is_current before_course at) (calls_on before_course l)) (link_at old.machine.links at) false ≡ true =
-        any_of_all (λ k. option_map_or (λ l. is_row before_course (is_current before_course k) (calls_on before_course l)) (link_at old.machine.links k) false) (held_in step.before.steps) at (before_rows old m number n step step.here rows) (was_held at has) in
-        let here : is_row before_course (is_current before_course at) (row_of mine link.sent) ≡ true = subst (λ (found : Option Link). option_map_or (λ l. is_row before_course (is_current before_course at) (calls_on before_course l)) found false ≡ true) there row in
-        let one = and_parts (in_row (option_map_or (λ sent. sent.call) (first_of (row_of mine link.sent)) 0) (row_of mine link.sent)) _ here in
-        (and_parts (list_all (λ sent. is_scripts before_course sent sent.frame) (row_of mine link.sent)) _ one.1).0
-
     shown_here : (shown : Shown) → (first_step old.setting m inv.script.talks number n step).done.act.shown ≡ Some shown → is_given new.machine.links mine (length shown_before) (shown_call shown) ≡ true
     shown_here shown is =
-        by (shown_now old.setting m inv.script.talks number n step same_owner_is (λ at has. before_on old m number n step step.here inv.hold.held inv.wire.grammar at has) (λ at link there. known_of old inv at link there) scripts shown is)
+        by (shown_now old.setting m inv.script.talks number n step same_owner_is (λ at has. before_on old m number n step step.here inv.hold.held inv.wire.grammar at has) (λ at link there. known_of old inv at link there) (held_scripts old m number n step step.here inv.script.talks rows) shown is)
       where
         by : ShownNow old.setting m inv.script.talks number n step shown → is_given new.machine.links mine (length shown_before) (shown_call shown) ≡ true
         by (FromItem at has found) =
