@@ -44,8 +44,8 @@ digests_self calls =
 
 -- A REQUEST IN COURSE -----------------------------------------------------------------------------
 
-module _ (setting : Setting) (doing : Doing) (talks : Talks setting.terms false doing) (rules : IsRuled setting.terms.rules) (track : Track) (is : track_of doing.talk.phase ≡ Some track) where
-  abbrev told : Account
+module _ (setting : Setting) (doing : Doing) (due : Bool) (talks : Talks setting.terms due doing) (rules : IsRuled setting.terms.rules) (track : Track) (is : track_of doing.talk.phase ≡ Some track) where
+  abbrev pub told : Account
   told = account_of setting.terms doing.request.calls (dones_of doing.steps)
 
   has : track_of (talk_after setting.terms (first_talk doing.request) (inputs_of doing.steps)).phase ≡ Some track
@@ -60,7 +60,7 @@ module _ (setting : Setting) (doing : Doing) (talks : Talks setting.terms false 
   good_track : (good : Track → Bool) → IsOfTracks setting.terms good → good track ≡ true
   good_track good each = subst (λ (found : Option Track). option_map_or good found true ≡ true) has (talk_good setting.terms good each (first_talk doing.request) (inputs_of doing.steps) refl)
 
-  abbrev Recording : Type 0
+  abbrev pub Recording : Type 0
   Recording = (same_digests track.recorder.calls told.since_purge && (length track.recorder.calls + recorded_from (map shown_call told.shown) == track.call)) ≡ true
 
   recording : track.why ≡ None → Counts told → Recording
@@ -73,7 +73,7 @@ module _ (setting : Setting) (doing : Doing) (talks : Talks setting.terms false 
       and_from (same_digests track.recorder.calls told.since_purge) (length track.recorder.calls + recorded_from (map shown_call told.shown) == track.call)
       (subst (λ (c : List Recorded). same_digests track.recorder.calls c ≡ true) calls (digests_self track.recorder.calls)) (eq_to (length track.recorder.calls + recorded_from (map shown_call told.shown)) track.call all)
 
-  records : is_none track.why ≡ true → Recording
+  pub records : is_none track.why ≡ true → Recording
   records none = by rules
     where
       by : IsRuled setting.terms.rules → Recording
@@ -104,7 +104,7 @@ doing_keeps t client place doing rules talks = by (track_of doing.talk.phase) re
 
     by : (found : Option Track) → track_of doing.talk.phase ≡ found → option_map_or (keeps t course (account_of t.setting.terms doing.request.calls (dones_of doing.steps))) found true ≡ true
     by None is = refl
-    by (Some track) is = keeps_so t.setting doing talks rules track is
+    by (Some track) is = keeps_so t.setting doing false talks rules track is
 
 talks_keep : (t : Traced) → IsRuled t.setting.terms.rules → AllTalk t.setting.terms t.machine.clients → are_kept t ≡ true
 talks_keep t rules all = courses_talk (is_kept t) t (λ client place past through. refl) (λ client place doing talks. doing_keeps t client place doing rules talks) all

@@ -56,6 +56,7 @@ pub mod Remaining
 pub mod FinishEnds
 pub mod FinishShort
 pub mod Judged
+pub mod Replayed
 pub mod Reported
 pub mod StoredLaws
 pub mod OnceLaws

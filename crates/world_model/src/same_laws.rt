@@ -8,6 +8,7 @@ ghost use Rattle.world_model.specs.FirstBegins.{begin_once};
 ghost use Rattle.world_model.specs.FirstCalls.{transactions_begin};
 ghost use Rattle.world_model.specs.NearCalls.{send_near};
 ghost use Rattle.world_model.specs.Redrawn.{RepeatsRedraw, WholeRepeatsRedraw};
+ghost use Rattle.world_model.specs.Replayed.{replay_shown};
 ghost use Rattle.world_model.specs.Same.{open_entries_known, run_script_calls};
 ghost use Rattle.world_model.specs.SameLaws.{FollowsInvariant, HoldsAtEnds, HoldsInRuns, RunsFollowScripts, RunsRan, RunsServe, RunsStoreScripts, WholeRunsFollowScripts, WholeRunsStoreScripts, RunsStarted, SettingsGoOn, ReportsAreSame, ReportsClashNowhere, RunsKnowAnswers, RunsKnowInsides, RunsVerify, WholeRunsKnowAnswers, WholeRunsKnowInsides, WholeRunsVerify, RunsRanLast, WholeRunsRanLast, EntriesMakeReportsSame, EntriesMakeSame, PartsMakeEntries, RunsEntriesDraw, RunsEntriesGoOn, RunsEntriesStart, RunsKnowEntries, WholeRunsEntriesDraw, WholeRunsEntriesGoOn, WholeRunsEntriesStart, WholeRunsKnowEntries};
 ghost use Rattle.world_model.specs.Showing.{show_replies};
@@ -239,6 +240,15 @@ pub fn repeated_calls_redraw()
 pub fn requests_begin_once()
     ensures reached { HoldsInRuns begin_once }
     ensures run { HoldsAtEnds begin_once }
+{
+    crate::laws::runs_are_orderly();
+}
+
+/// Wherever such a run has come to, and at its end: each call with the mark that a request sent on a connection is one of those that it was shown before
+/// it opened this connection, behind the last of them that was decided.
+pub fn replays_repeat_shown_calls()
+    ensures reached { HoldsInRuns replay_shown }
+    ensures run { HoldsAtEnds replay_shown }
 {
     crate::laws::runs_are_orderly();
 }

@@ -1,0 +1,48 @@
+-- Which calls a replay repeats: of those that were shown before its connection was opened the ones behind the last that was decided.
+use Rattle.std.specs.Prelude.{ℕ, ◌+◌, ◌==◌, ◌&&◌, ◌||◌, Bool, true, false, nat_le, nat_lt, List, [], ◌∷◌, ◌++◌, length}
+use Rattle.std.specs.List.{list_all}
+use Rattle.outage_schedule.specs.declared.document.Request.{Request}
+use Rattle.outage_schedule.specs.declared.request.ShownCall.{ShownCall}
+use Rattle.client_model.specs.declared.input.Input.{Input}
+use Rattle.client_model.specs.declared.input.Input.TheVariants.{Opened}
+use Rattle.client_model.specs.Terms.{Terms}
+use Rattle.run_clauses.specs.Reports.{report_of}
+use Rattle.world_model.specs.Clients.{Step}
+use Rattle.world_model.specs.Frames.{Sent}
+use Rattle.world_model.specs.Links.{Link}
+use Rattle.world_model.specs.Parts.{implies}
+use Rattle.world_model.specs.Sames.{owned_by}
+use Rattle.world_model.specs.Script.{recorded_from}
+use Rattle.world_model.specs.Shown.{is_marked}
+use Rattle.world_model.specs.Traced.{Traced, Course, courses_of}
+use Rattle.world_model.specs.Words.{dones_of}
+
+-- the calls that a request was shown at these steps
+abbrev pub shown_at : Terms → Request → List Step → List ShownCall
+shown_at terms request steps = (report_of terms request (dones_of steps)).calls
+
+-- where these were shown, the call of this index is repeated
+abbrev pub is_repeated : List ShownCall → ℕ → Bool
+is_repeated shown call = nat_le (recorded_from shown) call && nat_lt call (length shown)
+
+-- the connection of this number was opened
+abbrev pub opens : ℕ → Input → Bool
+opens number (Opened connection) = connection == number
+opens number _ = false
+
+-- by what was shown before a step at which the connection was opened
+abbrev pub repeats_from : Terms → Request → ℕ → ℕ → List Step → List Step → Bool
+repeats_from terms request number call before [] = false
+repeats_from terms request number call before (step ∷ steps) =
+    (opens number step.done.input && is_repeated (shown_at terms request before) call) || repeats_from terms request number call (before ++ step ∷ []) steps
+
+-- each call with the mark that a request sent on a connection is such a one
+abbrev pub is_replayed : Terms → Course → ℕ → Sent → Bool
+is_replayed terms course number sent = implies (owned_by course.owner sent && is_marked sent.frame) (repeats_from terms course.request number sent.call [] course.steps)
+
+abbrev pub replays_on : Terms → Course → ℕ → List Link → Bool
+replays_on terms course number [] = true
+replays_on terms course number (link ∷ links) = list_all (is_replayed terms course number) link.sent && replays_on terms course (number + 1) links
+
+abbrev pub replay_shown : Traced → Bool
+replay_shown t = list_all (λ course. replays_on t.setting.terms course 1 t.machine.links) (courses_of t)
