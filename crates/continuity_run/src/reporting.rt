@@ -95,6 +95,7 @@ pub(crate) fn report_of<S: Service + Drop>(
         alerts,
         ..
     } = journal_of(alloc, &mut service)?;
+    drop(service);
     let tables = tables_of(alloc, base, entries.as_slice())?;
     Ok(Report {
         alerts: behind(alloc, alerts.into_vec(), before.alerts)?,
