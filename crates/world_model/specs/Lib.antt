@@ -60,6 +60,7 @@ pub mod Replayed
 pub mod Reported
 pub mod StoredLaws
 pub mod OnceLaws
+pub mod OpenedOnce
 pub mod StoredOnce
 pub mod CallEndings
 pub mod CommitAnswers

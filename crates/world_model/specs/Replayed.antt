@@ -1,16 +1,24 @@
 -- Which calls a replay repeats: of those that were shown before its connection was opened the ones behind the last that was decided.
-use Rattle.std.specs.Prelude.{ℕ, ◌+◌, ◌==◌, ◌&&◌, ◌||◌, Bool, true, false, nat_le, nat_lt, List, [], ◌∷◌, ◌++◌, length}
+use Rattle.std.specs.Prelude.{◌≡◌, ℕ, ◌+◌, ◌==◌, ◌&&◌, ◌||◌, Bool, true, false, if◌then◌else◌, IsTrue, nat_le, nat_lt, List, [], ◌∷◌, ◌++◌, length, slice_get, Option, Some, None}
 use Rattle.std.specs.List.{list_all}
+use Rattle.std.specs.Option.{option_map_or}
+use Rattle.outage_schedule.specs.declared.document.Document.{Document}
 use Rattle.outage_schedule.specs.declared.document.Request.{Request}
+use Rattle.outage_schedule.specs.declared.event.Event.{Event}
+use Rattle.outage_schedule.specs.declared.item.Served.{Served}
+use Rattle.outage_schedule.specs.declared.note.Note.{Note}
 use Rattle.outage_schedule.specs.declared.request.ShownCall.{ShownCall}
+use Rattle.server_model.specs.Seen.{Seen}
 use Rattle.client_model.specs.declared.input.Input.{Input}
 use Rattle.client_model.specs.declared.input.Input.TheVariants.{Opened}
 use Rattle.client_model.specs.Terms.{Terms}
 use Rattle.run_clauses.specs.Reports.{report_of}
 use Rattle.world_model.specs.Clients.{Step}
 use Rattle.world_model.specs.Frames.{Sent}
-use Rattle.world_model.specs.Links.{Link}
+use Rattle.world_model.specs.Links.{Link, link_at}
 use Rattle.world_model.specs.Parts.{implies}
+use Rattle.world_model.specs.Reached.{Reached}
+use Rattle.world_model.specs.Ready.{all_requests_right}
 use Rattle.world_model.specs.Sames.{owned_by}
 use Rattle.world_model.specs.Script.{recorded_from}
 use Rattle.world_model.specs.Shown.{is_marked}
@@ -46,3 +54,21 @@ replays_on terms course number (link ∷ links) = list_all (is_replayed terms co
 
 abbrev pub replay_shown : Traced → Bool
 replay_shown t = list_all (λ course. replays_on t.setting.terms course 1 t.machine.links) (courses_of t)
+
+-- the steps before the first at which the connection of this number was opened
+abbrev pub before_opening : ℕ → List Step → List Step → Option (List Step)
+before_opening number before [] = None
+before_opening number before (step ∷ steps) = if opens number step.done.input then Some before else before_opening number (before ++ step ∷ []) steps
+
+abbrev pub is_from_opening : Terms → Course → ℕ → ℕ → Bool
+is_from_opening terms course number call = option_map_or (λ before. is_repeated (shown_at terms course.request before) call) (before_opening number [] course.steps) false
+
+-- Wherever a run has come to: a call with the mark that a request sent on a connection is one of those that it was shown before it opened this connection,
+-- behind the last of them that was decided.
+abbrev pub RunsReplayShown : Type 0
+RunsReplayShown =
+    (document : Document) (events : List Event) (notes : List Note) (items : List Served) (seen : Seen) (t : Traced)
+    → IsTrue (all_requests_right document) → Reached document events notes items seen t
+    → (place : ℕ) (course : Course) → slice_get (courses_of t) place ≡ Some course → (number : ℕ) (link : Link) → link_at t.machine.links number ≡ Some link
+    → (index : ℕ) (sent : Sent) → slice_get link.sent index ≡ Some sent → IsTrue (owned_by course.owner sent) → IsTrue (is_marked sent.frame)
+    → IsTrue (is_from_opening t.setting.terms course number sent.call)

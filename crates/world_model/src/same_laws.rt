@@ -8,7 +8,8 @@ ghost use Rattle.world_model.specs.FirstBegins.{begin_once};
 ghost use Rattle.world_model.specs.FirstCalls.{transactions_begin};
 ghost use Rattle.world_model.specs.NearCalls.{send_near};
 ghost use Rattle.world_model.specs.Redrawn.{RepeatsRedraw, WholeRepeatsRedraw};
-ghost use Rattle.world_model.specs.Replayed.{replay_shown};
+ghost use Rattle.world_model.specs.OpenedOnce.{opened_once};
+ghost use Rattle.world_model.specs.Replayed.{replay_shown, RunsReplayShown};
 ghost use Rattle.world_model.specs.Same.{open_entries_known, run_script_calls};
 ghost use Rattle.world_model.specs.SameLaws.{FollowsInvariant, HoldsAtEnds, HoldsInRuns, RunsFollowScripts, RunsRan, RunsServe, RunsStoreScripts, WholeRunsFollowScripts, WholeRunsStoreScripts, RunsStarted, SettingsGoOn, ReportsAreSame, ReportsClashNowhere, RunsKnowAnswers, RunsKnowInsides, RunsVerify, WholeRunsKnowAnswers, WholeRunsKnowInsides, WholeRunsVerify, RunsRanLast, WholeRunsRanLast, EntriesMakeReportsSame, EntriesMakeSame, PartsMakeEntries, RunsEntriesDraw, RunsEntriesGoOn, RunsEntriesStart, RunsKnowEntries, WholeRunsEntriesDraw, WholeRunsEntriesGoOn, WholeRunsEntriesStart, WholeRunsKnowEntries};
 ghost use Rattle.world_model.specs.Showing.{show_replies};
@@ -249,6 +250,16 @@ pub fn requests_begin_once()
 pub fn replays_repeat_shown_calls()
     ensures reached { HoldsInRuns replay_shown }
     ensures run { HoldsAtEnds replay_shown }
+    ensures each { RunsReplayShown }
+{
+    crate::laws::runs_are_orderly();
+    connections_are_opened_once();
+}
+
+/// Wherever such a run has come to, and at its end: a request opens each connection once.
+pub fn connections_are_opened_once()
+    ensures reached { HoldsInRuns opened_once }
+    ensures run { HoldsAtEnds opened_once }
 {
     crate::laws::runs_are_orderly();
 }
