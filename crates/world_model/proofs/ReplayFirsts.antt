@@ -21,7 +21,7 @@ use Rattle.world_model.specs.Traced.{Course, courses_of}
 
 -- LISTS -------------------------------------------------------------------------------------------
 
-one_of : {A : Type 0} (test : A → Bool) (xs : List A) (index : ℕ) (x : A) → list_all test xs ≡ true → slice_get xs index ≡ Some x → test x ≡ true
+pub one_of : {A : Type 0} (test : A → Bool) (xs : List A) (index : ℕ) (x : A) → list_all test xs ≡ true → slice_get xs index ≡ Some x → test x ≡ true
 one_of test [] index x all is = absurd (let none : ⊥ = cc in none)
 one_of test (first ∷ xs) zero x all is = let same : first ≡ x = cc in subst (λ y. test y ≡ true) same (and_parts (test first) (list_all test xs) all).0
 one_of test (first ∷ xs) (suc index) x all is = one_of test xs index x (and_parts (test first) (list_all test xs) all).1 is

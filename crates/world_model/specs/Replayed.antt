@@ -1,6 +1,6 @@
 -- Which calls a replay repeats: of those that were shown before its connection was opened the ones behind the last that was decided.
-use Rattle.std.specs.Prelude.{◌≡◌, ℕ, ◌+◌, ◌==◌, ◌&&◌, ◌||◌, Bool, true, false, if◌then◌else◌, IsTrue, nat_le, nat_lt, List, [], ◌∷◌, ◌++◌, length, slice_get, Option, Some, None}
-use Rattle.std.specs.List.{list_all}
+use Rattle.std.specs.Prelude.{◌≡◌, ◌<◌, ℕ, ◌+◌, ◌==◌, ◌&&◌, ◌||◌, Bool, true, false, if◌then◌else◌, IsTrue, nat_le, nat_lt, List, [], ◌∷◌, ◌++◌, length, slice_get, Option, Some, None}
+use Rattle.std.specs.List.{list_all, list_any}
 use Rattle.std.specs.Option.{option_map_or}
 use Rattle.outage_schedule.specs.declared.document.Document.{Document}
 use Rattle.outage_schedule.specs.declared.document.Request.{Request}
@@ -23,7 +23,7 @@ use Rattle.world_model.specs.Sames.{owned_by}
 use Rattle.world_model.specs.Script.{recorded_from}
 use Rattle.world_model.specs.Shown.{is_marked}
 use Rattle.world_model.specs.Traced.{Traced, Course, courses_of}
-use Rattle.world_model.specs.Words.{dones_of}
+use Rattle.world_model.specs.Words.{dones_of, held_in}
 
 -- the calls that a request was shown at these steps
 abbrev pub shown_at : Terms → Request → List Step → List ShownCall
@@ -72,3 +72,22 @@ RunsReplayShown =
     → (place : ℕ) (course : Course) → slice_get (courses_of t) place ≡ Some course → (number : ℕ) (link : Link) → link_at t.machine.links number ≡ Some link
     → (index : ℕ) (sent : Sent) → slice_get link.sent index ≡ Some sent → IsTrue (owned_by course.owner sent) → IsTrue (is_marked sent.frame)
     → IsTrue (is_from_opening t.setting.terms course number sent.call)
+
+-- Behind a Connect, the question for an outcome, a Begin and so many calls with the mark, it repeats the call that is as many behind the last decided of
+-- those that were shown before the opening.
+pub record IsRepeat (terms : Terms) (course : Course) (number : ℕ) (front : List Sent) (sent : Sent) : Type 0 where
+  pub before : List Step
+  pub opened : before_opening number [] course.steps ≡ Some before
+  pub place : ℕ
+  pub long : length front ≡ place + 3
+  pub index : sent.call ≡ recorded_from (shown_at terms course.request before) + place
+  pub within : sent.call < length (shown_at terms course.request before)
+
+-- so does each call with the mark on a connection that its request held, wherever a run has come to
+abbrev pub RunsRepeatInOrder : Type 0
+RunsRepeatInOrder =
+    (document : Document) (events : List Event) (notes : List Note) (items : List Served) (seen : Seen) (t : Traced)
+    → IsTrue (all_requests_right document) → Reached document events notes items seen t
+    → (place : ℕ) (course : Course) → slice_get (courses_of t) place ≡ Some course → (number : ℕ) (link : Link) → link_at t.machine.links number ≡ Some link → IsTrue (list_any (λ other. other == number) (held_in course.steps))
+    → (front : List Sent) (sent : Sent) (rest : List Sent) → link.sent ≡ front ++ sent ∷ rest → IsTrue (owned_by course.owner sent) → IsTrue (is_marked sent.frame)
+    → IsRepeat t.setting.terms course number front sent

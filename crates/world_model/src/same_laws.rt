@@ -9,7 +9,7 @@ ghost use Rattle.world_model.specs.FirstCalls.{transactions_begin};
 ghost use Rattle.world_model.specs.NearCalls.{send_near};
 ghost use Rattle.world_model.specs.Redrawn.{RepeatsRedraw, WholeRepeatsRedraw};
 ghost use Rattle.world_model.specs.OpenedOnce.{opened_once};
-ghost use Rattle.world_model.specs.Replayed.{replay_shown, RunsReplayShown};
+ghost use Rattle.world_model.specs.Replayed.{replay_shown, RunsReplayShown, RunsRepeatInOrder};
 ghost use Rattle.world_model.specs.Same.{open_entries_known, run_script_calls};
 ghost use Rattle.world_model.specs.SameLaws.{FollowsInvariant, HoldsAtEnds, HoldsInRuns, RunsFollowScripts, RunsRan, RunsServe, RunsStoreScripts, WholeRunsFollowScripts, WholeRunsStoreScripts, RunsStarted, SettingsGoOn, ReportsAreSame, ReportsClashNowhere, RunsKnowAnswers, RunsKnowInsides, RunsVerify, WholeRunsKnowAnswers, WholeRunsKnowInsides, WholeRunsVerify, RunsRanLast, WholeRunsRanLast, EntriesMakeReportsSame, EntriesMakeSame, PartsMakeEntries, RunsEntriesDraw, RunsEntriesGoOn, RunsEntriesStart, RunsKnowEntries, WholeRunsEntriesDraw, WholeRunsEntriesGoOn, WholeRunsEntriesStart, WholeRunsKnowEntries};
 ghost use Rattle.world_model.specs.Showing.{show_replies};
@@ -254,6 +254,15 @@ pub fn replays_repeat_shown_calls()
 {
     crate::laws::runs_are_orderly();
     connections_are_opened_once();
+}
+
+/// Wherever such a run has come to: what was sent on a connection before a call with the mark is a Connect, the question for an outcome, a Begin, and
+/// calls with the mark; and it repeats the call that is as many behind the last decided of those that were shown before the connection was opened.
+pub fn replays_repeat_in_order()
+    ensures { RunsRepeatInOrder }
+{
+    crate::kept_laws::runs_keep_invariant();
+    replays_repeat_shown_calls();
 }
 
 /// Wherever such a run has come to, and at its end: a request opens each connection once.
