@@ -1,10 +1,12 @@
 pub mod BareItems
+pub mod CallsSince
 pub mod EventsDid
 pub mod EventsTold
 pub mod FinishPoints
 pub mod FrontMoves
 pub mod ItemsTold
 pub mod LegalRuns
+pub mod MarksBrought
 pub mod MomentsOrder
 pub mod SettingsSame
 pub mod ThingsTold

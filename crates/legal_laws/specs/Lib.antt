@@ -1,3 +1,4 @@
 pub mod MarksTold
 pub mod Points
+pub mod ReplaysTold
 pub mod ToldLegal
