@@ -102,16 +102,12 @@ pub mod TurnBriefs
 pub mod TurnOwner
 pub mod TurnSent
 pub mod TurnsBegun
-pub mod TurnsEvents
 pub mod TurnsHappen
 pub mod TurnsInRuns
-pub mod TurnsKept
 pub mod TurnsOver
 pub mod TurnsOwned
 pub mod TurnsRight
 pub mod TurnsRightRuns
-pub mod TurnsRuns
-pub mod TurnsServed
 pub mod TurnsTold
 pub mod Unclosed
 pub mod UnclosedGoes

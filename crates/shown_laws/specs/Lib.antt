@@ -15,7 +15,6 @@ pub mod ServedSent
 pub mod ShowingsTold
 pub mod Telling
 pub mod Tellings
-pub mod TurnLaws
 pub mod TurnOwner
 pub mod TurnOwners
 pub mod TurnReports

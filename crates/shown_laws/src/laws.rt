@@ -5,7 +5,7 @@ ghost use Rattle.shown_laws.specs.Closing.{RunsLeaveUnclosed, FinishesLeaveUnclo
 ghost use Rattle.shown_laws.specs.ConnectionLaws.{RunsTellConnections, FinishesTellConnections};
 ghost use Rattle.shown_laws.specs.Growth.{RunsAreCounted, RunsGrow, FinishesAreCounted, FinishesGrow};
 ghost use Rattle.shown_laws.specs.Identified.{CallsAreIdentified};
-ghost use Rattle.shown_laws.specs.TurnLaws.{RunsTellTurns, FinishesTellTurns};
+ghost use Rattle.shown_laws.specs.TurnsServed.{RunsTellTurns, FinishesTellTurns};
 ghost use Rattle.shown_laws.specs.Tellings.{RunsTellSteps, FinishesTellSteps};
 
 /// There are as many events as notes, and as many ticks as are among them. One event more is told behind all others, with its number, its tick,
@@ -46,7 +46,7 @@ pub fn steps_are_told()
 }
 
 /// The turn that is told of a connection has the calls that its session served since the last Begin, with their marks, the newest first: those
-/// that were blocked and those that a crash stopped among them.
+/// that were blocked and those that a crash stopped among them. None is told where no Begin was served.
 pub fn turns_are_told()
     ensures reached { RunsTellTurns }
     ensures finishing { FinishesTellTurns }
