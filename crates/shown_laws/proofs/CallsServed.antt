@@ -16,7 +16,7 @@ use Rattle.world_model.specs.Once.{are_known, tells_tried}
 use Rattle.world_model.specs.Settings.{Setting}
 use Rattle.world_model.specs.Traced.{Traced, Course, course_over, courses_of}
 use Rattle.shown_laws.specs.AnswersTold.{calls_answered, outcomes_lone, CallsAreAnswered, OutcomesAreLone, CallsAreServed}
-use Rattle.shown_laws.specs.PartsTold.{submission_of}
+use Rattle.shown_laws.specs.Submitted.{submission_of}
 use Rattle.shown_laws.specs.Telling.{steps_told}
 use Rattle.shown_laws.specs.Tellings.{Telling, steps_in_tellings, FinishesTellSteps}
 use Rattle.shown_laws.proofs.AnswersTold.{parts_served}

@@ -6,13 +6,13 @@ use Rattle.client_model.specs.Conversation.{Timed, steps_of, talk_after, MayCome
 use Rattle.outage_schedule.specs.declared.document.Request.{Request}
 use Rattle.run_clauses.specs.Reports.{report_of}
 use Rattle.shown_clauses.specs.Steps.{Step as StepTold}
-use Rattle.shown_clauses.specs.Submissions.{Submission}
 use Rattle.world_model.specs.Clients.{Step, Past}
 use Rattle.world_model.specs.Conversing.{inputs_of, first_talk, IsThrough, AreThrough}
 use Rattle.world_model.specs.Settings.{Setting}
 use Rattle.caused_laws.specs.Laws.{shown_steps, IsHeard, AreHeard}
 use Rattle.caused_laws.specs.Telling.{ToldStep, Before, Tells, AllTell, behind, nothing_before, inputs_of as inputs_told}
 use Rattle.caused_laws.proofs.Offered.{tells_more, behind_inputs, behind_steps}
+use Rattle.shown_laws.specs.Submitted.{submission_of}
 use Rattle.shown_laws.specs.Tellings.{Telling, steps_in_tellings, TellsRequest, NoneYet, OneMore, TellsPast, NonePast, OnePast, joined}
 use Rattle.shown_laws.proofs.StepsHeard.{told_of, before_of, step_heard}
 
@@ -53,13 +53,9 @@ all_tell setting client place request _ _ (OneMore tellings steps one was s) =
 
 -- A CLIENT ----------------------------------------------------------------------------------------
 
--- a request that is over, with its report
-abbrev pub submitted : Past → Submission
-submitted past = record { request = past.request; copy = past.report }
-
 -- The steps of a request that is over are a conversation, of which its report tells.
 pub past_heard : (setting : Setting) (client place : ℕ) (past : Past) (tellings : List Telling) → past.request.calls ≢ [] → TellsRequest setting client place past.request tellings past.steps → IsThrough setting.terms past
-    → IsHeard setting.terms (submitted past) (all_told tellings)
+    → IsHeard setting.terms (submission_of past) (all_told tellings)
 past_heard setting client place past tellings some is through =
     let same : inputs_of past.steps ≡ inputs_told (all_told tellings) = sym (inputs_same setting client place past.request tellings past.steps is) in
     record {
@@ -77,7 +73,7 @@ abbrev pub HaveCalls : List Past → Type 0
 HaveCalls [] = Unit {0}
 HaveCalls (past ∷ others) = (past.request.calls ≢ []) × HaveCalls others
 
-pub pasts_heard : (setting : Setting) (client place : ℕ) (past : List Past) (told : List (List Telling)) → HaveCalls past → TellsPast setting client place past told → AreThrough setting.terms past → AreHeard setting.terms (map submitted past) (map all_told told)
+pub pasts_heard : (setting : Setting) (client place : ℕ) (past : List Past) (told : List (List Telling)) → HaveCalls past → TellsPast setting client place past told → AreThrough setting.terms past → AreHeard setting.terms (map submission_of past) (map all_told told)
 pasts_heard setting client _ _ _ some (NonePast place) through = tt
 pasts_heard setting client _ _ _ some (OnePast place one others tellings more is rest) through =
     (past_heard setting client place one tellings some.0 is through.0, pasts_heard setting client (place + 1) others more some.1 rest through.1)

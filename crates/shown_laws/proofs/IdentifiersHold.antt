@@ -31,7 +31,8 @@ use Rattle.world_model.specs.Conversing.{AreThrough}
 use Rattle.world_model.specs.Settings.{Setting}
 use Rattle.world_model.specs.Words.{dones_of}
 use Rattle.shown_laws.specs.Identified.{identifier_by, shows_under, is_identified, TellsIdentified, CallsAreIdentified, IdentifiersAreStored}
-use Rattle.shown_laws.specs.PartsTold.{submission_of, ArePartsOf, NoParts, OnePart}
+use Rattle.shown_laws.specs.PartsTold.{ArePartsOf, NoParts, OnePart}
+use Rattle.shown_laws.specs.Submitted.{submission_of}
 use Rattle.shown_laws.specs.ShowingsTold.{AreShownBy, NoneShown, OneShown}
 use Rattle.shown_laws.specs.Telling.{steps_told}
 use Rattle.shown_laws.specs.Tellings.{Telling, steps_in_tellings, TellsRequest, NoneYet, OneMore, TellsPast, OnePast}

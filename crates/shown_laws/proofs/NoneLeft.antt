@@ -8,7 +8,8 @@ use Rattle.shown_clauses.specs.Parts.{Counted, acquires, counted_from, left_from
 use Rattle.shown_clauses.specs.Steps.{Step}
 use Rattle.shown_clauses.specs.Submissions.{Submission}
 use Rattle.world_model.specs.Clients.{Past}
-use Rattle.shown_laws.specs.PartsTold.{OfEach, HasIts, submission_of}
+use Rattle.shown_laws.specs.PartsTold.{OfEach, HasIts}
+use Rattle.shown_laws.specs.Submitted.{submission_of}
 use Rattle.shown_laws.specs.Tellings.{Telling, steps_in_tellings}
 use Rattle.shown_laws.proofs.PartsCut.{from, rest_is}
 use Rattle.shown_laws.proofs.PartsSplit.{sessions_told, AreSplit, NoneSplit, OneSplit, all_told, told_more}

@@ -17,7 +17,8 @@ use Rattle.world_model.specs.Wire.{Stage, New, Greeted, Told, Repeated, Begun, R
 use Rattle.shown_laws.specs.OwnTurns.{IsOwnTurn, OwnTurnsAreRight}
 use Rattle.shown_laws.specs.ServedSent.{ServesFront}
 use Rattle.shown_laws.specs.TurnOwner.{AreAll, calls_by}
-use Rattle.shown_laws.specs.TurnRows.{ServedOf, NoneServed, OneServed, marks_stand_first, submission_of}
+use Rattle.shown_laws.specs.Submitted.{submission_so_far}
+use Rattle.shown_laws.specs.TurnRows.{ServedOf, NoneServed, OneServed, marks_stand_first}
 use Rattle.shown_laws.specs.TurnSent.{IsTurn, sent_since}
 use Rattle.shown_laws.proofs.RowTurns.{marks_told, rows_make_right}
 use Rattle.shown_laws.proofs.ServedFront.{serves_a_front}
@@ -101,12 +102,12 @@ module _ (course : Course) (current : Bool) (link : Link) (served : List Handled
       let whole : IsTurn (sent_since front.taken) = sents_turn front.taken right in
       marks_told (reverse turn.calls) (sent_since front.taken) (subst (λ (sents : List Sent). ServedOf (reverse turn.calls) sents) (append-nil (sent_since front.taken)) (front.are [])) whole.marked
 
-  with_none : sent_since front.taken ≡ [] → is_turn_right (submission_of course) turn ≡ true
+  with_none : sent_since front.taken ≡ [] → is_turn_right (submission_so_far course) turn ≡ true
   with_none none =
       let empty : reverse turn.calls ≡ [] = none_served (reverse turn.calls) (sent_since front.taken ++ []) (append-nil (sent_since front.taken) ∙ none) (front.are []) in
-      ap (λ (list : List Marked). begins_with (submission_of course) (front_of is_marked list) (rest_of is_marked list)) empty
+      ap (λ (list : List Marked). begins_with (submission_so_far course) (front_of is_marked list) (rest_of is_marked list)) empty
 
-  with_own : calls_by (Some course.owner) front.taken ≡ sent_since front.taken → is_turn_right (submission_of course) turn ≡ true
+  with_own : calls_by (Some course.owner) front.taken ≡ sent_since front.taken → is_turn_right (submission_so_far course) turn ≡ true
   with_own all =
       let sents : calls_on course link ≡ sent_since front.taken ++ calls_by (Some course.owner) front.rest =
       sym (same_calls course.owner link.sent)
@@ -114,7 +115,7 @@ module _ (course : Course) (current : Bool) (link : Link) (served : List Handled
       ∙ (calls_join (Some course.owner) front.taken front.rest ∙ ap (λ (calls : List Sent). calls ++ calls_by (Some course.owner) front.rest) all)) in
       rows_make_right course current (calls_on course link) turn row near marks (subst (λ (list : List Sent). ServedOf (reverse turn.calls) list) (sym sents) (front.are (calls_by (Some course.owner) front.rest)))
 
-  by_calls : (calls : List Sent) → sent_since front.taken ≡ calls → AreAll front.taken (sent_since front.taken) → is_turn_right (submission_of course) turn ≡ true
+  by_calls : (calls : List Sent) → sent_since front.taken ≡ calls → AreAll front.taken (sent_since front.taken) → is_turn_right (submission_so_far course) turn ≡ true
   by_calls [] same all = with_none same
   by_calls (first ∷ more) same all =
       let mine : list_all (owned_by course.owner) (first ∷ more) ≡ true = subst (λ (calls : List Sent). list_all (owned_by course.owner) calls ≡ true) (front.same ∙ same) is.own in
@@ -125,7 +126,7 @@ module _ (course : Course) (current : Bool) (link : Link) (served : List Handled
       let other : all.owner ≡ first.owner = owners_are all.owner first.owner (and_parts (same_owners all.owner first.owner) (is_call first.frame) first_its).0 in
       with_own (ap (λ (owner : Option Owner). calls_by owner front.taken) (one ∙ sym other) ∙ all.all)
 
-  turn_right : is_turn_right (submission_of course) turn ≡ true
+  turn_right : is_turn_right (submission_so_far course) turn ≡ true
   turn_right = by_calls (sent_since front.taken) refl (has_all_calls front.taken right once)
 
 pub own_right : OwnTurnsAreRight

@@ -15,7 +15,8 @@ use Rattle.shown_clauses.specs.Turns.{Owned, is_turn_right, owned_if, turns_of, 
 use Rattle.world_model.specs.Clients.{Step, Doing, Past, Client, client_at}
 use Rattle.world_model.specs.Conversing.{AreThrough}
 use Rattle.world_model.specs.Settings.{Setting}
-use Rattle.shown_laws.specs.PartsTold.{OfEach, IsQuiet, IsPartOf, submission_of, ArePartsOf, NoParts, OnePart}
+use Rattle.shown_laws.specs.PartsTold.{OfEach, IsQuiet, IsPartOf, ArePartsOf, NoParts, OnePart}
+use Rattle.shown_laws.specs.Submitted.{submission_of}
 use Rattle.shown_laws.specs.Tellings.{Telling, steps_in_tellings, TellsRequest, TellsPast, NonePast, OnePast, TellsClient}
 use Rattle.shown_laws.specs.TurnOwners.{steps_by_place, has_step_at, IsOwned, AreOwned, NoneOwned, OneOwned}
 use Rattle.shown_laws.proofs.Lookups.{eq_from}

@@ -22,7 +22,8 @@ use Rattle.world_model.specs.Reached.{IsFinishing}
 use Rattle.world_model.specs.Ready.{all_requests_right}
 use Rattle.world_model.specs.Settings.{Setting}
 use Rattle.world_model.specs.Traced.{Traced, Course, course_over, courses_of}
-use Rattle.shown_laws.specs.PartsTold.{IsPartOf, submission_of, ArePartsOf, NoParts, OnePart, HoldsOfParts, SessionsAreAcquired}
+use Rattle.shown_laws.specs.PartsTold.{IsPartOf, ArePartsOf, NoParts, OnePart, HoldsOfParts, SessionsAreAcquired}
+use Rattle.shown_laws.specs.Submitted.{submission_of}
 use Rattle.shown_laws.specs.Telling.{steps_told}
 use Rattle.shown_laws.specs.Tellings.{Telling, steps_in_tellings, TellsRequest, TellsPast, OnePast, TellsClient, FinishesTellSteps}
 use Rattle.shown_laws.proofs.BeforeSession.{talks_at}

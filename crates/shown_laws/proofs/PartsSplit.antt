@@ -8,7 +8,8 @@ use Rattle.svc_values.specs.declared.entry.SessionId.{SessionId}
 use Rattle.shown_clauses.specs.Parts.{Part, acquires}
 use Rattle.shown_clauses.specs.Steps.{Step}
 use Rattle.world_model.specs.Clients.{Past}
-use Rattle.shown_laws.specs.PartsTold.{OfEach, HasIts, IsQuiet, Opens, Never, At, Split, IsPartOf, submission_of, ArePartsOf, NoParts, OnePart}
+use Rattle.shown_laws.specs.PartsTold.{OfEach, HasIts, IsQuiet, Opens, Never, At, Split, IsPartOf, ArePartsOf, NoParts, OnePart}
+use Rattle.shown_laws.specs.Submitted.{submission_of}
 use Rattle.shown_laws.specs.Tellings.{Telling, steps_in_tellings, joined}
 use Rattle.shown_laws.proofs.PartsCut.{upto, from, cut}
 

@@ -13,7 +13,8 @@ use Rattle.world_model.specs.Conversing.{IsTalking, AreThrough, IsThrough, Talks
 use Rattle.world_model.specs.Settings.{Setting}
 use Rattle.world_model.specs.Traced.{Traced}
 use Rattle.shown_laws.specs.ClientSteps.{IsBare, TellsKind, Rested, FoundNone, Waited, WasLent, HasOpened, HasFailed, HasTaken, HasLost}
-use Rattle.shown_laws.specs.PartsTold.{OfEach, HasIts, IsQuiet, Opens, Never, At, Split, submission_of, ArePartsOf}
+use Rattle.shown_laws.specs.PartsTold.{OfEach, HasIts, IsQuiet, Opens, Never, At, Split, ArePartsOf}
+use Rattle.shown_laws.specs.Submitted.{submission_of}
 use Rattle.shown_laws.specs.Tellings.{Telling, steps_in_tellings, Begins, WasThere, BeginsNow, TellsStep, TellsRequest, NoneYet, OneMore, TellsPast, NonePast, OnePast, TellsNow, NoneNow, OneNow, joined, TellsClient}
 use Rattle.shown_laws.proofs.BeforeSession.{is_unmet, doing_unmet, takes_connect, talks_at}
 use Rattle.shown_laws.proofs.PartsCut.{parts_cut}

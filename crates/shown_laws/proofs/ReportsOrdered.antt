@@ -13,8 +13,8 @@ use Rattle.shown_clauses.specs.Submissions.{Submission, submissions_of}
 use Rattle.world_model.specs.Clients.{Client, Past, reports_of}
 use Rattle.world_model.specs.KeptLaws.{FinishesKeepInvariant}
 use Rattle.shown_laws.specs.ReportsTold.{ReportsAreOrdered}
+use Rattle.shown_laws.specs.Submitted.{submission_of}
 use Rattle.shown_laws.specs.Tellings.{FollowsFrom, FinishesTellSteps}
-use Rattle.shown_laws.proofs.ConversationsHeard.{submitted}
 use Rattle.shown_laws.proofs.CoursesOver.{past_shows}
 use Rattle.shown_laws.proofs.Lookups.{eq_to}
 use Rattle.shown_laws.proofs.ReportsTold.{by_number, IsOfRun, told_run, of_run, each_of_run}
@@ -108,7 +108,7 @@ all_show number (one ∷ all) =
     ap (λ (b : Bool). b && list_all (list_all show_script) all) (client_shows one)
     ∙ ap (λ (b : Bool). list_all shows (flat_map submissions_of one) && b) (all_show (number + 1) all)
 
-past_submit : (past : List Past) → list_all (λ one. shows_script one.request one.report) past ≡ list_all shows (map submitted past)
+past_submit : (past : List Past) → list_all (λ one. shows_script one.request one.report) past ≡ list_all shows (map submission_of past)
 past_submit [] = refl
 past_submit (one ∷ past) = ap (λ (b : Bool). shows_script one.request one.report && b) (past_submit past)
 

@@ -24,9 +24,9 @@ use Rattle.world_model.specs.Settings.{Setting, setting_of}
 use Rattle.world_model.specs.Traced.{Traced}
 use Rattle.shown_laws.specs.PartsTold.{HoldsOfParts, RepliesAreTaken, OutcomesAreTaken}
 use Rattle.shown_laws.specs.ReportsTold.{HoldsOfReports, are_parts, of_parts, ReportsListOutcomes, ReportsTakeReplies}
+use Rattle.shown_laws.specs.Submitted.{submission_of}
 use Rattle.shown_laws.specs.Tellings.{FollowsFrom, TellsClients, FinishesTellSteps}
 use Rattle.shown_laws.proofs.CausedRuns.{all_finished, one_finished, get_script, many_scripts, finishing_setting}
-use Rattle.shown_laws.proofs.ConversationsHeard.{submitted}
 use Rattle.shown_laws.proofs.SubmissionsTold.{submissions_in, past_submitted}
 
 -- CLIENT BY CLIENT --------------------------------------------------------------------------------
@@ -93,7 +93,7 @@ module _ (tell : FinishesTellSteps) (document : Document) (report : Report) (see
       }
 
   -- what holds of each client of the run, by its number
-  pub each_of_run : (test : ℕ → List Submission → Bool) → ((index : ℕ) (own : Client) (one : Scripted) → IsOfRun document t index own one → test (suc index) (map submitted own.past) ≡ true) → by_number test 1 (submissions_by_client document report) ≡ true
+  pub each_of_run : (test : ℕ → List Submission → Bool) → ((index : ℕ) (own : Client) (one : Scripted) → IsOfRun document t index own one → test (suc index) (map submission_of own.past) ≡ true) → by_number test 1 (submissions_by_client document report) ≡ true
   each_of_run test holds =
       subst (λ (transcripts : List (List RequestReport)). by_number test 1 (map (flat_map submissions_of) (copies_by_client document.clients transcripts)) ≡ true) (sym reported.clients)
       (each_client test document.clients t.machine.clients 1 told_run each)

@@ -26,7 +26,7 @@ use Rattle.world_model.specs.Ready.{all_requests_right}
 use Rattle.world_model.specs.Reported.{IsReported}
 use Rattle.world_model.specs.Settings.{Setting, setting_of}
 use Rattle.world_model.specs.Traced.{Traced}
-use Rattle.shown_laws.specs.PartsTold.{submission_of}
+use Rattle.shown_laws.specs.Submitted.{submission_of}
 use Rattle.shown_laws.specs.Tellings.{TellsClient, FinishesTellSteps}
 use Rattle.shown_laws.specs.TurnOwners.{IsOwned, AreOwned, NoneOwned, OneOwned, WholeRunsOwnTurns}
 use Rattle.shown_laws.specs.TurnReports.{ReportsTurnsHaveClients, are_turns, parts_turn_right, ReportsTurnsAreRight, turns_have_requests, ReportsTurnsHaveRequests}

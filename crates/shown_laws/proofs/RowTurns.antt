@@ -21,7 +21,8 @@ use Rattle.world_model.specs.Parts.{implies, is_unmarked, is_unmarked_frame}
 use Rattle.world_model.specs.Script.{recorded_from}
 use Rattle.world_model.specs.Shown.{is_marked, first_of, in_row, is_scripts, marked_from, has_unmarked, first_unmarked, unmarked_first}
 use Rattle.world_model.specs.Traced.{Course}
-use Rattle.shown_laws.specs.TurnRows.{ServedOf, NoneServed, OneServed, are_marked_first, marks_stand_first, submission_of, RowsMakeTurnsRight, ServesMarksFirst}
+use Rattle.shown_laws.specs.Submitted.{submission_so_far}
+use Rattle.shown_laws.specs.TurnRows.{ServedOf, NoneServed, OneServed, are_marked_first, marks_stand_first, RowsMakeTurnsRight, ServesMarksFirst}
 use Rattle.shown_laws.proofs.CallsFit.{InRow, RowEnds, RowGoes, row_fits}
 use Rattle.shown_laws.proofs.Lookups.{eq_from}
 
@@ -140,7 +141,7 @@ module _ (course : Course) where
   -- TURNS -----------------------------------------------------------------------------------------
 
   begins_right : (at : ℕ) (calls : List Sent) (front rest : List Marked) → Split course at calls front rest → (has_unmarked calls ≡ true → at ≡ recorded_from (take (first_unmarked course calls) course.report.calls))
-      → begins_with (submission_of course) front rest ≡ true
+      → begins_with (submission_so_far course) front rest ≡ true
   begins_right at calls _ _ (AllMarked front) from = refl
   begins_right at calls _ _ (OneFirst front first more row is unmarked some place within) from =
       let same_long : length (map (λ (one : Marked). one.call) front) ≡ length front = length-map front (λ one. one.call) in

@@ -8,8 +8,8 @@ use Rattle.run_clauses.specs.Copies.{Copies, is_repeated, with_copy, further_cop
 use Rattle.shown_clauses.specs.Submissions.{Submission, submissions_of}
 use Rattle.world_model.specs.Clients.{Past, reports_of}
 use Rattle.world_model.proofs.Offered.{counted, position_cons}
+use Rattle.shown_laws.specs.Submitted.{submission_of}
 use Rattle.shown_laws.specs.Tellings.{FollowsFrom}
-use Rattle.shown_laws.proofs.ConversationsHeard.{submitted}
 
 -- FURTHER COPIES ----------------------------------------------------------------------------------
 
@@ -129,14 +129,14 @@ submissions_more (other ∷ requests) (first ∷ reports) request report follows
         ap (λ (all : List Submission). submissions_of own ++ all) (later (sym (later_follows requests other own (copies_of requests rest) closed) ∙ follows))
         ∙ sym (append_assoc (submissions_of own) (submissions_in requests rest) last)
 
-past_from : (script : List Request) (before : List RequestReport) (past : List Past) → FollowsFrom script before past → submissions_in script (before ++ reports_of past) ≡ submissions_in script before ++ map submitted past
+past_from : (script : List Request) (before : List RequestReport) (past : List Past) → FollowsFrom script before past → submissions_in script (before ++ reports_of past) ≡ submissions_in script before ++ map submission_of past
 past_from script before [] follows = ap (submissions_in script) (append-nil before) ∙ sym (append-nil (submissions_in script before))
 past_from script before (one ∷ past) follows =
     ap (submissions_in script) (sym (append_assoc before (one.report ∷ []) (reports_of past)))
     ∙ (past_from script (before ++ one.report ∷ []) past follows.1
-    ∙ (ap (λ (all : List Submission). all ++ map submitted past) (submissions_more script before one.request one.report follows.0)
-    ∙ append_assoc (submissions_in script before) (submitted one ∷ []) (map submitted past)))
+    ∙ (ap (λ (all : List Submission). all ++ map submission_of past) (submissions_more script before one.request one.report follows.0)
+    ∙ append_assoc (submissions_in script before) (submission_of one ∷ []) (map submission_of past)))
 
 -- The reports of a client that follows its script are those of its requests, each one's its own.
-pub past_submitted : (script : List Request) (past : List Past) → FollowsFrom script [] past → submissions_in script (reports_of past) ≡ map submitted past
-past_submitted script past follows = past_from script [] past follows ∙ ap (λ (all : List Submission). all ++ map submitted past) (none_submitted script)
+pub past_submitted : (script : List Request) (past : List Past) → FollowsFrom script [] past → submissions_in script (reports_of past) ≡ map submission_of past
+past_submitted script past follows = past_from script [] past follows ∙ ap (λ (all : List Submission). all ++ map submission_of past) (none_submitted script)

@@ -24,10 +24,9 @@ use Rattle.world_model.specs.Traced.{Traced, Course, courses_from, courses_of_cl
 use Rattle.world_model.specs.Wire.{New}
 use Rattle.shown_laws.specs.ConnectionLaws.{AreTold}
 use Rattle.shown_laws.specs.OwnTurns.{OnWire}
-use Rattle.shown_laws.specs.PartsTold.{submission_of as submission_over}
 use Rattle.shown_laws.specs.Telling.{seen_told}
 use Rattle.shown_laws.specs.TurnOwners.{served_begin, Begun, NotBegun, HasBegun, TurnBegun, TellsOwners, RunsTellOwners, IsOwned, AreOwned, NoneOwned, OneOwned, WholeRunsOwnTurns}
-use Rattle.shown_laws.specs.TurnRows.{submission_of}
+use Rattle.shown_laws.specs.Submitted.{submission_of, submission_so_far}
 use Rattle.shown_laws.specs.TurnSent.{sent_since}
 use Rattle.shown_laws.specs.TurnsOver.{WereTurns, NoneOver, OneOver}
 use Rattle.shown_laws.specs.TurnsServed.{calls_served, calls_told, served_in, TellsTurns}
@@ -48,7 +47,7 @@ use Rattle.shown_laws.proofs.TurnsRight.{OwnRight, own_right, none_right, wire}
 record AtPlace (client place : ℕ) (past : List Past) (course : Course) : Type 0 where
   whose : course.owner.client ≡ client
   from : place ≤ course.owner.place
-  is : (index : ℕ) (one : Past) → course.owner.place ≡ place + index → slice_get past index ≡ Some one → submission_of course ≡ submission_over one
+  is : (index : ℕ) (one : Past) → course.owner.place ≡ place + index → slice_get past index ≡ Some one → submission_so_far course ≡ submission_of one
 
 in_client : (setting : Setting) (client place : ℕ) (past : List Past) (now : Option Doing) (index : ℕ) (course : Course) → slice_get (courses_from setting client place past now) index ≡ Some course → AtPlace client place past course
 in_client setting client place [] None index course is = absurd (let none : ⊥ = cc in none)
@@ -66,10 +65,10 @@ in_client setting client place (first ∷ others) now zero course is =
       is = λ index one at there. by index one at there;
     }
   where
-    by : (index : ℕ) (one : Past) → course.owner.place ≡ place + index → slice_get (first ∷ others) index ≡ Some one → submission_of course ≡ submission_over one
+    by : (index : ℕ) (one : Past) → course.owner.place ≡ place + index → slice_get (first ∷ others) index ≡ Some one → submission_so_far course ≡ submission_of one
     by zero one at there =
         let mine : first ≡ one = cc in
-        ap (λ (found : Option Course). option_map_or submission_of found (submission_over first)) (sym is) ∙ ap submission_over mine
+        ap (λ (found : Option Course). option_map_or submission_so_far found (submission_of first)) (sym is) ∙ ap submission_of mine
     by (suc index) one at there =
         let same : course.owner.place ≡ place = ap (λ (found : Option Course). option_map_or (λ (c : Course). c.owner.place) found 0) (sym is) in
         absurd (let none : ⊥ = omega (arith, same, at) in none)
@@ -82,13 +81,13 @@ in_client setting client place (first ∷ others) now (suc index) course is =
       is = λ at one same there. by rest at one same there;
     }
   where
-    by : AtPlace client (place + 1) others course → (at : ℕ) (one : Past) → course.owner.place ≡ place + at → slice_get (first ∷ others) at ≡ Some one → submission_of course ≡ submission_over one
+    by : AtPlace client (place + 1) others course → (at : ℕ) (one : Past) → course.owner.place ≡ place + at → slice_get (first ∷ others) at ≡ Some one → submission_so_far course ≡ submission_of one
     by rest zero one same there = let below : place + 1 ≤ course.owner.place = rest.from in absurd (let none : ⊥ = omega (arith, same, below) in none)
     by rest (suc at) one same there = let next : course.owner.place ≡ (place + 1) + at = omega (arith, same) in rest.is at one next there
 
 record OfClients (number : ℕ) (clients : List Client) (course : Course) : Type 0 where
   from : number ≤ course.owner.client
-  is : (index : ℕ) (own : Client) (one : Past) → course.owner.client ≡ number + index → slice_get clients index ≡ Some own → slice_get own.past course.owner.place ≡ Some one → submission_of course ≡ submission_over one
+  is : (index : ℕ) (own : Client) (one : Past) → course.owner.client ≡ number + index → slice_get clients index ≡ Some own → slice_get own.past course.owner.place ≡ Some one → submission_so_far course ≡ submission_of one
 
 -- an item of two lists is one of the first or of the second
 record Behind {A : Type 0} (ys : List A) (x : A) : Type 0 where
@@ -108,7 +107,7 @@ of_clients setting number (first ∷ clients) index course is =
     mine : AtPlace number 0 first.past course → OfClients number (first ∷ clients) course
     mine at = record { from = let same : course.owner.client ≡ number = at.whose in omega (arith, same); is = λ place own one same there past. its place own one same there past }
       where
-        its : (place : ℕ) (own : Client) (one : Past) → course.owner.client ≡ number + place → slice_get (first ∷ clients) place ≡ Some own → slice_get own.past course.owner.place ≡ Some one → submission_of course ≡ submission_over one
+        its : (place : ℕ) (own : Client) (one : Past) → course.owner.client ≡ number + place → slice_get (first ∷ clients) place ≡ Some own → slice_get own.past course.owner.place ≡ Some one → submission_so_far course ≡ submission_of one
         its zero own one same there past =
             let it : first ≡ own = cc in
             let its_place : course.owner.place ≡ 0 + course.owner.place = omega arith in
@@ -118,7 +117,7 @@ of_clients setting number (first ∷ clients) index course is =
     other : OfClients (number + 1) clients course → OfClients number (first ∷ clients) course
     other rest = record { from = let below : number + 1 ≤ course.owner.client = rest.from in omega (arith, below); is = λ place own one same there past. its place own one same there past }
       where
-        its : (place : ℕ) (own : Client) (one : Past) → course.owner.client ≡ number + place → slice_get (first ∷ clients) place ≡ Some own → slice_get own.past course.owner.place ≡ Some one → submission_of course ≡ submission_over one
+        its : (place : ℕ) (own : Client) (one : Past) → course.owner.client ≡ number + place → slice_get (first ∷ clients) place ≡ Some own → slice_get own.past course.owner.place ≡ Some one → submission_so_far course ≡ submission_of one
         its zero own one same there past = let below : number + 1 ≤ course.owner.client = rest.from in absurd (let none : ⊥ = omega (arith, same, below) in none)
         its (suc place) own one same there past = let next : course.owner.client ≡ (number + 1) + place = omega (arith, same) in rest.is place own one next there past
 
@@ -126,10 +125,10 @@ of_clients setting number (first ∷ clients) index course is =
     by (inl here) later = mine (in_client setting number 0 first.past first.now index course here)
     by (inr behind) later = other (later behind)
 
-course_over_is : (t : Traced) (index : ℕ) (course : Course) (own : Client) (one : Past) → slice_get (courses_of t) index ≡ Some course → client_at t.machine.clients course.owner.client ≡ Some own → slice_get own.past course.owner.place ≡ Some one → submission_of course ≡ submission_over one
+course_over_is : (t : Traced) (index : ℕ) (course : Course) (own : Client) (one : Past) → slice_get (courses_of t) index ≡ Some course → client_at t.machine.clients course.owner.client ≡ Some own → slice_get own.past course.owner.place ≡ Some one → submission_so_far course ≡ submission_of one
 course_over_is t index course own one at here past = by course.owner.client refl (of_clients t.setting 1 t.machine.clients index course at)
   where
-    by : (client : ℕ) → course.owner.client ≡ client → OfClients 1 t.machine.clients course → submission_of course ≡ submission_over one
+    by : (client : ℕ) → course.owner.client ≡ client → OfClients 1 t.machine.clients course → submission_so_far course ≡ submission_of one
     by zero same is = let below : 1 ≤ course.owner.client = is.from in absurd (let none : ⊥ = omega (arith, same, below) in none)
     by (suc place) same is =
         let next : course.owner.client ≡ 1 + place = omega (arith, same) in
@@ -149,9 +148,9 @@ module _ (t : Traced) (inv : Invariant t) (unblocked : serve_unblocked t ≡ tru
     its : list_all (λ sent. same_owners (Some owner) sent.owner) mine ≡ true
     its = calls_of_begin (map (λ one. one.sent) served) (Some owner) (front_right (map (λ one. one.sent) served) link.sent New on.front on.grammar) begun
 
-    right_over : (own : Client) (one : Past) → client_at t.machine.clients owner.client ≡ Some own → slice_get own.past owner.place ≡ Some one → (sents : List Sent) → mine ≡ sents → is_turn_right (submission_over one) turn ≡ true
+    right_over : (own : Client) (one : Past) → client_at t.machine.clients owner.client ≡ Some own → slice_get own.past owner.place ≡ Some one → (sents : List Sent) → mine ≡ sents → is_turn_right (submission_of one) turn ≡ true
     right_over own one here at [] is =
-        ap (λ (list : List Marked). begins_with (submission_over one) (front_of is_marked list) (rest_of is_marked list)) (none_right t inv unblocked once near number link there served later all turn calls is)
+        ap (λ (list : List Marked). begins_with (submission_of one) (front_of is_marked list) (rest_of is_marked list)) (none_right t inv unblocked once near number link there served later all turn calls is)
     right_over own one here at (first ∷ more) is =
         let all_its : list_all (λ sent. same_owners (Some owner) sent.owner) (first ∷ more) ≡ true = subst (λ (sents : List Sent). list_all (λ sent. same_owners (Some owner) sent.owner) sents ≡ true) is its in
         let first_its : Some owner ≡ first.owner = owners_are (Some owner) first.owner (and_parts (same_owners (Some owner) first.owner) (list_all (λ sent. same_owners (Some owner) sent.owner) more) all_its).0 in

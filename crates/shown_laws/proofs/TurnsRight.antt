@@ -21,7 +21,7 @@ use Rattle.world_model.specs.Wire.{Stage, New, Greeted, Told, Repeated, Begun, R
 use Rattle.world_model.specs.Words.{held_in}
 use Rattle.shown_laws.specs.OwnTurns.{OnWire}
 use Rattle.shown_laws.specs.ServedSent.{ServesFront, none_blocked}
-use Rattle.shown_laws.specs.TurnRows.{submission_of}
+use Rattle.shown_laws.specs.Submitted.{submission_so_far}
 use Rattle.shown_laws.specs.TurnSent.{IsTurn, calls_with, sent_since}
 use Rattle.shown_laws.specs.TurnsOver.{WereTurns, NoneOver, OneOver, NothingBeside}
 use Rattle.shown_laws.specs.TurnsRight.{RightFor, ServesNone, ServesOwn, AreRight, NoTurns, OneTurn}
@@ -192,7 +192,7 @@ module _ (t : Traced) (inv : Invariant t) (unblocked : serve_unblocked t ≡ tru
       pub at : slice_get (courses_of t) place ≡ Some course
       pub same : same_owner course.owner owner ≡ true
       pub held : list_any (λ other. other == number) (held_in course.steps) ≡ true
-      pub right : is_turn_right (submission_of course) turn ≡ true
+      pub right : is_turn_right (submission_so_far course) turn ≡ true
 
     -- the owner of the first of its calls
     pub own_right : (first : Sent) (more : List Sent) → mine ≡ first ∷ more → (owner : Owner) → first.owner ≡ Some owner → OwnRight owner

@@ -16,7 +16,7 @@ use Rattle.world_model.specs.Ready.{all_requests_right}
 use Rattle.world_model.specs.Sames.{owned_by}
 use Rattle.world_model.specs.Traced.{Traced, Course, courses_of}
 use Rattle.world_model.specs.Words.{held_in}
-use Rattle.shown_laws.specs.TurnRows.{submission_of}
+use Rattle.shown_laws.specs.Submitted.{submission_so_far}
 use Rattle.shown_laws.specs.TurnSent.{sent_since}
 use Rattle.shown_laws.specs.TurnsServed.{calls_served}
 
@@ -33,7 +33,7 @@ pub record IsHeldTurn (t : Traced) (number : ℕ) (course : Course) (served : Li
   pub own : IsTrue (list_all (owned_by course.owner) (sent_since (map (λ one. one.sent) served)))
 
 abbrev pub HaveRightTurns : Traced → Type 0
-HaveRightTurns t = (number : ℕ) (course : Course) (served : List Handled) (turn : Turn) → IsHeldTurn t number course served turn → IsTrue (is_turn_right (submission_of course) turn)
+HaveRightTurns t = (number : ℕ) (course : Course) (served : List Handled) (turn : Turn) → IsHeldTurn t number course served turn → IsTrue (is_turn_right (submission_so_far course) turn)
 
 -- wherever a run has come to
 abbrev pub RunsHaveRightTurns : Type 0

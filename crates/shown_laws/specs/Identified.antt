@@ -19,8 +19,8 @@ use Rattle.world_model.specs.Ready.{all_requests_right}
 use Rattle.world_model.specs.Reported.{IsReported}
 use Rattle.world_model.specs.Settings.{Setting}
 use Rattle.world_model.specs.Traced.{Traced}
-use Rattle.shown_laws.specs.PartsTold.{submission_of}
 use Rattle.shown_laws.specs.ReportsTold.{HoldsOfReports, of_parts}
+use Rattle.shown_laws.specs.Submitted.{submission_of}
 use Rattle.shown_laws.specs.Telling.{steps_told}
 use Rattle.shown_laws.specs.Tellings.{Telling, TellsClient}
 

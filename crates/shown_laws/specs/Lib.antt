@@ -13,6 +13,7 @@ pub mod PartsTold
 pub mod ReportsTold
 pub mod ServedSent
 pub mod ShowingsTold
+pub mod Submitted
 pub mod Telling
 pub mod Tellings
 pub mod TurnOwner

@@ -12,7 +12,7 @@ use Rattle.world_model.specs.Shown.{calls_on, is_row}
 use Rattle.world_model.specs.Traced.{Course, Traced}
 use Rattle.world_model.specs.Wire.{Wire, handled_from, is_right, stage_of}
 use Rattle.shown_laws.specs.ServedSent.{none_blocked}
-use Rattle.shown_laws.specs.TurnRows.{submission_of}
+use Rattle.shown_laws.specs.Submitted.{submission_so_far}
 use Rattle.shown_laws.specs.TurnSent.{sent_since}
 use Rattle.shown_laws.specs.TurnsServed.{calls_served}
 
@@ -29,7 +29,7 @@ pub record IsOwnTurn (course : Course) (link : Link) (served : List Handled) (tu
 abbrev pub OwnTurnsAreRight : Type 0
 OwnTurnsAreRight =
     (course : Course) (current : Bool) (link : Link) (served : List Handled) (turn : Turn)
-    → IsOwnTurn course link served turn → IsTrue (is_row course current (calls_on course link)) → IsTrue (list_all (is_shown_or_next course.report.calls) (calls_on course link)) → IsTrue (is_turn_right (submission_of course) turn)
+    → IsOwnTurn course link served turn → IsTrue (is_row course current (calls_on course link)) → IsTrue (list_all (is_shown_or_next course.report.calls) (calls_on course link)) → IsTrue (is_turn_right (submission_so_far course) turn)
 
 -- What the wire gives of it, wherever the turn ended.
 pub record OnWire (link : Link) (served : List Handled) : Type 0 where

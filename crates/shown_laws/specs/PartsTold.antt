@@ -9,13 +9,13 @@ use Rattle.svc_values.specs.Identifiers.{same_session}
 use Rattle.shown_clauses.specs.Parts.{Part, acquires, parts_of, has_its_sessions}
 use Rattle.shown_clauses.specs.Showings.{showings, has_its_outcomes, has_its_showings}
 use Rattle.shown_clauses.specs.Steps.{Step, steps_of}
-use Rattle.shown_clauses.specs.Submissions.{Submission}
 use Rattle.shown_clauses.specs.Whole.{are_taken}
 use Rattle.world_model.specs.Clients.{Past, Client, client_at}
 use Rattle.world_model.specs.Finishing.{Place}
 use Rattle.world_model.specs.Reached.{IsFinishing}
 use Rattle.world_model.specs.Ready.{all_requests_right}
 use Rattle.world_model.specs.Traced.{Traced}
+use Rattle.shown_laws.specs.Submitted.{submission_of}
 use Rattle.shown_laws.specs.Telling.{steps_told}
 use Rattle.shown_laws.specs.Tellings.{Telling, steps_in_tellings}
 
@@ -55,9 +55,6 @@ pub record IsPartOf (steps : List Step) (part : Part) : Type 0 where
   pub is : part.steps ≡ own ++ behind
   pub quiet : OfEach IsQuiet before
   pub quiet_behind : OfEach IsQuiet behind
-
-abbrev pub submission_of : Past → Submission
-submission_of one = record { request = one.request; copy = one.report }
 
 -- request by request
 pub data ArePartsOf : List Past → List (List Telling) → List Part → Type 0 where

@@ -23,7 +23,7 @@ use Rattle.world_model.specs.Ready.{all_requests_right}
 use Rattle.world_model.specs.Traced.{Traced}
 use Rattle.world_model.specs.UnservedBegins.{last_owner}
 use Rattle.shown_laws.specs.AcquiredTold.{last_acquired}
-use Rattle.shown_laws.specs.PartsTold.{submission_of}
+use Rattle.shown_laws.specs.Submitted.{submission_of}
 use Rattle.shown_laws.specs.Telling.{seen_told, steps_told}
 use Rattle.shown_laws.specs.TurnsOver.{WereTurns}
 use Rattle.shown_laws.specs.TurnsServed.{served_in}

@@ -5,12 +5,12 @@ use Rattle.svc_values.specs.declared.call.Call.{Call}
 use Rattle.svc_values.specs.declared.draw.Draw.{Draw}
 use Rattle.svc_values.specs.declared.frame.Up.TheVariants as up
 use Rattle.shown_clauses.specs.Links.{Marked, Turn}
-use Rattle.shown_clauses.specs.Submissions.{Submission}
 use Rattle.shown_clauses.specs.Turns.{is_turn_right}
 use Rattle.world_model.specs.Frames.{Sent}
 use Rattle.world_model.specs.NearCalls.{is_shown_or_next}
 use Rattle.world_model.specs.Shown.{is_marked, is_row}
 use Rattle.world_model.specs.Traced.{Course}
+use Rattle.shown_laws.specs.Submitted.{submission_so_far}
 
 -- The calls that were served, the oldest first, are those of the frames that were sent first.
 pub data ServedOf : List Marked → List Sent → Type 0 where
@@ -28,17 +28,13 @@ abbrev pub marks_stand_first : List Marked → Bool
 marks_stand_first [] = true
 marks_stand_first (first ∷ more) = if first.replay then marks_stand_first more else list_all (λ one. not one.replay) more
 
--- the request of a course, with its report as far as it has come
-abbrev pub submission_of : Course → Submission
-submission_of course = record { request = course.request; copy = course.report }
-
 -- A turn is right that served calls of a row: the call without the mark that comes first can be the call of its index, and those with the mark
 -- are the ones before it since the last that was shown as decided.
 abbrev pub RowsMakeTurnsRight : Type 0
 RowsMakeTurnsRight =
     (course : Course) (current : Bool) (calls : List Sent) (turn : Turn)
     → IsTrue (is_row course current calls) → IsTrue (list_all (is_shown_or_next course.report.calls) calls) → IsTrue (marks_stand_first (reverse turn.calls))
-    → ServedOf (reverse turn.calls) calls → IsTrue (is_turn_right (submission_of course) turn)
+    → ServedOf (reverse turn.calls) calls → IsTrue (is_turn_right (submission_so_far course) turn)
 
 -- What was served has the marks of what was sent.
 abbrev pub ServesMarksFirst : Type 0

@@ -15,12 +15,12 @@ use Rattle.world_model.specs.Ready.{all_requests_right}
 use Rattle.world_model.specs.Traced.{Traced, Course, courses_of}
 use Rattle.world_model.specs.Words.{held_in}
 use Rattle.shown_laws.specs.Telling.{seen_told}
-use Rattle.shown_laws.specs.TurnRows.{submission_of}
+use Rattle.shown_laws.specs.Submitted.{submission_so_far}
 
 -- It served no call, or those of a request that held the connection of this number, for which it is right.
 pub data RightFor (t : Traced) (number : ℕ) (turn : Turn) : Type 0 where
   ServesNone : reverse turn.calls ≡ [] → RightFor t number turn
-  ServesOwn : (course : Course) (place : ℕ) → slice_get (courses_of t) place ≡ Some course → IsTrue (list_any (λ other. other == number) (held_in course.steps)) → IsTrue (is_turn_right (submission_of course) turn) → RightFor t number turn
+  ServesOwn : (course : Course) (place : ℕ) → slice_get (courses_of t) place ≡ Some course → IsTrue (list_any (λ other. other == number) (held_in course.steps)) → IsTrue (is_turn_right (submission_so_far course) turn) → RightFor t number turn
 
 pub data AreRight (t : Traced) : List Turn → Type 0 where
   NoTurns : AreRight t []
