@@ -123,9 +123,6 @@ module _ (terms : Terms) (talk : Talk) (alive : Bool) (now : ℕ) where
   pub takes_completed : (asking : Asking) (call : Call) → next_call talk ≡ Some call → ShowsIn (Some (outcome_shown asking.fresh)) (takes terms talk (Asked asking) (down.OutcomeIs true true) alive now)
   takes_completed asking call is = completed_shows terms talk (resumed (completed_on asking)) asking.event alive now (next_call talk) call is
 
-  pub takes_incomplete : (asking : Asking) → ShowsIn None (takes terms talk (Asked asking) (down.OutcomeIs true false) alive now)
-  takes_incomplete asking = refl
-
   pub takes_uncommitted : (asking : Asking) (completed : Bool) → ShowsIn None (takes terms talk (Asked asking) (down.OutcomeIs false completed) alive now)
   takes_uncommitted asking completed = none_shows terms talk asking alive now (uncommitted asking.track.why asking terms.limits now) (uncommitted_none terms asking.track.why asking now)
 

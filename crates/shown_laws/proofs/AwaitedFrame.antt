@@ -1,5 +1,5 @@
 -- The frame that was sent last on the connection of a request is the one that the request tells as its last.
-use Rattle.std.proofs.Common.{◌≡◌, refl, sym, ap, subst, ◌∙◌, Bool, true, false, ℕ, zero, suc, ◌+◌, ◌≤◌, length, List, [], ◌∷◌, Option, Some, None, arith}
+use Rattle.std.proofs.Common.{◌≡◌, refl, sym, ap, subst, ◌∙◌, Bool, true, false, ℕ, ◌+◌, ◌≤◌, length, List, [], Option, Some, None, arith}
 use Rattle.std.specs.Prelude.{◌==◌, ◌-◌, slice_get}
 use Rattle.std.specs.Option.{option_map_or}
 use Rattle.std.proofs.lemmas.Bool.{and_parts}
@@ -18,28 +18,21 @@ use Rattle.client_model.specs.Terms.{Terms, Talk, Phase, Idle, Unbegun, Queued, 
 use Rattle.client_model.specs.Verifying.{index_of}
 use Rattle.client_model.proofs.Offered.{Tracked, Fits, IsTalk, first_talks, last_fits, last_talks, next_left}
 use Rattle.world_model.specs.Clients.{Doing, Client, client_at}
-use Rattle.world_model.specs.Conversing.{inputs_of, first_talk, Talks, AreThrough, IsTalking, AllTalk}
+use Rattle.world_model.specs.Conversing.{inputs_of, first_talk, Talks, IsTalking, AllTalk}
 use Rattle.world_model.specs.Frames.{Sent}
 use Rattle.world_model.specs.Hold.{is_awaited}
+use Rattle.shown_laws.proofs.BeforeSession.{talks_at}
 use Rattle.shown_laws.proofs.CourseHeard.{awaits_behind}
 use Rattle.shown_laws.proofs.FrameAnswered.{LastIs, Same, SameCall}
 use Rattle.shown_laws.proofs.LastSent.{AwaitsIn}
 use Rattle.shown_laws.proofs.Lookups.{eq_from}
 use Rattle.shown_laws.proofs.RecordedCalls.{RowOf, account_row}
+use Rattle.shown_laws.proofs.RequestsAdd.{is_idle}
 
 -- OF A CLIENT -------------------------------------------------------------------------------------
 
-talks_in : (terms : Terms) (clients : List Client) (index : ℕ) (own : Client) → AllTalk terms clients → slice_get clients index ≡ Some own → AreThrough terms own.past × IsTalking terms own.now
-talks_in terms [] index own all is = absurd (let none : ⊥ = cc in none)
-talks_in terms (first ∷ clients) zero own all is = let same : first ≡ own = cc in subst (λ (c : Client). AreThrough terms c.past × IsTalking terms c.now) same all.0
-talks_in terms (first ∷ clients) (suc index) own all is = talks_in terms clients index own all.1 is
-
-pub talks_of : (terms : Terms) (clients : List Client) (number : ℕ) (own : Client) → AllTalk terms clients → client_at clients number ≡ Some own → AreThrough terms own.past × IsTalking terms own.now
-talks_of terms clients zero own all is = absurd (let none : ⊥ = cc in none)
-talks_of terms clients (suc index) own all is = talks_in terms clients index own all is
-
 pub now_talks : (terms : Terms) (clients : List Client) (number : ℕ) (own : Client) (doing : Doing) → AllTalk terms clients → client_at clients number ≡ Some own → own.now ≡ Some doing → Talks terms false doing
-now_talks terms clients number own doing all here now = subst (IsTalking terms) now (talks_of terms clients number own all here).1
+now_talks terms clients number own doing all here now = subst (IsTalking terms) now (talks_at terms clients number own all here).1
 
 -- THE LAST FRAME ----------------------------------------------------------------------------------
 
@@ -50,14 +43,7 @@ get_same call (Some other) is = ap Some (sym ((same_call_decides call other).0 i
 never : ◌≡◌ {A = Bool} false true → ⊥
 never is = let none : ⊥ = cc in none
 
-abbrev is_idle : Phase → Bool
-is_idle Idle = true
-is_idle _ = false
-
 module _ (terms : Terms) (doing : Doing) (talks : Talks terms false doing) where
-  abbrev calls : List Call
-  calls = doing.request.calls
-
   -- what it was told so far
   abbrev pub heard : Account
   heard = account_of terms doing.request.calls (steps_of terms (first_talk doing.request) (inputs_of doing.steps))

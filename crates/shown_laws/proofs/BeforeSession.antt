@@ -21,10 +21,11 @@ use Rattle.outage_schedule.specs.declared.item.Item.TheVariants as item
 use Rattle.world_model.specs.Clients.{Step, Doing, Client, client_at}
 use Rattle.world_model.specs.Conversing.{inputs_of, first_talk, Talks, IsTalking, AreThrough, AllTalk}
 use Rattle.world_model.specs.Frames.{Sent}
-use Rattle.world_model.specs.Hold.{is_awaited, is_connect}
+use Rattle.world_model.specs.Hold.{is_awaited}
 use Rattle.world_model.specs.Sames.{same_up, same_sent}
 use Rattle.world_model.specs.Serving.{is_item_of}
 use Rattle.shown_laws.proofs.SessionsReached.{sessions_reached}
+use Rattle.shown_laws.proofs.TakenAs.{connect_waits}
 
 -- PHASES ------------------------------------------------------------------------------------------
 
@@ -105,16 +106,12 @@ same_connect up.End up.Connect same is = absurd (let never : ⊥ = cc in never)
 same_connect up.Close up.Connect same is = absurd (let never : ⊥ = cc in never)
 same_connect _ _ same is = absurd (let never : ⊥ = cc in never)
 
-is_connect_frame : (frame : Up) → is_connect frame ≡ true → frame ≡ up.Connect
-is_connect_frame up.Connect is = refl
-is_connect_frame _ is = absurd (let never : ⊥ = cc in never)
-
 item_of_connect : (one : Item) → is_item_of up.Connect one ≡ true → one ≡ item.Connect
 item_of_connect item.Connect is = refl
 item_of_connect _ is = absurd (let never : ⊥ = cc in never)
 
 awaits_connect : (phase : Phase) (sent : Sent) → is_unmet phase ≡ true → is_awaited phase sent ≡ true → sent.frame ≡ up.Connect
-awaits_connect (Greeting None) sent is awaited = is_connect_frame sent.frame awaited
+awaits_connect (Greeting None) sent is awaited = connect_waits sent.frame awaited
 awaits_connect _ sent is awaited = absurd (let never : ⊥ = cc in never)
 
 -- the item of what it takes is a Connect

@@ -17,30 +17,18 @@ use Rattle.world_model.specs.Wire.{Stage, New, Greeted, Told, Repeated, Begun, R
 use Rattle.shown_laws.specs.TurnOwners.{begun_by, sent_begin}
 use Rattle.shown_laws.specs.TurnSent.{calls_with, sent_since}
 use Rattle.shown_laws.proofs.OwnTurns.{walk, right_front}
-use Rattle.shown_laws.proofs.TurnSent.{all_push, owners_are, owners_same}
+use Rattle.shown_laws.proofs.TurnSent.{all_push, owned, owners_are, owners_same}
 
 -- WHAT WAS SERVED IS IN THE GRAMMAR ---------------------------------------------------------------
 
 -- frames that are the same lead to the same stage
 begins_alike : (stage : Stage) (owner : Option Owner) (a b : List (List ℕ × Value)) → next_stage stage owner (up.Begin a) ≡ next_stage stage owner (up.Begin b)
 begins_alike New owner a b = refl
-begins_alike (Greeted one) owner a b = refl
-begins_alike (Told one) owner a b = refl
-begins_alike (Repeated one) owner a b = refl
-begins_alike (Begun one) owner a b = refl
-begins_alike (Rested one) owner a b = refl
-begins_alike Shut owner a b = refl
-begins_alike Wrong owner a b = refl
+begins_alike _ owner a b = refl
 
 outcomes_alike : (stage : Stage) (owner : Option Owner) (a b : Ltxid) → next_stage stage owner (up.Outcome a) ≡ next_stage stage owner (up.Outcome b)
 outcomes_alike New owner a b = refl
-outcomes_alike (Greeted one) owner a b = refl
-outcomes_alike (Told one) owner a b = refl
-outcomes_alike (Repeated one) owner a b = refl
-outcomes_alike (Begun one) owner a b = refl
-outcomes_alike (Rested one) owner a b = refl
-outcomes_alike Shut owner a b = refl
-outcomes_alike Wrong owner a b = refl
+outcomes_alike _ owner a b = refl
 
 frames_alike : (stage : Stage) (owner : Option Owner) (one other : Up) → same_up one other ≡ true → next_stage stage owner one ≡ next_stage stage owner other
 frames_alike stage owner up.Connect up.Connect same = refl
@@ -67,9 +55,6 @@ front_right (first ∷ front) (sent ∷ sents) stage is right =
     front_right front sents (next_stage stage first.owner first.frame) parts.1 (subst (λ (next : Stage). is_right (walk next sents) ≡ true) (sym alike) right)
 
 -- WHOSE THE CALLS ARE -----------------------------------------------------------------------------
-
-abbrev owned : Option Owner → List Sent → Type 0
-owned owner calls = list_all (λ sent. same_owners owner sent.owner) calls ≡ true
 
 -- of whoever sent the Begin
 abbrev OfBegin : List Sent → Option (Option Owner) → Type 0

@@ -1,7 +1,8 @@
 -- A call of a script, and calls with the mark that stand in a row up to it from the one after the last that was shown as decided: they fit there.
-use Rattle.std.proofs.Common.{◌≡◌, refl, sym, ap, subst, ◌∙◌, Bool, true, false, ℕ, suc, zero, ◌+◌, ◌≤◌, ◌<◌, ◌&&◌, ◌||◌, length, List, [], ◌∷◌, ◌++◌, reverse, Some, cond, arith}
+use Rattle.std.proofs.Common.{◌≡◌, refl, sym, ap, subst, ◌∙◌, Bool, true, false, ℕ, suc, zero, ◌+◌, ◌≤◌, ◌<◌, ◌&&◌, length, List, [], ◌∷◌, ◌++◌, reverse, Some, cond, arith}
 use Rattle.std.specs.Prelude.{◌==◌, take, drop, slice_get}
-use Rattle.std.proofs.lemmas.Bool.{and_from, or_right}
+use Rattle.std.proofs.lemmas.Bool.{and_from, or_right, or_left}
+use Rattle.std.proofs.lemmas.Option.{slice_get_within}
 use Rattle.std.proofs.lemmas.List.{append-nil, append_assoc, reverse-append, drop_all, drop-append-le, length_push}
 use Rattle.svc_values.specs.declared.call.Call.{Call}
 use Rattle.svc_values.specs.Same.{same_call}
@@ -17,11 +18,6 @@ pub data InRow (script : List Call) : ℕ → List Call → Type 0 where
   RowGoes : (at : ℕ) (call : Call) (more : List Call) → slice_get script at ≡ Some call → InRow script (at + 1) more → InRow script at (call ∷ more)
 
 -- LISTS -------------------------------------------------------------------------------------------
-
-within_list : {A : Type 0} (xs : List A) (at : ℕ) (x : A) → slice_get xs at ≡ Some x → at < length xs
-within_list [] at x is = absurd (let none : ⊥ = cc in none)
-within_list (first ∷ xs) zero x is = omega arith
-within_list (first ∷ xs) (suc at) x is = let rest : at < length xs = within_list xs at x is in omega arith
 
 front_long : {A : Type 0} (count : ℕ) (xs : List A) → length (take count xs) ≤ count
 front_long zero xs = omega arith
@@ -98,10 +94,6 @@ gathered_is (suc count) found index before since (call ∷ calls) (one ∷ shown
 
 -- FITTING -----------------------------------------------------------------------------------------
 
-or_left : (a b : Bool) → a ≡ true → (a || b) ≡ true
-or_left true b is = refl
-or_left false b is = absurd (let none : ⊥ = cc in none)
-
 fits_here_is : (first call : Call) (since : List Call) → call ≡ first → fits_here first since since call ≡ true
 fits_here_is first call since same =
     let tests : (same_call call first && (length since == length since)) ≡ true = and_from (same_call call first) (length since == length since) ((same_call_decides call first).1 same) (eq_to (length since) (length since) refl) in
@@ -127,7 +119,7 @@ row_fits script shown from at first marked row long begins is within =
     subst (λ (since : List Call). fits_from first since [] script shown ≡ true) same (fits_at at first [] script shown is within)
   where
     among : at ≤ length script
-    among = let inside : at < length script = within_list script at first is in omega arith
+    among = let inside : at < length script = slice_get_within script at first is in omega arith
 
     same : gathered at [] script shown ≡ reverse marked
     same =

@@ -35,8 +35,9 @@ use Rattle.caused_laws.specs.Telling.{ToldStep}
 use Rattle.caused_laws.proofs.Offered.{judges_report}
 use Rattle.shown_laws.specs.CausedRuns.{RunsAreCaused}
 use Rattle.shown_laws.specs.Tellings.{Telling, steps_in_tellings, TellsNow, NoneNow, OneNow, joined, FollowsFrom, TellsClient, TellsClients, FinishesTellSteps}
-use Rattle.shown_laws.proofs.AwaitedFrame.{talks_of}
+use Rattle.shown_laws.proofs.BeforeSession.{talks_at}
 use Rattle.shown_laws.proofs.ConversationsHeard.{all_told, HaveCalls, pasts_heard, joined_same}
+use Rattle.shown_laws.proofs.Places.{all_at}
 use Rattle.shown_laws.proofs.SubmissionsTold.{submissions_in, past_submitted}
 use Rattle.shown_laws.proofs.TermsTold.{terms_are}
 
@@ -112,14 +113,9 @@ get_script [] index one is = absurd (let none : ⊥ = cc in none)
 get_script (first ∷ all) zero one is = let same : first ≡ one = cc in ap (λ (c : Scripted). c.requests) same
 get_script (first ∷ all) (suc index) one is = get_script all index one is
 
-get_all : {A : Type 0} (test : A → Bool) (all : List A) (index : ℕ) (one : A) → list_all test all ≡ true → slice_get all index ≡ Some one → test one ≡ true
-get_all test [] index one right is = absurd (let none : ⊥ = cc in none)
-get_all {A} test (first ∷ all) zero one right is = let same : first ≡ one = cc in ap test (sym same) ∙ (and_parts (test first) (list_all test all) right).0
-get_all test (first ∷ all) (suc index) one right is = get_all test all index one (and_parts (test first) (list_all test all) right).1 is
-
 next_right : (script : List Request) (place : Option ℕ) (request : Request) → list_all is_right_request script ≡ true → option_and_then (slice_get script) place ≡ Some request → is_right_request request ≡ true
 next_right script None request right is = absurd (let none : ⊥ = cc in none)
-next_right script (Some index) request right is = get_all is_right_request script index request right is
+next_right script (Some index) request right is = all_at is_right_request script index request right is
 
 some_calls : (calls : List Call) → not (length calls == 0) ≡ true → calls ≢ []
 some_calls calls is none = let both : not (length {A = Call} [] == 0) ≡ true = ap (λ (c : List Call). not (length c == 0)) (sym none) ∙ is in let no : ⊥ = cc in no
@@ -202,5 +198,5 @@ runs_are_caused tell kept document report seen t server right some reported =
         let number : 1 + index ≡ suc index = omega arith in
         subst (λ (n : ℕ). IsHeardAll (terms_of document.service) (steps report) n (submissions_in one.requests (reports_of own.past))) (sym number)
         (one_heard (setting_of document) (suc index) own one.requests (steps report) (told.each (suc index) own here) (one_finished t.machine.clients index own (all_finished t.machine run.place run.over) here).0
-        (get_script document.clients index one there) (get_all (λ (client : Scripted). list_all is_right_request client.requests) document.clients index one right there)
-        (subst (λ (setting : Setting). AreThrough setting.terms own.past) same (talks_of t.setting.terms t.machine.clients (suc index) own inv.orderly.script.talks here).0))
+        (get_script document.clients index one there) (all_at (λ (client : Scripted). list_all is_right_request client.requests) document.clients index one right there)
+        (subst (λ (setting : Setting). AreThrough setting.terms own.past) same (talks_at t.setting.terms t.machine.clients (suc index) own inv.orderly.script.talks here).0))

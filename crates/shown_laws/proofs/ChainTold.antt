@@ -15,7 +15,7 @@ use Rattle.world_model.specs.Invariant.{Invariant}
 use Rattle.world_model.specs.Machines.{Machine}
 use Rattle.world_model.specs.Settings.{Setting}
 use Rattle.world_model.specs.Traced.{Traced}
-use Rattle.shown_laws.specs.Tellings.{Telling, steps_in_tellings, Begins, WasThere, BeginsNow, TellsRequest, NoneYet, OneMore, TellsPast, NonePast, OnePast, TellsNow, NoneNow, OneNow, joined, FollowsFrom, IsScripted, TellsClient, TellsClients}
+use Rattle.shown_laws.specs.Tellings.{Telling, steps_in_tellings, Begins, WasThere, BeginsNow, TellsStep, TellsRequest, NoneYet, OneMore, TellsPast, NonePast, OnePast, TellsNow, NoneNow, OneNow, joined, FollowsFrom, IsScripted, TellsClient, TellsClients}
 use Rattle.shown_laws.proofs.ClientsMove.{Leads, GoesOn, IsOver, client_own, client_other}
 use Rattle.shown_laws.proofs.Lookups.{either, eq_to, ne_to}
 use Rattle.shown_laws.proofs.StepsTold.{told_step, Acts}
@@ -23,7 +23,7 @@ use Rattle.shown_laws.proofs.StepsTold.{told_step, Acts}
 -- REQUESTS ----------------------------------------------------------------------------------------
 
 -- a request more is over
-pub past_more : (setting : Setting) (client place : ℕ) (past : List Past) (told : List (List Telling)) (one : Past) (tellings : List Telling) → TellsPast setting client place past told → TellsRequest setting client (place + length past) one.request tellings one.steps
+past_more : (setting : Setting) (client place : ℕ) (past : List Past) (told : List (List Telling)) (one : Past) (tellings : List Telling) → TellsPast setting client place past told → TellsRequest setting client (place + length past) one.request tellings one.steps
     → TellsPast setting client place (past ++ one ∷ []) (told ++ tellings ∷ [])
 past_more setting client _ _ _ one tellings (NonePast place) is =
     let same : place + 0 ≡ place = omega arith in
@@ -32,12 +32,12 @@ past_more setting client _ _ _ one tellings (OnePast place first others own more
     let same : place + length (first ∷ others) ≡ (place + 1) + length others = omega arith in
     OnePast place first (others ++ one ∷ []) own (more ++ tellings ∷ []) its (past_more setting client (place + 1) others more one tellings rest (subst (λ (k : ℕ). TellsRequest setting client k one.request tellings one.steps) same is))
 
-pub joined_more : (told : List (List Telling)) (tellings : List Telling) → joined (told ++ tellings ∷ []) ≡ joined told ++ tellings
+joined_more : (told : List (List Telling)) (tellings : List Telling) → joined (told ++ tellings ∷ []) ≡ joined told ++ tellings
 joined_more [] tellings = append-nil tellings
 joined_more (first ∷ told) tellings = ap (λ (rest : List Telling). first ++ rest) (joined_more told tellings) ∙ sym (append_assoc first (joined told) tellings)
 
 -- the request that is there, or begins now, and what was told of it so far
-pub record Current (t : Traced) (client : ℕ) (own : Client) (doing : Doing) (tellings : List Telling) : Type 0 where
+record Current (t : Traced) (client : ℕ) (own : Client) (doing : Doing) (tellings : List Telling) : Type 0 where
   pub steps : List Step
   pub began : List Step
   pub begins : Begins t own doing steps began
@@ -49,7 +49,7 @@ was_now t client own doing one tellings now same told =
     let its : TellsRequest t.setting client (length own.past) doing.request tellings doing.steps = subst (λ (d : Doing). TellsRequest t.setting client (length own.past) d.request tellings d.steps) same told in
     record { steps = doing.steps; began = []; begins = WasThere (now ∙ ap Some same); all = sym (append-nil doing.steps); told = its }
 
-pub current : (t : Traced) (client : ℕ) (own : Client) (doing : Doing) (now : Option Doing) (next : Option Request) (tellings : List Telling) → own.now ≡ now → own.next ≡ next
+current : (t : Traced) (client : ℕ) (own : Client) (doing : Doing) (now : Option Doing) (next : Option Request) (tellings : List Telling) → own.now ≡ now → own.next ≡ next
     → option_or now (option_map (begun t.setting.terms (t.machine.event + 1) t.machine.tick) next) ≡ Some doing → TellsNow t.setting client (length own.past) now tellings → Current t client own doing tellings
 current t client own doing _ next _ is_now is_next does (OneNow one tellings told) = was_now t client own doing one tellings is_now (let same : one ≡ doing = cc in same) told
 current t client own doing _ None _ is_now is_next does NoneNow = absurd (let none : ⊥ = cc in none)
@@ -68,39 +68,56 @@ with_long clients (suc index) client = set_long clients index client
 
 -- ONE STEP MORE -----------------------------------------------------------------------------------
 
+-- what is told of a client with one telling more, of the request in course or of one that is over by it
+pub data IsLonger (one : Telling) (past : List (List Telling)) (now : List Telling) : List (List Telling) → List Telling → Type 0 where
+  InCourse : IsLonger one past now past (now ++ one ∷ [])
+  AtEnd : IsLonger one past now (past ++ (now ++ one ∷ []) ∷ []) []
+
 module _ (t : Traced) (inv : Invariant t) (seen : Seen) (client : ℕ) (did : GoNote) (n : Machine) (acts : Acts t seen client did n) where
-  telling : List Step → Telling
+  abbrev telling : List Step → Telling
   telling began = record { step = told_step t seen client did; acts = began ++ acts.acts }
 
-  request_more : (tellings : List Telling) → Current t client acts.own acts.doing tellings → (one : Telling) × TellsRequest t.setting client (length acts.own.past) acts.after.request (tellings ++ one ∷ []) acts.after.steps × (one.step ≡ told_step t seen client did)
+  -- a step more of the request
+  pub record More (tellings : List Telling) : Type 0 where
+    pub steps : List Step
+    pub one : Telling
+    pub tells : TellsStep t.setting client (length acts.own.past) acts.doing.request steps one
+    pub now : tells.t ≡ t
+    pub step : one.step ≡ told_step t seen client did
+    pub told : TellsRequest t.setting client (length acts.own.past) acts.after.request (tellings ++ one ∷ []) acts.after.steps
+
+  request_more : (tellings : List Telling) → Current t client acts.own acts.doing tellings → More tellings
   request_more tellings is =
-      let one : Telling = record { step = told_step t seen client did; acts = is.began ++ acts.acts } in
-      let steps : acts.after.steps ≡ is.steps ++ (is.began ++ acts.acts) = acts.steps ∙ (ap (λ (s : List Step). s ++ acts.acts) is.all ∙ append_assoc is.steps is.began acts.acts) in (
-        record { step = told_step t seen client did; acts = is.began ++ acts.acts },
-        subst (λ (request : Request). TellsRequest t.setting client (length acts.own.past) request (tellings ++ record { step = told_step t seen client did; acts = is.began ++ acts.acts } ∷ []) acts.after.steps) (sym acts.request)
-            (subst (TellsRequest t.setting client (length acts.own.past) acts.doing.request (tellings ++ record { step = told_step t seen client did; acts = is.began ++ acts.acts } ∷ [])) (sym steps)
-            (OneMore tellings is.steps (record { step = told_step t seen client did; acts = is.began ++ acts.acts }) is.told
-            (record {
-              t = t;
-              inv = inv;
-              of_run = refl;
-              own = acts.own;
-              here = acts.here;
-              at = refl;
-              doing = acts.doing;
-              does = acts.does;
-              same = refl;
-              began = is.began;
-              begins = is.begins;
-              acts = acts.acts;
-              all = refl;
-              event = refl;
-              tick = refl;
-              whose = refl;
-              kind = acts.tells;
-            }))),
-        refl,
-      )
+      let steps : acts.after.steps ≡ is.steps ++ (is.began ++ acts.acts) = acts.steps ∙ (ap (λ (s : List Step). s ++ acts.acts) is.all ∙ append_assoc is.steps is.began acts.acts) in
+      let tells : TellsStep t.setting client (length acts.own.past) acts.doing.request is.steps (telling is.began) = record {
+        t = t;
+        inv = inv;
+        of_run = refl;
+        own = acts.own;
+        here = acts.here;
+        at = refl;
+        doing = acts.doing;
+        does = acts.does;
+        same = refl;
+        began = is.began;
+        begins = is.begins;
+        acts = acts.acts;
+        all = refl;
+        event = refl;
+        tick = refl;
+        whose = refl;
+        kind = acts.tells;
+      } in
+      record {
+        steps = is.steps;
+        one = telling is.began;
+        tells = tells;
+        now = refl;
+        step = refl;
+        told =
+            subst (λ (request : Request). TellsRequest t.setting client (length acts.own.past) request (tellings ++ telling is.began ∷ []) acts.after.steps) (sym acts.request)
+            (subst (TellsRequest t.setting client (length acts.own.past) acts.doing.request (tellings ++ telling is.began ∷ [])) (sym steps) (OneMore tellings is.steps (telling is.began) is.told tells));
+      }
 
   -- the request in course is the one that was next
   was_next : IsScripted (script_at t.setting client) acts.own → acts.own.next ≡ Some acts.doing.request
@@ -116,7 +133,7 @@ module _ (t : Traced) (inv : Invariant t) (seen : Seen) (client : ℕ) (did : Go
   follows_on script before (first ∷ past) one follows next =
       (follows.0, follows_on script (before ++ first.report ∷ []) past one follows.1 (ap (next_of script) (append_assoc before (first.report ∷ []) (reports_of past)) ∙ next))
 
-  pub scripted_more : (next : Client) → Leads t.setting client acts.own acts.after next → IsScripted (script_at t.setting client) acts.own → IsScripted (script_at t.setting client) next
+  scripted_more : (next : Client) → Leads t.setting client acts.own acts.after next → IsScripted (script_at t.setting client) acts.own → IsScripted (script_at t.setting client) next
   scripted_more _ GoesOn is = record {
     past = is.past;
     next = is.next;
@@ -129,57 +146,73 @@ module _ (t : Traced) (inv : Invariant t) (seen : Seen) (client : ℕ) (did : Go
   }
 
   -- what is told of the client then
-  client_more : (told : List StepTold) (next : Client) → Leads t.setting client acts.own acts.after next → TellsClient t.setting client acts.own told → TellsClient t.setting client next (told ++ told_step t seen client did ∷ [])
-  client_more told next leads is = by next leads (scripted_more next leads is.scripted) (request_more is.now (current t client acts.own acts.doing acts.own.now acts.own.next is.now refl refl acts.does is.tells_now))
-    where
-      longer : (one : Telling) → one.step ≡ told_step t seen client did → told ++ told_step t seen client did ∷ [] ≡ steps_in_tellings (joined is.past ++ (is.now ++ one ∷ []))
-      longer one same =
-          ap (λ (s : List StepTold). s ++ told_step t seen client did ∷ []) is.all
-          ∙ (ap (λ (s : StepTold). steps_in_tellings (joined is.past ++ is.now) ++ s ∷ []) (sym same)
-          ∙ (sym (map-append (λ (x : Telling). x.step) (joined is.past ++ is.now) (one ∷ [])) ∙ ap steps_in_tellings (append_assoc (joined is.past) is.now (one ∷ []))))
+  pub record ClientMore (told : List StepTold) (next : Client) (was : TellsClient t.setting client acts.own told) : Type 0 where
+    pub tells : TellsClient t.setting client next (told ++ told_step t seen client did ∷ [])
+    pub more : More was.now
+    pub longer : IsLonger more.one was.past was.now tells.past tells.now
 
-      by : (next : Client) → Leads t.setting client acts.own acts.after next → IsScripted (script_at t.setting client) next
-          → (one : Telling) × TellsRequest t.setting client (length acts.own.past) acts.after.request (is.now ++ one ∷ []) acts.after.steps × (one.step ≡ told_step t seen client did) → TellsClient t.setting client next (told ++ told_step t seen client did ∷ [])
-      by _ GoesOn scripted more = record { past = is.past; now = is.now ++ more.0 ∷ []; tells_past = is.tells_past; tells_now = OneNow acts.after (is.now ++ more.0 ∷ []) more.1; all = longer more.0 more.2; scripted = scripted }
+  pub client_more : (told : List StepTold) (next : Client) → Leads t.setting client acts.own acts.after next → (was : TellsClient t.setting client acts.own told) → ClientMore told next was
+  client_more told next leads was = by next leads (scripted_more next leads was.scripted) (request_more was.now (current t client acts.own acts.doing acts.own.now acts.own.next was.now refl refl acts.does was.tells_now))
+    where
+      longer : (one : Telling) → one.step ≡ told_step t seen client did → told ++ told_step t seen client did ∷ [] ≡ steps_in_tellings (joined was.past ++ (was.now ++ one ∷ []))
+      longer one same =
+          ap (λ (s : List StepTold). s ++ told_step t seen client did ∷ []) was.all
+          ∙ (ap (λ (s : StepTold). steps_in_tellings (joined was.past ++ was.now) ++ s ∷ []) (sym same)
+          ∙ (sym (map-append (λ (x : Telling). x.step) (joined was.past ++ was.now) (one ∷ [])) ∙ ap steps_in_tellings (append_assoc (joined was.past) was.now (one ∷ []))))
+
+      by : (next : Client) → Leads t.setting client acts.own acts.after next → IsScripted (script_at t.setting client) next → More was.now → ClientMore told next was
+      by _ GoesOn scripted more = record {
+        tells = record { past = was.past; now = was.now ++ more.one ∷ []; tells_past = was.tells_past; tells_now = OneNow acts.after (was.now ++ more.one ∷ []) more.told; all = longer more.one more.step; scripted = scripted };
+        more = more;
+        longer = InCourse;
+      }
       by _ IsOver scripted more = record {
-        past = is.past ++ (is.now ++ more.0 ∷ []) ∷ [];
-        now = [];
-        tells_past =
-            let none : 0 + length acts.own.past ≡ length acts.own.past = omega arith in
-            past_more t.setting client 0 acts.own.past is.past (past_of t.setting.terms acts.after) (is.now ++ more.0 ∷ []) is.tells_past
-            (subst (λ (k : ℕ). TellsRequest t.setting client k acts.after.request (is.now ++ more.0 ∷ []) acts.after.steps) (sym none) more.1);
-        tells_now = NoneNow;
-        all = longer more.0 more.2 ∙ ap steps_in_tellings (sym (append-nil (joined (is.past ++ (is.now ++ more.0 ∷ []) ∷ [])) ∙ joined_more is.past (is.now ++ more.0 ∷ [])));
-        scripted = scripted;
+        tells = record {
+          past = was.past ++ (was.now ++ more.one ∷ []) ∷ [];
+          now = [];
+          tells_past =
+              let none : 0 + length acts.own.past ≡ length acts.own.past = omega arith in
+              past_more t.setting client 0 acts.own.past was.past (past_of t.setting.terms acts.after) (was.now ++ more.one ∷ []) was.tells_past
+              (subst (λ (k : ℕ). TellsRequest t.setting client k acts.after.request (was.now ++ more.one ∷ []) acts.after.steps) (sym none) more.told);
+          tells_now = NoneNow;
+          all = longer more.one more.step ∙ ap steps_in_tellings (sym (append-nil (joined (was.past ++ (was.now ++ more.one ∷ []) ∷ [])) ∙ joined_more was.past (was.now ++ more.one ∷ [])));
+          scripted = scripted;
+        };
+        more = more;
+        longer = AtEnd;
       }
 
   -- the steps of one client, where this one makes a step more
-  pub own_steps : (told : List StepTold) → steps_of client (told ++ told_step t seen client did ∷ []) ≡ steps_of client told ++ told_step t seen client did ∷ []
+  own_steps : (told : List StepTold) → steps_of client (told ++ told_step t seen client did ∷ []) ≡ steps_of client told ++ told_step t seen client did ∷ []
   own_steps told =
       filter-append (λ (step : StepTold). step.client == client) told (told_step t seen client did ∷ [])
       ∙ ap (λ (test : Bool). steps_of client told ++ cond test (told_step t seen client did ∷ []) []) (eq_to client client refl)
 
-  pub other_steps : (other : ℕ) → other ≢ client → (told : List StepTold) → steps_of other (told ++ told_step t seen client did ∷ []) ≡ steps_of other told
+  other_steps : (other : ℕ) → other ≢ client → (told : List StepTold) → steps_of other (told ++ told_step t seen client did ∷ []) ≡ steps_of other told
   other_steps other differ told =
       filter-append (λ (step : StepTold). step.client == other) told (told_step t seen client did ∷ [])
       ∙ (ap (λ (test : Bool). steps_of other told ++ cond test (told_step t seen client did ∷ []) []) (ne_to client other (λ same. differ (sym same))) ∙ append-nil (steps_of other told))
 
-  each_more : (told : List StepTold) → TellsClients t.setting t.machine.clients told → (other : ℕ) (own : Client) → client_at n.clients other ≡ Some own → (other ≡ client) ⊎ (other ≢ client) → TellsClient t.setting other own (steps_of other (told ++ told_step t seen client did ∷ []))
-  each_more told before other own here (inl same) =
-      let at : client_at n.clients client ≡ Some acts.moves.next = ap (λ (c : List Client). client_at c client) acts.moves.clients ∙ client_own t.machine.clients client acts.own acts.moves.next acts.here in
-      let both : Some acts.moves.next ≡ Some own = sym at ∙ (ap (client_at n.clients) (sym same) ∙ here) in
-      let is : acts.moves.next ≡ own = cc in
-      subst (λ (k : ℕ). TellsClient t.setting k own (steps_of k (told ++ told_step t seen client did ∷ []))) (sym same)
-      (subst (TellsClient t.setting client own) (sym (own_steps told))
-      (subst (λ (c : Client). TellsClient t.setting client c (steps_of client told ++ told_step t seen client did ∷ [])) is
-      (client_more (steps_of client told) acts.moves.next acts.moves.leads (before.each client acts.own acts.here))))
-  each_more told before other own here (inr differ) =
-      subst (TellsClient t.setting other own) (sym (other_steps other differ told))
-      (before.each other own (sym (client_other t.machine.clients client other acts.moves.next differ) ∙ (ap (λ (c : List Client). client_at c other) (sym acts.moves.clients) ∙ here)))
+  -- What holds of each client and its steps holds then, where it goes on for this one.
+  pub each_more : (P : ℕ → Client → List StepTold → Type 0) (told : List StepTold) → (P client acts.own (steps_of client told) → P client acts.moves.next (steps_of client told ++ told_step t seen client did ∷ []))
+      → ((other : ℕ) (own : Client) → client_at t.machine.clients other ≡ Some own → P other own (steps_of other told))
+      → (other : ℕ) (own : Client) → client_at n.clients other ≡ Some own → P other own (steps_of other (told ++ told_step t seen client did ∷ []))
+  each_more P told goes_on before other own here = by (either other client)
+    where
+      by : (other ≡ client) ⊎ (other ≢ client) → P other own (steps_of other (told ++ told_step t seen client did ∷ []))
+      by (inl same) =
+          let at : client_at n.clients client ≡ Some acts.moves.next = ap (λ (c : List Client). client_at c client) acts.moves.clients ∙ client_own t.machine.clients client acts.own acts.moves.next acts.here in
+          let both : Some acts.moves.next ≡ Some own = sym at ∙ (ap (client_at n.clients) (sym same) ∙ here) in
+          let is : acts.moves.next ≡ own = cc in
+          subst (λ (k : ℕ). P k own (steps_of k (told ++ told_step t seen client did ∷ []))) (sym same)
+          (subst (P client own) (sym (own_steps told)) (subst (λ (c : Client). P client c (steps_of client told ++ told_step t seen client did ∷ [])) is (goes_on (before client acts.own acts.here))))
+      by (inr differ) =
+          subst (P other own) (sym (other_steps other differ told))
+          (before other own (sym (client_other t.machine.clients client other acts.moves.next differ) ∙ (ap (λ (c : List Client). client_at c other) (sym acts.moves.clients) ∙ here)))
 
   -- All clients, where this one makes a step more.
   pub clients_more : (told : List StepTold) → TellsClients t.setting t.machine.clients told → TellsClients t.setting n.clients (told ++ told_step t seen client did ∷ [])
   clients_more told before = record {
     many = ap length acts.moves.clients ∙ (with_long t.machine.clients client acts.moves.next ∙ before.many);
-    each = λ other own here. each_more told before other own here (either other client);
+    each = each_more (TellsClient t.setting) told (λ was. (client_more (steps_of client told) acts.moves.next acts.moves.leads was).tells) before.each;
   }

@@ -1,6 +1,6 @@
 -- What a step of a client makes of the clients: its request goes on, or it is over, with what it did behind its steps.
 use Rattle.std.proofs.Common.{◌≡◌, ◌≢◌, refl, sym, ap, subst, ◌∙◌, Bool, true, false, ℕ, zero, suc, List, [], ◌∷◌, ◌++◌, Option, Some, None, option_and_then, if◌then◌else◌}
-use Rattle.std.specs.Prelude.{slice_get, slice_set, unwrap_or}
+use Rattle.std.specs.Prelude.{slice_set, unwrap_or}
 use Rattle.std.specs.Option.{option_map_or}
 use Rattle.client_model.specs.declared.act.Hold.{Hold}
 use Rattle.client_model.specs.declared.act.Hold.TheVariants as hold
@@ -12,24 +12,13 @@ use Rattle.world_model.specs.Going.{lost_at_once, unless_open}
 use Rattle.world_model.specs.Links.{Link}
 use Rattle.world_model.specs.Machines.{Machine}
 use Rattle.world_model.specs.Settings.{Setting}
+use Rattle.shown_laws.proofs.Places.{set_own, set_other}
 
 -- BY NUMBER ---------------------------------------------------------------------------------------
-
-set_own : (clients : List Client) (index : ℕ) (old new : Client) → slice_get clients index ≡ Some old → slice_get (slice_set clients index new) index ≡ Some new
-set_own [] index old new is = absurd (let none : ⊥ = cc in none)
-set_own (first ∷ clients) zero old new is = refl
-set_own (first ∷ clients) (suc index) old new is = set_own clients index old new is
 
 pub client_own : (clients : List Client) (number : ℕ) (old new : Client) → client_at clients number ≡ Some old → client_at (with_client clients number new) number ≡ Some new
 client_own clients zero old new is = absurd (let none : ⊥ = cc in none)
 client_own clients (suc index) old new is = set_own clients index old new is
-
-set_other : (clients : List Client) (index other : ℕ) (new : Client) → other ≢ index → slice_get (slice_set clients index new) other ≡ slice_get clients other
-set_other [] index other new differ = refl
-set_other (first ∷ clients) zero zero new differ = absurd (differ refl)
-set_other (first ∷ clients) zero (suc other) new differ = refl
-set_other (first ∷ clients) (suc index) zero new differ = refl
-set_other (first ∷ clients) (suc index) (suc other) new differ = set_other clients index other new (λ same. differ (ap suc same))
 
 pub client_other : (clients : List Client) (number other : ℕ) (new : Client) → other ≢ number → client_at (with_client clients number new) other ≡ client_at clients other
 client_other clients zero other new differ = refl

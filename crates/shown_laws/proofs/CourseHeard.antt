@@ -8,7 +8,7 @@ use Rattle.svc_values.specs.declared.frame.Up.TheVariants as up
 use Rattle.client_model.specs.declared.act.Shown.{Shown}
 use Rattle.client_model.specs.declared.input.Input.{Input}
 use Rattle.client_model.specs.declared.input.Input.TheVariants.{Start, Waiting, Lent, Opened, TryFailed, Took, Gone}
-use Rattle.client_model.specs.Account.{Account, hears, hears_outcome, shows, shows_found, begins, sends, before_sends, after_step}
+use Rattle.client_model.specs.Account.{Account, hears, hears_outcome, shows, shows_found, sends, before_sends, after_step}
 use Rattle.client_model.specs.Conversation.{Timed, Done, done_at, talk_at, steps_of, talk_after, is_gone, is_gone_next, is_wanted, MayCome}
 use Rattle.client_model.specs.Talk.{wants_of}
 use Rattle.client_model.specs.Terms.{Terms, Talk}
@@ -18,10 +18,6 @@ use Rattle.shown_laws.proofs.LastSent.{last_sent, AwaitsIn, step_awaits}
 -- THE LAST FRAME ----------------------------------------------------------------------------------
 
 module _ (terms : Terms) (calls : List Call) where
-  begins_last : (a : Account) (begun : Bool) → (begins a begun).last ≡ a.last
-  begins_last a true = refl
-  begins_last a false = refl
-
   outcome_last : (a : Account) (committed completed : Bool) (last : Option Up) → (hears_outcome a committed completed last).last ≡ a.last
   outcome_last a committed completed None = refl
   outcome_last a committed completed (Some (up.Outcome x)) = refl

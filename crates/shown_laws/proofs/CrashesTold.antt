@@ -39,9 +39,6 @@ fallen_handled event front served = by (is_blocked served.item)
     by false = refl
 
 module _ (number event : ℕ) (front : Front) (served : Served) (links : List Link) (told : List Seen) (all : AllTold links told) (at : IsFront links number front) (names : NamesSession front served) (some : 0 < event) (shut : front.link.is_cut ≡ true → front.link.is_open ≡ false) where
-  abbrev last : Option Down → Link
-  last reply = after_front front served reply
-
   fallen_replied : (reply : Option Down) (replies : List Served) → TellsReplies front.link replies → TellsReplies (fallen_link event (after_front front served reply)) replies
   fallen_replied None replies is = fallen_replies event (after_front front served None) replies (quiet_replies front served replies is at.living)
   fallen_replied (Some frame) replies is = crashed_replies event front served frame replies is at.living shut

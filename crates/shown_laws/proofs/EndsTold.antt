@@ -14,7 +14,7 @@ use Rattle.world_model.specs.Links.{Link, is_close, ends, sends, takes}
 use Rattle.world_model.specs.Parts.{is_closed}
 use Rattle.world_model.specs.Serving.{Front, after_front}
 use Rattle.shown_laws.specs.Connections.{TellsEnd, IsOpen, HasEnded, WasClosed, NeverHeard}
-use Rattle.shown_laws.proofs.RepliesTold.{ends_case}
+use Rattle.shown_laws.proofs.RepliesTold.{ends_case, with_frames}
 
 -- where nothing changes that it speaks of
 pub still_end : (told : ℕ) (a b : Link) → b.is_open ≡ a.is_open → b.ended ≡ a.ended → is_closed b ≡ is_closed a → b.taken ≡ a.taken → (a.is_open ≡ false → a.down ≡ [] → b.down ≡ []) → TellsEnd a told → TellsEnd b told
@@ -44,9 +44,6 @@ ended_end event _ link some (NeverHeard before is none empty) =
 
 abbrev closes : Sent → Bool
 closes sent = is_close sent.frame
-
-abbrev with_frames : List Sent → Link → Link
-with_frames frames link = record link { sent = link.sent ++ frames; up = link.up ++ frames }
 
 -- Frames are sent on a connection that is open, and one of them may be a Close.
 sent_open : (event told : ℕ) (frames : List Sent) (link : Link) → link.is_open ≡ true → TellsEnd link told → TellsEnd (sends event frames link) told

@@ -1,8 +1,7 @@
 -- What the machine does at an event that it follows, by its note and its items.
-use Rattle.std.proofs.Common.{◌≡◌, refl, sym, ap, subst, Bool, true, false, ℕ, ◌+◌, ◌&&◌, ◌||◌, List, [], ◌∷◌, Option, Some, None, option_map, option_and_then, if◌then◌else◌, arith}
+use Rattle.std.proofs.Common.{◌≡◌, refl, sym, ap, subst, Bool, true, false, ℕ, ◌+◌, ◌&&◌, ◌||◌, List, [], ◌∷◌, Option, Some, None, option_map, option_and_then, if◌then◌else◌}
 use Rattle.std.specs.Prelude.{◌==◌, not, nat_le}
 use Rattle.std.proofs.lemmas.Bool.{and_parts}
-use Rattle.std.proofs.lemmas.Bool.Decides.{nat_tests}
 use Rattle.svc_values.specs.declared.entry.Ltxid.{Ltxid}
 use Rattle.svc_values.specs.Identifiers.{same_ltxid}
 use Rattle.svc_values.specs.Same.{same_bool}
@@ -29,6 +28,7 @@ use Rattle.world_model.specs.Outside.{ticked, drained, after_asked, follow_outsi
 use Rattle.world_model.specs.Serving.{Front, front_at, is_ordinary, serves, after_served}
 use Rattle.world_model.specs.Settings.{Setting}
 use Rattle.world_model.specs.Walking.{After, leaving, by_kind, follow}
+use Rattle.shown_laws.proofs.Lookups.{eq_from}
 
 -- the machine at the number of its next event
 abbrev pub at_event : Machine → Machine
@@ -70,9 +70,6 @@ only_met false a b is = absurd (let none : ⊥ = cc in none)
 pub only_is : {A : Type 0} (test : Bool) (a b : A) → only_if test a ≡ Some b → a ≡ b
 only_is true a b is = cc
 only_is false a b is = absurd (let none : ⊥ = cc in none)
-
-eq_from : (a b : ℕ) → (a == b) ≡ true → a ≡ b
-eq_from a b is = grind (arith, nat_tests)
 
 -- the machine and the items where something is reached, or else these
 abbrev machine_or : Machine → After → Machine

@@ -62,7 +62,7 @@ down_is down.Blocked down.Blocked same = refl
 down_is (down.Refused a) (down.Refused b) same = ap down.Refused (eq_from a b same)
 down_is a b same = absurd (let none : ⊥ = cc in none)
 
-replied_is : (frame : Down) (reply : Option Down) → same_replies (Some frame) reply ≡ true → reply ≡ Some frame
+pub replied_is : (frame : Down) (reply : Option Down) → same_replies (Some frame) reply ≡ true → reply ≡ Some frame
 replied_is frame None same = absurd (let none : ⊥ = cc in none)
 replied_is frame (Some other) same = ap Some (sym (down_is frame other same))
 

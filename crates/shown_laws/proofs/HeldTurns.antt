@@ -1,6 +1,6 @@
 -- Wherever a run has come to, a turn of a connection is right for the request that held the connection and whose calls it served.
-use Rattle.std.proofs.Common.{◌≡◌, refl, subst, Bool, true, false, ℕ, zero, suc, ◌&&◌, List, [], ◌∷◌, ◌++◌, Option, Some, ◌⊎◌, inl, inr}
-use Rattle.std.specs.Prelude.{◌==◌, not, slice_get}
+use Rattle.std.proofs.Common.{◌≡◌, refl, subst, Bool, true, false, ℕ, ◌&&◌, List, [], ◌∷◌, ◌++◌, Option, ◌⊎◌, inl, inr}
+use Rattle.std.specs.Prelude.{◌==◌, not}
 use Rattle.std.specs.List.{list_all, list_any}
 use Rattle.std.specs.Option.{option_map_or}
 use Rattle.std.proofs.lemmas.Bool.{and_parts, and_from, or_cases}
@@ -13,7 +13,7 @@ use Rattle.world_model.specs.NearCalls.{is_shown_or_next, sends_near, send_near}
 use Rattle.world_model.specs.SameLaws.{FollowsInvariant, HoldsInRuns}
 use Rattle.world_model.specs.Serving.{is_blocked}
 use Rattle.world_model.specs.Shown.{calls_on, is_current, is_marked, is_row, rows_on}
-use Rattle.world_model.specs.Traced.{Traced, Course, courses_of}
+use Rattle.world_model.specs.Traced.{Traced, courses_of}
 use Rattle.world_model.specs.Words.{held_in}
 use Rattle.shown_laws.specs.HeldTurns.{HaveRightTurns, RunsHaveRightTurns, FinishesHaveRightTurns}
 use Rattle.shown_laws.specs.OwnTurns.{OnWire}
@@ -22,17 +22,11 @@ use Rattle.shown_laws.specs.Unblocked.{serves_unblocked, serve_unblocked}
 use Rattle.shown_laws.proofs.FinishesReached.{finishing_reached}
 use Rattle.shown_laws.proofs.Lookups.{eq_from}
 use Rattle.shown_laws.proofs.OwnTurns.{own_right}
+use Rattle.shown_laws.proofs.Places.{all_at}
 use Rattle.shown_laws.proofs.SessionsApart.{at_link}
 use Rattle.shown_laws.proofs.WireFronts.{on_wire}
 
 -- LISTS -------------------------------------------------------------------------------------------
-
-course_at : (test : Course → Bool) (courses : List Course) (place : ℕ) (course : Course) → list_all test courses ≡ true → slice_get courses place ≡ Some course → test course ≡ true
-course_at test [] place course all is = absurd (let none : ⊥ = cc in none)
-course_at test (first ∷ courses) zero course all is =
-    let same : first ≡ course = cc in
-    subst (λ (c : Course). test c ≡ true) same (and_parts (test first) (list_all test courses) all).0
-course_at test (first ∷ courses) (suc place) course all is = course_at test courses place course (and_parts (test first) (list_all test courses) all).1 is
 
 held_at : (test : ℕ → Bool) (numbers : List ℕ) (number : ℕ) → list_all test numbers ≡ true → list_any (λ other. other == number) numbers ≡ true → test number ≡ true
 held_at test [] number all any = absurd (let none : ⊥ = cc in none)
@@ -72,13 +66,13 @@ right_turns t inv unblocked once near number course served turn is =
     row =
         subst (λ (found : Option Link). option_map_or (λ link. is_row course (is_current course number) (calls_on course link)) found false ≡ true) is.there
         (held_at (λ n. option_map_or (λ link. is_row course (is_current course n) (calls_on course link)) (link_at t.machine.links n) false) (held_in course.steps) number
-        (course_at (rows_on t) (courses_of t) is.place course inv.shown.rows is.of_run) is.held)
+        (all_at (rows_on t) (courses_of t) is.place course inv.shown.rows is.of_run) is.held)
 
     close : list_all (is_shown_or_next course.report.calls) (calls_on course is.link) ≡ true
     close =
         subst (λ (found : Option Link). option_map_or (λ link. list_all (is_shown_or_next course.report.calls) (calls_on course link)) found false ≡ true) is.there
         (held_at (λ n. option_map_or (λ link. list_all (is_shown_or_next course.report.calls) (calls_on course link)) (link_at t.machine.links n) false) (held_in course.steps) number
-        (course_at (sends_near t) (courses_of t) is.place course near is.of_run) is.held)
+        (all_at (sends_near t) (courses_of t) is.place course near is.of_run) is.held)
 
 pub runs_right : RunsKeepInvariant → HoldsInRuns serve_unblocked → HoldsInRuns begin_once → FollowsInvariant send_near → RunsHaveRightTurns
 runs_right keeps unblocked once near document events notes items seen t calls reached =

@@ -41,7 +41,8 @@ use Rattle.shown_laws.proofs.BeforeSession.{talks_at}
 use Rattle.shown_laws.proofs.PartsHold.{IsTold, FinishesStand}
 use Rattle.shown_laws.proofs.PartsSplit.{part_gives}
 use Rattle.shown_laws.proofs.PartsTold.{parts_told}
-use Rattle.shown_laws.proofs.RequestsAdd.{as_list, step_adds}
+use Rattle.shown_laws.proofs.RequestsAdd.{step_adds}
+use Rattle.shown_laws.proofs.SessionsReached.{as_list}
 use Rattle.shown_laws.proofs.ShowingsHold.{quiet_shows, calls_listed}
 use Rattle.shown_laws.proofs.ShownUnder.{is_under}
 use Rattle.shown_laws.proofs.StepsAdd.{Adds}

@@ -125,16 +125,6 @@ module _ (number : ℕ) (front : Front) (served : Served) (links : List Link) (t
       by (GivesName gives none) = none
       by (HasName has is) = absurd (let no : ⊥ = cc in no)
 
-  -- nothing is told yet of one that is served a Connect
-  not_told : is_connect served.item ≡ true → link_of number told ≡ None
-  not_told greets = told_at (λ one. one ≡ None) number (links_found) (link_of number told) front.link (all number) at.there (λ here. refl) (λ seen here. absurd (let no : ⊥ = some_none seen here in no))
-    where
-      links_found : Option Link
-      links_found = link_at links number
-
-      some_none : (seen : Seen) → TellsLink number front.link seen → ⊥
-      some_none seen here = let same : None ≡ Some seen.session = sym (no_session greets) ∙ here.session in let no : ⊥ = cc in no
-
   own_next : (reply : Option Down) → link_at (with_next reply) number ≡ Some (next reply)
   own_next reply = with_own links number front.link (next reply) at.there
 

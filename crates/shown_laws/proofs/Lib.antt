@@ -59,6 +59,7 @@ pub mod PartsCut
 pub mod PartsHold
 pub mod PartsSplit
 pub mod PartsTold
+pub mod Places
 pub mod RecordedCalls
 pub mod RepliesTold
 pub mod ReplyTaken
@@ -116,3 +117,4 @@ pub mod UnclosedTakes
 pub mod WholeLines
 pub mod WholeReports
 pub mod WireFronts
+pub mod WordsKept

@@ -1,9 +1,10 @@
 -- The connection of a number where some of them change.
 use Rattle.std.proofs.Common.{◌≡◌, ◌≢◌, refl, sym, ap, ◌∙◌, Bool, true, false, ℕ, suc, zero, ◌+◌, length, List, [], ◌∷◌, ◌++◌, map, Option, Some, None, option_map, ◌⊎◌, inl, inr, add-one, arith}
-use Rattle.std.specs.Prelude.{◌==◌, slice_get, slice_set}
+use Rattle.std.specs.Prelude.{◌==◌, slice_get}
 use Rattle.std.specs.Option.{option_map_or}
 use Rattle.std.proofs.lemmas.Bool.Decides.{nat_tests}
 use Rattle.world_model.specs.Links.{Link, link_at, with_link, changed}
+use Rattle.shown_laws.proofs.Places.{set_own, set_other}
 
 -- NUMBERS -----------------------------------------------------------------------------------------
 
@@ -28,18 +29,6 @@ either a b = by (a == b) refl
     by false is = inr (λ same. let yes : (a == b) ≡ true = eq_to a b same in let none : ⊥ = cc in none)
 
 -- ONE BECOMES ANOTHER -----------------------------------------------------------------------------
-
-set_own : (links : List Link) (index : ℕ) (old new : Link) → slice_get links index ≡ Some old → slice_get (slice_set links index new) index ≡ Some new
-set_own [] index old new is = absurd (let none : ⊥ = cc in none)
-set_own (first ∷ links) zero old new is = refl
-set_own (first ∷ links) (suc index) old new is = set_own links index old new is
-
-set_other : (links : List Link) (index other : ℕ) (new : Link) → other ≢ index → slice_get (slice_set links index new) other ≡ slice_get links other
-set_other [] index other new differ = refl
-set_other (first ∷ links) zero zero new differ = absurd (differ refl)
-set_other (first ∷ links) zero (suc other) new differ = refl
-set_other (first ∷ links) (suc index) zero new differ = refl
-set_other (first ∷ links) (suc index) (suc other) new differ = set_other links index other new (λ same. differ (ap suc same))
 
 pub with_own : (links : List Link) (number : ℕ) (old new : Link) → link_at links number ≡ Some old → link_at (with_link links number new) number ≡ Some new
 with_own links zero old new is = absurd (let none : ⊥ = cc in none)

@@ -37,15 +37,17 @@ use Rattle.world_model.specs.Parts.{Scan, Sending, scanned}
 use Rattle.world_model.specs.Settings.{Setting}
 use Rattle.world_model.specs.Traced.{Traced}
 use Rattle.world_model.specs.Words.{dones_of}
-use Rattle.shown_laws.specs.ClientSteps.{TellsReply, TellsKind, Rested, FoundNone, Waited, WasLent, HasOpened, HasFailed, HasTaken, HasLost}
+use Rattle.shown_laws.specs.ClientSteps.{TellsReply, TellsKind}
 use Rattle.shown_laws.specs.Tellings.{Telling, steps_in_tellings, Begins, WasThere, BeginsNow, TellsStep, TellsRequest, NoneYet, OneMore}
 use Rattle.shown_laws.proofs.AnswersStand.{reply_stands}
 use Rattle.shown_laws.proofs.BeforeSession.{talks_at}
 use Rattle.shown_laws.proofs.RecordedCalls.{get_push}
-use Rattle.shown_laws.proofs.RequestsAdd.{heard_known, as_list, request_accounted}
+use Rattle.shown_laws.proofs.RequestsAdd.{heard_known, request_accounted}
+use Rattle.shown_laws.proofs.SessionsReached.{as_list}
 use Rattle.shown_laws.proofs.ScriptShown.{as_long}
 use Rattle.shown_laws.proofs.StepsAdd.{Known, NextCall, may_show}
 use Rattle.shown_laws.proofs.TakenAs.{Taken, Greets, Answers, Repeats, Blocks, Tells, taken_as}
+use Rattle.shown_laws.proofs.TookTold.{by_taken}
 use Rattle.shown_laws.proofs.TriedKept.{is_commit_at, sending_stays}
 
 -- THE CALL ----------------------------------------------------------------------------------------
@@ -127,22 +129,13 @@ module _ (t : Traced) (client place : ℕ) (doing : Doing) (step : StepTold) (fo
   FromReply =
       (connection : ℕ) (link : Link) (frame : Down) → doing.connection ≡ Some connection → link_at t.machine.links connection ≡ Some link → TellsReply (record { client = client; place = place }) doing.talk.phase link frame found → is_showing found ≡ true → P
 
-  silent : step.taken ≡ None → P
-  silent untaken =
-      let none : None ≡ Some found = sym (ap (option_and_then (λ (one : Served). showing_of (is_showing one) one)) untaken) ∙ shows in
-      absurd (let never : ⊥ = cc in never)
-
   kind_sent : (acts : List Step) → TellsKind t client place doing step acts → FromReply → P
-  kind_sent _ (Rested did early bare) reply = silent bare.taken
-  kind_sent _ (FoundNone did frame bare) reply = silent bare.taken
-  kind_sent _ (Waited did begun bare) reply = silent bare.taken
-  kind_sent _ (WasLent connection link ltxid did begun there held taken session its lost) reply = silent taken
-  kind_sent _ (HasOpened connection did next begun bare) reply = silent bare.taken
-  kind_sent _ (HasFailed did begun bare) reply = silent bare.taken
-  kind_sent _ (HasLost connection link did has there ended bare) reply = silent bare.taken
-  kind_sent _ (HasTaken connection sent link frame served more did sends has there taken its session lost gone) reply =
-      let is = shown_is (is_showing served) served found (sym (ap (option_and_then (λ (one : Served). showing_of (is_showing one) one)) taken) ∙ shows) in
-      reply connection link frame has there (subst (λ (one : Served). TellsReply (record { client = client; place = place }) doing.talk.phase link frame one) is.0 its) (ap is_showing (sym is.0) ∙ is.1)
+  kind_sent acts kind reply =
+      by_taken t client place doing step (λ took. option_and_then (λ one. showing_of (is_showing one) one) took ≡ Some found → P) (λ showing. absurd (let never : ⊥ = cc in never))
+      (λ connection link frame served has there its showing.
+      let is = shown_is (is_showing served) served found showing in
+      reply connection link frame has there (subst (λ (one : Served). TellsReply (record { client = client; place = place }) doing.talk.phase link frame one) is.0 its) (ap is_showing (sym is.0) ∙ is.1))
+      acts kind shows
 
 -- A STEP ------------------------------------------------------------------------------------------
 

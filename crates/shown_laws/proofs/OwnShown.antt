@@ -29,8 +29,8 @@ use Rattle.shown_laws.specs.Tellings.{Telling, steps_in_tellings, unbegun, Begin
 use Rattle.shown_laws.proofs.OwnSessions.{Among, among_more, Reaches, done_reaches}
 use Rattle.shown_laws.proofs.PartsHold.{HoldsOfTold, FinishesStand, finishes_hold}
 use Rattle.shown_laws.proofs.PartsSplit.{part_gives}
-use Rattle.shown_laws.proofs.RequestsAdd.{all_steps, as_list}
-use Rattle.shown_laws.proofs.SessionsReached.{sessions_reached, reached_append, as_reported}
+use Rattle.shown_laws.proofs.RequestsAdd.{all_steps}
+use Rattle.shown_laws.proofs.SessionsReached.{as_list, sessions_reached, reached_append, as_reported}
 use Rattle.shown_laws.proofs.ShownOnSessions.{is_own, other_reached, reply_own, kind_reaches, kind_own}
 use Rattle.shown_laws.proofs.ShowingsHold.{quiet_shows}
 

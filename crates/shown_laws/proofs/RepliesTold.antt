@@ -43,7 +43,7 @@ ended_replies event link told is =
     })
     (λ closed. is)
 
-abbrev with_frames : List Sent → Link → Link
+abbrev pub with_frames : List Sent → Link → Link
 with_frames frames link = record link { sent = link.sent ++ frames; up = link.up ++ frames }
 
 pub sent_replies : (event : ℕ) (frames : List Sent) (link : Link) (told : List Served) → TellsReplies link told → TellsReplies (sends event frames link) told
@@ -141,31 +141,21 @@ split_down false down lost = refl
 
 pub fallen_replies : (event : ℕ) (link : Link) (told : List Served) → TellsReplies link told → TellsReplies (fallen_link event link) told
 fallen_replies event link told is =
-    ends_case (λ one. TellsReplies (record one { is_living = false; up = []; down = left_down link.is_cut link.down }) told) event link
-    (λ opens. record {
+    by (ends_case (λ one. (one.served ≡ link.served) × ((one.taken ≡ link.taken) × (one.is_open ≡ false))) event link (λ opens. (refl, (refl, refl))) (λ closed. (refl, (refl, closed))))
+  where
+    by : ((ends event link).served ≡ link.served) × (((ends event link).taken ≡ link.taken) × ((ends event link).is_open ≡ false)) → TellsReplies (fallen_link event link) told
+    by same = record {
       gone = is.gone;
       waiting = is.waiting;
       stopped = is.stopped;
       lost = lost_down link.is_cut link.down is.lost;
-      given = is.given;
-      taken = is.taken;
+      given = ap answers_of same.0 ∙ is.given;
+      taken = is.taken ∙ sym same.1.0;
       items = is.items;
       down = is.down ∙ split_down link.is_cut link.down is.lost;
-      all_down = λ never. absurd (let none : ⊥ = cc in none);
+      all_down = λ opens. let shut : (ends event link).is_open ≡ false = same.1.1 in absurd (let none : ⊥ = cc in none);
       none_stopped = λ never. absurd (let none : ⊥ = cc in none);
-    })
-    (λ closed. record {
-      gone = is.gone;
-      waiting = is.waiting;
-      stopped = is.stopped;
-      lost = lost_down link.is_cut link.down is.lost;
-      given = is.given;
-      taken = is.taken;
-      items = is.items;
-      down = is.down ∙ split_down link.is_cut link.down is.lost;
-      all_down = λ never. absurd (let none : ⊥ = cc in none);
-      none_stopped = λ never. absurd (let none : ⊥ = cc in none);
-    })
+    }
 
 -- SERVING -----------------------------------------------------------------------------------------
 

@@ -85,8 +85,8 @@ abbrev by_client : (List Owned → List Submission → List StepTold → Bool) �
 by_client test all told number mine = test (turns_of number all) mine (steps_of number told)
 
 turns_by : (test : List Owned → List Submission → List StepTold → Bool) (number : ℕ) (all : List Turn) (told : List StepTold) (submissions : List (List Submission)) → are_turns test number all told submissions ≡ by_number (by_client test all told) number submissions
-turns_by test number all told [] = refl
-turns_by test number all told (mine ∷ more) = ap (λ (rest : Bool). test (turns_of number all) mine (steps_of number told) && rest) (turns_by test (number + 1) all told more)
+turns_by test number all steps [] = refl
+turns_by test number all steps (mine ∷ more) = ap (λ (rest : Bool). test (turns_of number all) mine (steps_of number steps) && rest) (turns_by test (number + 1) all steps more)
 
 module _ (stands : FinishesKeepInvariant) (tell : FinishesTellSteps) (document : Document) (report : Report) (seen : Seen) (t : Traced) (server : Server) (right : IsTrue (all_requests_right document)) (reported : IsReported document report seen t server) (index : ℕ) (own : Client) (one : Scripted)
     (is : IsOfRun document t index own one) where

@@ -1,7 +1,6 @@
 -- What a request was shown, and the outcomes that it took, are those that its steps tell, in order.
 use Rattle.std.proofs.Common.{◌≡◌, refl, sym, ap, subst, ◌∙◌, append-nil, append_assoc, Bool, true, false, ℕ, List, [], ◌∷◌, ◌++◌, map, Option, Some, None, option_to_list}
 use Rattle.std.specs.Prelude.{filter_map, fold, slice_get}
-use Rattle.std.specs.List.{cons_option}
 use Rattle.std.proofs.lemmas.List.{map-append}
 use Rattle.std.proofs.lemmas.List.Elements.{filter_map-append}
 use Rattle.std.proofs.lemmas.List.Sums.{fold-append}
@@ -27,11 +26,12 @@ use Rattle.world_model.specs.Words.{dones_of}
 use Rattle.shown_laws.specs.ShowingsTold.{AreShownBy, NoneShown, OneShown}
 use Rattle.shown_laws.specs.Tellings.{Telling, steps_in_tellings, Begins, WasThere, BeginsNow, TellsStep, TellsRequest, NoneYet, OneMore}
 use Rattle.shown_laws.proofs.BeforeSession.{talks_at}
+use Rattle.shown_laws.proofs.SessionsReached.{as_list}
 use Rattle.shown_laws.proofs.StepsAdd.{may_show, NextCall, Known, Adds, kind_adds}
 
 -- WHAT IS KNOWN -----------------------------------------------------------------------------------
 
-abbrev is_idle : Phase → Bool
+abbrev pub is_idle : Phase → Bool
 is_idle Idle = true
 is_idle _ = false
 
@@ -155,10 +155,6 @@ step_adds setting client place request steps one tells =
 shown_append : (xs more : List Shown) (ys items : List Served) → AreShownBy xs ys → AreShownBy more items → AreShownBy (xs ++ more) (ys ++ items)
 shown_append _ more _ items NoneShown rest = rest
 shown_append _ more _ items (OneShown shown served others after is so) rest = OneShown shown served (others ++ more) (after ++ items) is (shown_append others more after items so rest)
-
-pub as_list : {A : Type 0} (found : Option A) → cons_option found [] ≡ option_to_list found
-as_list None = refl
-as_list (Some one) = refl
 
 -- what is told of the steps, as the account has it
 pub record IsAccounted (a : Account) (steps : List StepTold) : Type 0 where

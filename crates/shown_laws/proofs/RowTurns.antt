@@ -118,9 +118,6 @@ module _ (course : Course) where
 
   -- WHERE THEY BEGIN ------------------------------------------------------------------------------
 
-  start_of : List Sent → ℕ
-  start_of calls = option_map_or (λ sent. sent.call) (first_of calls) 0
-
   begins : (current : Bool) (calls : List Sent) → implies (current || has_unmarked calls) (marked_from course calls (first_unmarked course calls)) ≡ true → unmarked_first course calls ≡ true → has_unmarked calls ≡ true
       → option_map_or (λ sent. sent.call) (first_of calls) 0 ≡ recorded_from (take (first_unmarked course calls) course.report.calls)
   begins current [] marked unmarked some = absurd (let none : ⊥ = cc in none)

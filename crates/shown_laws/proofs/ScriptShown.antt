@@ -30,14 +30,16 @@ use Rattle.world_model.specs.Links.{Link, link_at}
 use Rattle.world_model.specs.Settings.{Setting}
 use Rattle.world_model.specs.Traced.{Traced}
 use Rattle.world_model.specs.Words.{dones_of}
-use Rattle.shown_laws.specs.ClientSteps.{TellsReply, TellsKind, Rested, FoundNone, Waited, WasLent, HasOpened, HasFailed, HasTaken, HasLost}
+use Rattle.shown_laws.specs.ClientSteps.{TellsReply, TellsKind}
 use Rattle.shown_laws.specs.ShowingsTold.{AreShownBy, NoneShown, OneShown}
 use Rattle.shown_laws.specs.Tellings.{Telling, steps_in_tellings, Begins, WasThere, BeginsNow, TellsStep, TellsRequest, NoneYet, OneMore}
 use Rattle.shown_laws.proofs.BeforeSession.{talks_at}
-use Rattle.shown_laws.proofs.RequestsAdd.{fits, heard_known, as_list, request_accounted}
+use Rattle.shown_laws.proofs.RequestsAdd.{fits, heard_known, request_accounted}
+use Rattle.shown_laws.proofs.SessionsReached.{as_list}
 use Rattle.shown_laws.proofs.ScriptCalls.{shown_script}
 use Rattle.shown_laws.proofs.StepsAdd.{Known, may_show, shown_item}
 use Rattle.shown_laws.proofs.TakenAs.{Taken, Greets, Answers, Repeats, Blocks, Tells, taken_as}
+use Rattle.shown_laws.proofs.TookTold.{by_taken}
 
 -- ITEMS AND CALLS ---------------------------------------------------------------------------------
 
@@ -112,20 +114,9 @@ module _ (t : Traced) (client place : ℕ) (doing : Doing) (step : StepTold) (ca
       (connection : ℕ) (link : Link) (frame : Down) (served : Served) → doing.connection ≡ Some connection → link_at t.machine.links connection ≡ Some link → TellsReply (record { client = client; place = place }) doing.talk.phase link frame served
       → list_all (at_place calls many) (option_to_list (shown_item served served.item)) ≡ true
 
-  silent_places : step.taken ≡ None → list_all (at_place calls many) (option_to_list (showing_at step)) ≡ true
-  silent_places none = ap (λ (o : Option Served). list_all (at_place calls many) (option_to_list (option_and_then (λ one. showing_of (is_showing one) one) o))) none
-
   kind_places : (acts : List Step) → TellsKind t client place doing step acts → Replies → list_all (at_place calls many) (option_to_list (showing_at step)) ≡ true
-  kind_places _ (Rested did early bare) replies = silent_places bare.taken
-  kind_places _ (FoundNone did frame bare) replies = silent_places bare.taken
-  kind_places _ (Waited did begun bare) replies = silent_places bare.taken
-  kind_places _ (WasLent connection link ltxid did begun there held taken session its lost) replies = silent_places taken
-  kind_places _ (HasOpened connection did next begun bare) replies = silent_places bare.taken
-  kind_places _ (HasFailed did begun bare) replies = silent_places bare.taken
-  kind_places _ (HasLost connection link did has there ended bare) replies = silent_places bare.taken
-  kind_places _ (HasTaken connection sent link frame served more did sends has there taken reply session lost gone) replies =
-      ap (λ (o : Option Served). list_all (at_place calls many) (option_to_list (option_and_then (λ one. showing_of (is_showing one) one) o))) taken
-      ∙ replies connection link frame served has there reply
+  kind_places acts kind replies =
+      by_taken t client place doing step (λ took. list_all (at_place calls many) (option_to_list (option_and_then (λ one. showing_of (is_showing one) one) took)) ≡ true) refl replies acts kind
 
 -- A STEP ------------------------------------------------------------------------------------------
 

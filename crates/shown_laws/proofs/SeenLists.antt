@@ -1,23 +1,9 @@
 -- Connections by their number among those that were seen, where some of these change.
 use Rattle.std.proofs.Common.{◌≡◌, ◌≢◌, refl, sym, ap, ◌∙◌, Bool, true, false, ℕ, List, [], ◌∷◌, map, Option, Some, None, option_map, if◌then◌else◌}
 use Rattle.std.specs.Prelude.{◌==◌}
-use Rattle.std.proofs.lemmas.Bool.Decides.{nat_tests}
-use Rattle.std.proofs.Common.{arith}
 use Rattle.shown_clauses.specs.Fronts.{first_of, first_from, changed_if, with_changed}
 use Rattle.shown_clauses.specs.Links.{Link, is_link, link_of}
-
-eq_from : (a b : ℕ) → (a == b) ≡ true → a ≡ b
-eq_from a b is = grind (arith, nat_tests)
-
-eq_to : (a b : ℕ) → a ≡ b → (a == b) ≡ true
-eq_to a b is = grind (arith, nat_tests)
-
-ne_to : (a b : ℕ) → a ≢ b → (a == b) ≡ false
-ne_to a b differ = by (a == b) refl
-  where
-    by : (test : Bool) → (a == b) ≡ test → test ≡ false
-    by true is = absurd (differ (eq_from a b is))
-    by false is = refl
+use Rattle.shown_laws.proofs.Lookups.{eq_from, eq_to, ne_to}
 
 -- the first of a list, or that of the rest
 pub first_is : {A : Type 0} (test : A → Bool) (met : Bool) (x : A) (xs : List A) → first_from test met x xs ≡ (if met then Some x else first_of test xs)

@@ -2,7 +2,7 @@
 use Rattle.std.proofs.Common.{◌≡◌, refl, ap, subst, ◌∙◌, Bool, true, false, ℕ, zero, suc, ◌&&◌, ◌||◌, List, [], ◌∷◌, filter_map, Option, Some, None}
 use Rattle.std.specs.Prelude.{not, slice_get, is_some, is_none}
 use Rattle.std.specs.List.{list_all, cons_option}
-use Rattle.std.proofs.lemmas.Bool.{and_parts, not-true}
+use Rattle.std.proofs.lemmas.Bool.{and_parts, not-true, or_right}
 use Rattle.svc_values.specs.declared.entry.SessionId.{SessionId}
 use Rattle.svc_values.specs.Identifiers.{same_session}
 use Rattle.svc_values.specs.Same.{same_bool}
@@ -13,15 +13,9 @@ use Rattle.world_model.specs.Parts.{is_closed, implies}
 use Rattle.world_model.specs.Sames.{all_with, each_pair}
 use Rattle.world_model.specs.Traced.{Traced}
 use Rattle.shown_laws.proofs.ItemsTold.{AreApart}
+use Rattle.shown_laws.proofs.Places.{all_at}
 
 -- what holds of all holds of the one of a number
-all_at : (test : Link → Bool) (links : List Link) (index : ℕ) (link : Link) → list_all test links ≡ true → slice_get links index ≡ Some link → test link ≡ true
-all_at test [] index link all is = absurd (let none : ⊥ = cc in none)
-all_at test (first ∷ links) zero link all is =
-    let same : first ≡ link = cc in
-    subst (λ (l : Link). test l ≡ true) same (and_parts (test first) (list_all test links) all).0
-all_at test (first ∷ links) (suc index) link all is = all_at test links index link (and_parts (test first) (list_all test links) all).1 is
-
 pub at_link : (test : Link → Bool) (links : List Link) (number : ℕ) (link : Link) → list_all test links ≡ true → link_at links number ≡ Some link → test link ≡ true
 at_link test links zero link all is = absurd (let none : ⊥ = cc in none)
 at_link test links (suc index) link all is = all_at test links index link all is
@@ -81,17 +75,13 @@ implied : (a b : Bool) → a ≡ true → implies a b ≡ true → b ≡ true
 implied true b is here = here
 implied false b is here = absurd (let none : ⊥ = cc in none)
 
-or_second : (a b : Bool) → b ≡ true → (a || b) ≡ true
-or_second true b is = refl
-or_second false b is = is
-
 pub cut_shut : (t : Traced) (link : Link) → ends_rightly t link ≡ true → link.is_cut ≡ true → link.is_open ≡ false
 cut_shut t link here cut =
     let rest : Bool = implies (is_closed link || link.is_cut) (not link.is_open) && implies link.is_open link.is_living in
     let one = and_parts (same_bool link.is_open (is_none link.ended)) (at_most t.machine.event link.ended && (implies (is_closed link || link.is_cut) (not link.is_open) && implies link.is_open link.is_living)) here in
     let two = and_parts (at_most t.machine.event link.ended) (implies (is_closed link || link.is_cut) (not link.is_open) && implies link.is_open link.is_living) one.1 in
     let three = and_parts (implies (is_closed link || link.is_cut) (not link.is_open)) (implies link.is_open link.is_living) two.1 in
-    not-true link.is_open (implied (is_closed link || link.is_cut) (not link.is_open) (or_second (is_closed link) link.is_cut cut) three.0)
+    not-true link.is_open (implied (is_closed link || link.is_cut) (not link.is_open) (or_right (is_closed link) link.is_cut cut) three.0)
 
 -- a session has no name before its first item
 pub none_named : (link : Link) → is_named link ≡ true → link.served ≡ [] → link.session ≡ None

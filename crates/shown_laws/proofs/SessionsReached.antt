@@ -87,9 +87,9 @@ none_behind t doing link frame _ (GoesOn opens) = refl
 none_behind t doing link frame _ (IsOver ended over) = refl
 none_behind t doing link frame _ (IsGone ended keeps) = refl
 
-as_list : (found : Option SessionId) → cons_option found [] ≡ option_to_list found
+pub as_list : {A : Type 0} (found : Option A) → cons_option found [] ≡ option_to_list found
 as_list None = refl
-as_list (Some session) = refl
+as_list (Some one) = refl
 
 pub kind_session : (t : Traced) (client place : ℕ) (doing : Doing) (step : StepTold) (acts : List Step) → TellsKind t client place doing step acts → TellsSession step acts
 kind_session t client place doing step _ (Rested did early bare) = bare_tells step [] bare (ap is_lent did) refl

@@ -44,6 +44,7 @@ use Rattle.shown_laws.proofs.SessionsApart.{at_link}
 use Rattle.shown_laws.proofs.SessionsReached.{sessions_reached}
 use Rattle.shown_laws.proofs.StepsAdd.{shown_item}
 use Rattle.shown_laws.proofs.TakenAs.{Taken, Greets, Answers, Repeats, Blocks, Tells, taken_as}
+use Rattle.shown_laws.proofs.TookTold.{by_taken}
 
 -- BY WHICH A REQUEST GOES -------------------------------------------------------------------------
 
@@ -162,19 +163,10 @@ module _ (t : Traced) (client place : ℕ) (doing : Doing) (step : StepTold) (se
       (taken_as served.session reply.commits doing.talk.phase reply.one.sent reply.sent served.item frame reply.awaited reply.same reply.is_its reply.says)
       (λ x by. goes connection link x served.session has there reply.session by)) is))
 
-  silent_own : step.taken ≡ None → list_all (is_own sessions) (option_to_list (showing_at step)) ≡ true
-  silent_own none = ap (λ (o : Option Served). list_all (is_own sessions) (option_to_list (option_and_then (λ one. showing_of (is_showing one) one) o))) none
-
   pub kind_own : (acts : List Step) → TellsKind t client place doing step acts → list_all (is_own sessions) (option_to_list (showing_at step)) ≡ true
-  kind_own _ (Rested did early bare) = silent_own bare.taken
-  kind_own _ (FoundNone did frame bare) = silent_own bare.taken
-  kind_own _ (Waited did begun bare) = silent_own bare.taken
-  kind_own _ (WasLent connection link ltxid did begun there held taken session its lost) = silent_own taken
-  kind_own _ (HasOpened connection did next begun bare) = silent_own bare.taken
-  kind_own _ (HasFailed did begun bare) = silent_own bare.taken
-  kind_own _ (HasLost connection link did has there ended bare) = silent_own bare.taken
-  kind_own _ (HasTaken connection sent link frame served more did sends has there taken reply session lost gone) =
-      ap (λ (o : Option Served). list_all (is_own sessions) (option_to_list (option_and_then (λ one. showing_of (is_showing one) one) o))) taken
-      ∙ taken_shows sessions served reply.commits link.is_open doing.talk.phase served.item frame
+  kind_own =
+      by_taken t client place doing step (λ took. list_all (is_own sessions) (option_to_list (option_and_then (λ one. showing_of (is_showing one) one) took)) ≡ true) refl
+      (λ connection link frame served has there reply.
+      taken_shows sessions served reply.commits link.is_open doing.talk.phase served.item frame
       (taken_as served.session reply.commits doing.talk.phase reply.one.sent reply.sent served.item frame reply.awaited reply.same reply.is_its reply.says)
-      (λ x by. goes connection link x served.session has there reply.session by)
+      (λ x by. goes connection link x served.session has there reply.session by))

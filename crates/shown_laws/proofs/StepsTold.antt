@@ -130,9 +130,6 @@ same_clients clients (suc index) own is = set_same clients index own is
 -- ONE STEP ----------------------------------------------------------------------------------------
 
 module _ (t : Traced) (inv : Invariant t) (seen : Seen) (all : AllTold t.machine.links seen.links) (found : FoundBySession seen.links) (unclosed : AllUnclosed t.machine) (client : ℕ) where
-  abbrev m : Machine
-  m = at_event t.machine
-
   -- the request was there before
   old_doing : (doing : Doing) (is : IsDoing t.setting (at_event t.machine) client doing wants.Frame) → is.client.now ≡ Some doing
   old_doing doing is = was_there t.setting.terms (t.machine.event + 1) t.machine.tick wants.Frame is.client.now is.client.next doing is.does is.wants (λ same. let none : ⊥ = cc in none)

@@ -1,19 +1,17 @@
 -- What a reply that is taken is, by the phase of its request: the item, and the frame with which it was answered.
-use Rattle.std.proofs.Common.{◌≡◌, refl, sym, ap, subst, ◌∙◌, Bool, true, false, ℕ, ◌&&◌, List, Option, Some, None}
+use Rattle.std.proofs.Common.{◌≡◌, refl, sym, ap, subst, ◌∙◌, Bool, true, false, ℕ, List, Option, Some}
 use Rattle.std.proofs.lemmas.Bool.{and_parts}
 use Rattle.svc_values.specs.declared.answer.Answer.{Answer}
 use Rattle.svc_values.specs.declared.call.Call.{Call}
 use Rattle.svc_values.specs.declared.draw.Draw.{Draw}
 use Rattle.svc_values.specs.declared.entry.Ltxid.{Ltxid}
 use Rattle.svc_values.specs.declared.entry.SessionId.{SessionId}
-use Rattle.svc_values.specs.declared.frame.Ahead.TheVariants as ahead
 use Rattle.svc_values.specs.declared.frame.Down.{Down}
 use Rattle.svc_values.specs.declared.frame.Down.TheVariants as down
 use Rattle.svc_values.specs.declared.frame.Up.{Up}
 use Rattle.svc_values.specs.declared.frame.Up.TheVariants as up
-use Rattle.svc_values.specs.Identifiers.{same_ltxid}
-use Rattle.svc_values.specs.Same.{same_answers, same_bool, same_draws}
-use Rattle.svc_values.specs.SameLaws.{same_answers_decide, same_bool_decides, same_draws_decide, same_ltxid_decides}
+use Rattle.svc_values.specs.Same.{same_bool}
+use Rattle.svc_values.specs.SameLaws.{same_bool_decides, same_ltxid_decides}
 use Rattle.client_model.specs.States.{Living, Losing, Asking, Repeating}
 use Rattle.client_model.specs.Terms.{Phase, Greeting, Asked, Running, Replaying}
 use Rattle.outage_schedule.specs.declared.item.Item.{Item}
@@ -21,10 +19,10 @@ use Rattle.outage_schedule.specs.declared.item.Item.TheVariants as item
 use Rattle.outage_schedule.specs.declared.note.AskResult.{AskResult}
 use Rattle.world_model.specs.Frames.{Sent}
 use Rattle.world_model.specs.Hold.{is_awaited, is_call, is_connect, is_ask}
-use Rattle.world_model.specs.Sames.{same_down, same_up, same_sent}
+use Rattle.world_model.specs.Sames.{same_up, same_sent}
 use Rattle.world_model.specs.Serving.{identifier, is_item_of, outcome_frame, reply_of}
 use Rattle.world_model.specs.Wire.{same_replies}
-use Rattle.shown_laws.proofs.Lookups.{eq_from}
+use Rattle.shown_laws.proofs.FrameAnswered.{replied_is}
 
 -- by a session that has answered so many commits
 pub data Taken (session : SessionId) (commits : ℕ) : Phase → Item → Down → Type 0 where
@@ -33,33 +31,6 @@ pub data Taken (session : SessionId) (commits : ℕ) : Phase → Item → Down �
   Repeats : (state : Repeating) (call : Call) (answers : List Answer) (draws : List Draw) → Taken session commits (Replaying state) (item.Call true call answers draws) (down.Reply answers draws (identifier session commits))
   Blocks : (phase : Phase) (call : Call) → Taken session commits phase (item.Blocked call) down.Blocked
   Tells : (state : Asking) (x : Ltxid) (result : AskResult) → x ≡ state.ltxid → Taken session commits (Asked state) (item.Outcome x result) (outcome_frame result)
-
--- FRAMES ------------------------------------------------------------------------------------------
-
-same_reply_frame : (a b : Down) → same_down a b ≡ true → a ≡ b
-same_reply_frame (down.Hello x) (down.Hello y) is = ap down.Hello ((same_ltxid_decides x y).0 is)
-same_reply_frame (down.Reply a d x) (down.Reply b e y) is =
-    let one = and_parts (same_answers a b) (same_draws d e && same_ltxid x y) is in
-    let two = and_parts (same_draws d e) (same_ltxid x y) one.1 in
-    let first : a ≡ b = (same_answers_decide a b).0 one.0 in
-    let second : d ≡ e = (same_draws_decide d e).0 two.0 in
-    let third : x ≡ y = (same_ltxid_decides x y).0 two.1 in
-    cc
-same_reply_frame (down.OutcomeIs a b) (down.OutcomeIs c d) is =
-    let one = and_parts (same_bool a c) (same_bool b d) is in
-    let first : a ≡ c = (same_bool_decides a c).0 one.0 in
-    let second : b ≡ d = (same_bool_decides b d).0 one.1 in
-    cc
-same_reply_frame (down.OutcomeRefused ahead.Server n) (down.OutcomeRefused ahead.Server m) is = ap (down.OutcomeRefused ahead.Server) (eq_from n m is)
-same_reply_frame (down.OutcomeRefused ahead.Client n) (down.OutcomeRefused ahead.Client m) is = ap (down.OutcomeRefused ahead.Client) (eq_from n m is)
-same_reply_frame (down.OutcomeRefused ahead.Forgotten n) (down.OutcomeRefused ahead.Forgotten m) is = ap (down.OutcomeRefused ahead.Forgotten) (eq_from n m is)
-same_reply_frame down.Blocked down.Blocked is = refl
-same_reply_frame (down.Refused a) (down.Refused b) is = ap down.Refused (eq_from a b is)
-same_reply_frame _ _ is = absurd (let none : ⊥ = cc in none)
-
-said_is : (frame : Down) (reply : Option Down) → same_replies (Some frame) reply ≡ true → reply ≡ Some frame
-said_is frame None is = absurd (let none : ⊥ = cc in none)
-said_is frame (Some other) is = ap Some (sym (same_reply_frame frame other is))
 
 -- BY THE FRAME THAT IT ANSWERS --------------------------------------------------------------------
 
@@ -76,7 +47,7 @@ call_waits mark index sent (up.Call replay kept call) is =
     (kept, (call, ap (λ (b : Bool). up.Call b kept call) (sym ((same_bool_decides mark replay).0 parts.0))))
 call_waits mark index sent _ is = absurd (let none : ⊥ = cc in none)
 
-connect_waits : (frame : Up) → is_connect frame ≡ true → frame ≡ up.Connect
+pub connect_waits : (frame : Up) → is_connect frame ≡ true → frame ≡ up.Connect
 connect_waits up.Connect is = refl
 connect_waits _ is = absurd (let none : ⊥ = cc in none)
 
@@ -137,4 +108,4 @@ pub taken_as : (session : SessionId) (commits : ℕ) (phase : Phase) (answered s
     → same_replies (Some reply) (reply_of session commits one) ≡ true → Taken session commits phase one reply
 taken_as session commits phase answered sent one reply awaited same its says =
     let frames : same_up answered.frame sent.frame ≡ true = (and_parts _ (same_up answered.frame sent.frame) (and_parts _ _ same).1).1 in
-    taken_by session commits phase answered.frame sent.frame one reply (waits_by phase sent awaited) frames its (said_is reply (reply_of session commits one) says)
+    taken_by session commits phase answered.frame sent.frame one reply (waits_by phase sent awaited) frames its (replied_is reply (reply_of session commits one) says)

@@ -15,7 +15,7 @@ use Rattle.world_model.specs.Invariant.{Invariant}
 use Rattle.world_model.specs.Links.{Link, link_at}
 use Rattle.world_model.specs.Sames.{owned_by, same_owners, same_up}
 use Rattle.world_model.specs.Shown.{is_call, calls_on, in_row, is_scripts, is_current, is_row, rows_on, stands}
-use Rattle.world_model.specs.Traced.{Traced, Course, course_now}
+use Rattle.world_model.specs.Traced.{Traced, course_now}
 use Rattle.world_model.specs.Words.{held_in}
 use Rattle.svc_values.specs.declared.entry.Ltxid.{Ltxid}
 use Rattle.client_model.specs.Terms.{Terms, Phase, Idle, Unbegun, Queued, Seeking, Greeting, Asked, Running, Replaying}
@@ -57,9 +57,6 @@ stands_at test (first ∷ before) later one all = stands_at test before later on
 -- THE FRAME ---------------------------------------------------------------------------------------
 
 module _ (t : Traced) (inv : Invariant t) (client : ℕ) (own : Client) (here : client_at t.machine.clients client ≡ Some own) (doing : Doing) (now : own.now ≡ Some doing) where
-  abbrev course : Course
-  course = course_now t.setting client (length own.past) doing
-
   pub talks_now : Talks t.setting.terms false doing
   talks_now = now_talks t.setting.terms t.machine.clients client own doing inv.orderly.script.talks here now
 

@@ -1,5 +1,5 @@
--- A step that is told to be lent a connection, or to take a reply there, is a step of its request now.
-use Rattle.std.proofs.Common.{◌≡◌, refl, sym, ap, ◌∙◌, true, ℕ, ◌+◌, List, [], ◌∷◌, Some, None, if◌then◌else◌}
+-- A step that is told to be lent a connection, or to take a reply there, is a step of its request now; and what was taken, by its kind.
+use Rattle.std.proofs.Common.{◌≡◌, refl, sym, ap, subst, ◌∙◌, true, ℕ, ◌+◌, List, [], ◌∷◌, Option, Some, None, if◌then◌else◌}
 use Rattle.std.specs.Prelude.{◌==◌, is_some}
 use Rattle.std.proofs.lemmas.Bool.{and_from, or_left}
 use Rattle.svc_values.specs.declared.frame.Down.{Down}
@@ -62,3 +62,16 @@ module _ (t : Traced) (client place : ℕ) (doing : Doing) (step : StepTold) whe
   taken_kind _ connection count is (HasOpened number did next begun bare) = absurd (let both : go.Open number ≡ go.Took connection count = sym did ∙ is in let none : ⊥ = cc in none)
   taken_kind _ connection count is (HasFailed did begun bare) = absurd (let both : go.Down ≡ go.Took connection count = sym did ∙ is in let none : ⊥ = cc in none)
   taken_kind _ connection count is (HasLost number link did has there ended bare) = absurd (let both : go.Lost number ≡ go.Took connection count = sym did ∙ is in let none : ⊥ = cc in none)
+
+  -- what holds of none, and of the item of each reply that it may take, holds of what it took
+  pub by_taken : (P : Option Served → Type 0) → P None
+      → ((connection : ℕ) (link : Link) (frame : Down) (served : Served) → doing.connection ≡ Some connection → link_at t.machine.links connection ≡ Some link → TellsReply (record { client = client; place = place }) doing.talk.phase link frame served → P (Some served))
+      → (acts : List Step) → TellsKind t client place doing step acts → P step.taken
+  by_taken P none reply _ (HasTaken connection sent link frame served more did sends has there taken its session lost gone) = subst P (sym taken) (reply connection link frame served has there its)
+  by_taken P none reply _ (WasLent connection link ltxid did begun there held taken session its lost) = subst P (sym taken) none
+  by_taken P none reply _ (Rested did early bare) = subst P (sym bare.taken) none
+  by_taken P none reply _ (FoundNone did frame bare) = subst P (sym bare.taken) none
+  by_taken P none reply _ (Waited did begun bare) = subst P (sym bare.taken) none
+  by_taken P none reply _ (HasOpened connection did next begun bare) = subst P (sym bare.taken) none
+  by_taken P none reply _ (HasFailed did begun bare) = subst P (sym bare.taken) none
+  by_taken P none reply _ (HasLost connection link did has there ended bare) = subst P (sym bare.taken) none

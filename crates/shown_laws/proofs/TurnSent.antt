@@ -75,7 +75,7 @@ unmarked_push (first ∷ calls) sent marks is = by (is_marked first.frame) marks
 
 -- STAGES ------------------------------------------------------------------------------------------
 
-abbrev owned : Option Owner → List Sent → Type 0
+abbrev pub owned : Option Owner → List Sent → Type 0
 owned owner calls = list_all (λ sent. same_owners owner sent.owner) calls ≡ true
 
 -- what stands of the calls since the last Begin

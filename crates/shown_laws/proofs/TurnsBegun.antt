@@ -15,6 +15,7 @@ use Rattle.svc_values.specs.Calls.{sequences_in}
 use Rattle.svc_values.specs.Identifiers.{same_session}
 use Rattle.svc_values.specs.Same.{same_bool}
 use Rattle.svc_values.specs.SameLaws.{same_session_decides}
+use Rattle.svc_values.specs.declared.value.Value.{Value}
 use Rattle.outage_schedule.specs.declared.item.Item.{Item}
 use Rattle.outage_schedule.specs.declared.item.Item.TheVariants as item
 use Rattle.outage_schedule.specs.declared.item.Served.{Served}
@@ -30,6 +31,7 @@ use Rattle.world_model.specs.Frames.{Owner, Sent, Handled}
 use Rattle.world_model.specs.Links.{Link, link_at, with_link}
 use Rattle.world_model.specs.Machines.{Machine}
 use Rattle.world_model.specs.Parts.{implies}
+use Rattle.world_model.specs.Same.{is_begin}
 use Rattle.world_model.specs.Sames.{is_front, same_owners, same_sent}
 use Rattle.world_model.specs.Serving.{Front, is_of_front, is_blocked, reply_of, commits_after, after_front, handled}
 use Rattle.world_model.specs.Settings.{Setting}
@@ -39,7 +41,7 @@ use Rattle.shown_laws.specs.AcquiredTold.{told_acquired}
 use Rattle.shown_laws.specs.Connections.{TellsAt, NoLink, Unnamed, Named}
 use Rattle.shown_laws.specs.TurnOwners.{Said, said_of, said_at, Tied, Unopened, Unheard, Heard, begun_by, sent_begin, served_begin, told_begin, Begun, NotBegun, HasBegun}
 use Rattle.shown_laws.specs.TurnsServed.{served_in}
-use Rattle.shown_laws.proofs.BeginsTold.{starts, is_begin, item_begins, stopped_begins, all_ended, one_ended, gone_begin, other_begin, other_stopped, begun_on, now_begun}
+use Rattle.shown_laws.proofs.BeginsTold.{starts, starts_end, item_begins, stopped_begins, gone_begin, other_begin, other_stopped, begun_on, now_begun}
 use Rattle.shown_laws.proofs.ConnectionsTold.{AllTold}
 use Rattle.shown_laws.proofs.EventsTold.{Stands, names_ordinary, names_stopped, open_is}
 use Rattle.shown_laws.proofs.Following.{Does, Goes, ServesNone, Serves, CutsNone, Cuts, ReapsNone, Reaps, IsDown, Crashes, CrashStops, CrashServes, Ticks, Drains, IsServers}
@@ -50,6 +52,7 @@ use Rattle.shown_laws.proofs.ServedStays.{SameServed, all_at, one_changed, with_
 use Rattle.shown_laws.proofs.SessionsTied.{Stay}
 use Rattle.shown_laws.proofs.TurnSent.{owners_are}
 use Rattle.shown_laws.proofs.TurnsHappen.{blocked_served}
+use Rattle.shown_laws.proofs.WordsKept.{all_ended, one_ended}
 
 -- BEGINS ------------------------------------------------------------------------------------------
 
@@ -214,43 +217,25 @@ module _ (clients : List Client) (links : List Link) (told : List Seen) (known :
   has_name is (HasName other own) = own
   has_name is (GivesName greets none) = absurd (not_both served.item is greets)
 
-  pub serving_begun : (event : ℕ) → is_begin_frame front.first.frame ≡ is_begin served.item → AllBegun clients (with_link links number end) (end_session event served.session served.item (in_turn served.session served.item (served_on number served served.item told)))
-  serving_begun event alike = by (is_begin served.item) refl
+  -- by a word for what is told of the item before its turn, which a Begin leaves
+  item_begun : (event : ℕ) (on : Item → List Seen) → ((settings : List (List ℕ × Value)) → on (item.Begin settings) ≡ told)
+      → (is_begin served.item ≡ false → (other : ℕ) → told_begin other (end_session event served.session served.item (in_turn served.session served.item (on served.item))) ≡ told_begin other told)
+      → is_begin_frame front.first.frame ≡ is_begin served.item → AllBegun clients (with_link links number end) (end_session event served.session served.item (in_turn served.session served.item (on served.item)))
+  item_begun event on begins keeps alike = by (is_begin served.item) refl
     where
-      turned : (one : Item) → is_begin one ≡ true → (other : ℕ) → told_begin other (end_session event served.session one (in_turn served.session one (served_on number served one told))) ≡ option_map_or (begun_on served.session) (link_of other told) None
-      turned (item.Begin settings) is other = now_begun other served.session told
-      turned item.Connect is other = absurd (let none : ⊥ = cc in none)
-      turned (item.Call replay call answers draws) is other = absurd (let none : ⊥ = cc in none)
-      turned (item.Blocked call) is other = absurd (let none : ⊥ = cc in none)
-      turned (item.Outcome x result) is other = absurd (let none : ⊥ = cc in none)
-      turned item.End is other = absurd (let none : ⊥ = cc in none)
-      turned item.Close is other = absurd (let none : ⊥ = cc in none)
-      turned (item.Refused cause) is other = absurd (let none : ⊥ = cc in none)
-      turned (item.CrashedCall replay call) is other = absurd (let none : ⊥ = cc in none)
-      turned (item.CrashedOutcome x) is other = absurd (let none : ⊥ = cc in none)
+      turned : (one : Item) → is_begin one ≡ true → (other : ℕ) → told_begin other (end_session event served.session one (in_turn served.session one (on one))) ≡ option_map_or (begun_on served.session) (link_of other told) None
+      turned (item.Begin settings) is other = ap (λ (now : List Seen). told_begin other (in_turn served.session (item.Begin settings) now)) (begins settings) ∙ now_begun other served.session told
+      turned one is other = absurd (let none : ⊥ = cc in none)
 
-      by : (test : Bool) → is_begin served.item ≡ test → AllBegun clients (with_link links number end) (end_session event served.session served.item (in_turn served.session served.item (served_on number served served.item told)))
+      by : (test : Bool) → is_begin served.item ≡ test → AllBegun clients (with_link links number end) (end_session event served.session served.item (in_turn served.session served.item (on served.item)))
       by true is = begin_begun _ (alike ∙ is) (has_name is names) (turned served.item is)
-      by false is = plain_begun _ (alike ∙ is) (λ other. other_begin other event number served told is)
+      by false is = plain_begun _ (alike ∙ is) (keeps is)
+
+  pub serving_begun : (event : ℕ) → is_begin_frame front.first.frame ≡ is_begin served.item → AllBegun clients (with_link links number end) (end_session event served.session served.item (in_turn served.session served.item (served_on number served served.item told)))
+  serving_begun event = item_begun event (λ one. served_on number served one told) (λ settings. refl) (λ is other. other_begin other event number served told is)
 
   pub stopping_begun : (event : ℕ) → is_begin_frame front.first.frame ≡ is_begin served.item → AllBegun clients (with_link links number end) (end_session event served.session served.item (in_turn served.session served.item (stopped_on number served served.item told)))
-  stopping_begun event alike = by (is_begin served.item) refl
-    where
-      turned : (one : Item) → is_begin one ≡ true → (other : ℕ) → told_begin other (end_session event served.session one (in_turn served.session one (stopped_on number served one told))) ≡ option_map_or (begun_on served.session) (link_of other told) None
-      turned (item.Begin settings) is other = now_begun other served.session told
-      turned item.Connect is other = absurd (let none : ⊥ = cc in none)
-      turned (item.Call replay call answers draws) is other = absurd (let none : ⊥ = cc in none)
-      turned (item.Blocked call) is other = absurd (let none : ⊥ = cc in none)
-      turned (item.Outcome x result) is other = absurd (let none : ⊥ = cc in none)
-      turned item.End is other = absurd (let none : ⊥ = cc in none)
-      turned item.Close is other = absurd (let none : ⊥ = cc in none)
-      turned (item.Refused cause) is other = absurd (let none : ⊥ = cc in none)
-      turned (item.CrashedCall replay call) is other = absurd (let none : ⊥ = cc in none)
-      turned (item.CrashedOutcome x) is other = absurd (let none : ⊥ = cc in none)
-
-      by : (test : Bool) → is_begin served.item ≡ test → AllBegun clients (with_link links number end) (end_session event served.session served.item (in_turn served.session served.item (stopped_on number served served.item told)))
-      by true is = begin_begun _ (alike ∙ is) (has_name is names) (turned served.item is)
-      by false is = plain_begun _ (alike ∙ is) (λ other. other_stopped other event number served told is)
+  stopping_begun event = item_begun event (λ one. stopped_on number served one told) (λ settings. refl) (λ is other. other_stopped other event number served told is)
 
 -- EVENTS ------------------------------------------------------------------------------------------
 
@@ -264,7 +249,7 @@ module _ (setting : Setting) (m : Machine) (stands : Stands m) (some : 0 < m.eve
   -- where all fall
   fallen : (told : List Seen) (links : List Link) → AllBegun m.clients links told → AllBegun m.clients (map (fallen_link m.event) links) (map (end_link m.event) told)
   fallen told links is number =
-      subst (λ (found : Option (Option Acquired)). Begun m.clients found (served_begin (all_at number (map (fallen_link m.event) links)))) (sym (all_ended number m.event told))
+      subst (λ (found : Option (Option Acquired)). Begun m.clients found (served_begin (all_at number (map (fallen_link m.event) links)))) (sym (all_ended starts starts_end number m.event told))
       (subst (λ (served : List Handled). Begun m.clients (told_begin number told) (served_begin served)) (sym (each_changed (fallen_link m.event) (fallen_served m.event) links number)) (is number))
 
   abbrev answered : Front → Served → Option Down
@@ -284,7 +269,7 @@ module _ (setting : Setting) (m : Machine) (stands : Stands m) (some : 0 < m.eve
       (blocked_served m.event front served (answered front served) (is_blocked served.item)) m.event (item_begins front.first.frame served.item its.0)
   does_begun tick _ _ _ (CutsNone connection) = begun
   does_begun tick _ _ _ (Cuts connection up down reached link at) =
-      rests _ (with_link m.links connection (cut_link m.event up down link)) (λ k. one_ended k connection m.event seen.links)
+      rests _ (with_link m.links connection (cut_link m.event up down link)) (λ k. one_ended starts starts_end k connection m.event seen.links)
       (with_one m.links connection link (cut_link m.event up down link) (open_is m.links connection link at).0 (cut_served m.event up down link))
   does_begun tick _ _ _ (ReapsNone connection) = begun
   does_begun tick _ _ _ (Reaps connection) = rests _ _ (λ k. refl) (one_changed reaped_link reaped_served m.links connection)

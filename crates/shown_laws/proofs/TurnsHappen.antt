@@ -27,13 +27,14 @@ use Rattle.shown_laws.proofs.GoNotes.{follow_goes}
 use Rattle.shown_laws.proofs.ItemsTold.{IsFront, front_is, NamesSession, GivesName, HasName, AreApart}
 use Rattle.shown_laws.proofs.Lookups.{either, with_own, with_other}
 use Rattle.shown_laws.proofs.ServedStays.{SameServed, one_changed, with_one, each_changed, ends_served, cut_served, fallen_served, reaped_served, drained_served, goes_served}
-use Rattle.shown_laws.proofs.TurnBriefs.{Brief, brief_of, brief_at, calls_at, all_ended, one_ended, session_ended, gone_brief, served_brief, stopped_brief, connected_told, stopped_told, turned, turned_at, with_item}
+use Rattle.shown_laws.proofs.TurnBriefs.{Brief, brief, brief_of, brief_in, brief_at, calls_at, brief_ends, gone_brief, turned, turned_at, with_item}
+use Rattle.shown_laws.proofs.WordsKept.{one_ended, all_ended, session_ended, served_kept, stopped_kept, connected_kept, crashed_kept}
 
 abbrev calls_in : Option Link → Option (List Marked)
 calls_in found = calls_served (served_in found)
 
 abbrev calls_by : Option Brief → Option (List Marked)
-calls_by brief = option_map_or (λ one. one.calls) brief None
+calls_by found = option_map_or (λ one. one.calls) found None
 
 -- where nothing is told of turns, and nothing was served
 still : (number : ℕ) (a b : List Seen) → brief_at number b ≡ brief_at number a → told_at number b ≡ told_at number a
@@ -50,10 +51,6 @@ served_more served one = fold_more served None
 
 -- an item but Connect's, of the session of this connection
 module _ (number : ℕ) (front : Front) (served : Served) (links : List Link) (told : List Seen) (all : AllTold links told) (at : IsFront links number front) (apart : AreApart links) (turns : TellsTurns links told) where
-  -- the connection after it
-  abbrev IsAfter : Link → Type 0
-  IsAfter end = (reply : Option Down) → end.served ≡ (after_front front served reply).served
-
   own_after : (end : Link) (reply : Option Down) → end.served ≡ (after_front front served reply).served → calls_served end.served ≡ calls_after (calls_served front.link.served) served.item
   own_after end reply same = ap calls_served same ∙ served_more front.link.served (record { sent = front.first; served = served; reply = reply })
 
@@ -72,15 +69,7 @@ module _ (number : ℕ) (front : Front) (served : Served) (links : List Link) (t
     where
       unchanged : (one : Item) → is_connect one ≡ true → (calls : Option (List Marked)) → calls_after calls one ≡ calls
       unchanged item.Connect is calls = refl
-      unchanged (item.Begin settings) is calls = absurd (let none : ⊥ = cc in none)
-      unchanged (item.Call replay call answers draws) is calls = absurd (let none : ⊥ = cc in none)
-      unchanged (item.Blocked call) is calls = absurd (let none : ⊥ = cc in none)
-      unchanged (item.Outcome x result) is calls = absurd (let none : ⊥ = cc in none)
-      unchanged item.End is calls = absurd (let none : ⊥ = cc in none)
-      unchanged item.Close is calls = absurd (let none : ⊥ = cc in none)
-      unchanged (item.Refused cause) is calls = absurd (let none : ⊥ = cc in none)
-      unchanged (item.CrashedCall replay call) is calls = absurd (let none : ⊥ = cc in none)
-      unchanged (item.CrashedOutcome x) is calls = absurd (let none : ⊥ = cc in none)
+      unchanged one is calls = absurd (let none : ⊥ = cc in none)
 
       by : (other ≡ number) ⊎ (other ≢ number) → served_at other (with_link links number end) ≡ served_at other links
       by (inl is) =
@@ -92,7 +81,7 @@ module _ (number : ℕ) (front : Front) (served : Served) (links : List Link) (t
 
   -- what is told of its session alone takes the item
   own_turned : (found : Option Link) (one : Option Seen) → TellsAt number found one → found ≡ Some front.link → front.link.session ≡ Some served.session
-      → calls_by (option_map (turned served.session served.item) (option_map brief_of one)) ≡ calls_after (option_map_or calls_told one None) served.item
+      → calls_by (option_map (turned served.session served.item) (brief_in one)) ≡ calls_after (option_map_or calls_told one None) served.item
   own_turned _ _ NoLink is own = absurd (let none : ⊥ = cc in none)
   own_turned _ _ (Unnamed link here) is own =
       let same : link ≡ front.link = cc in
@@ -108,7 +97,7 @@ module _ (number : ℕ) (front : Front) (served : Served) (links : List Link) (t
       by false is = absurd (let none : ⊥ = cc in none)
 
   other_turned : (other : ℕ) → other ≢ number → (found : Option Link) (one : Option Seen) → link_at links other ≡ found → TellsAt other found one → front.link.session ≡ Some served.session
-      → calls_by (option_map (turned served.session served.item) (option_map brief_of one)) ≡ option_map_or calls_told one None
+      → calls_by (option_map (turned served.session served.item) (brief_in one)) ≡ option_map_or calls_told one None
   other_turned other differ _ _ there NoLink own = refl
   other_turned other differ _ _ there (Unnamed link here) own = refl
   other_turned other differ _ _ there (Named link seen here) own = by (same_session seen.session served.session) refl
@@ -121,7 +110,7 @@ module _ (number : ℕ) (front : Front) (served : Served) (links : List Link) (t
 
   takes_item : (end : Link) (reply : Option Down) (now : List Seen) → end.served ≡ (after_front front served reply).served → front.link.session ≡ Some served.session
       → ((other : ℕ) → brief_at other now ≡ option_map (turned served.session served.item) (brief_at other told)) → TellsTurns (with_link links number end) now
-  takes_item end reply now same own brief other = calls_at other now ∙ (ap calls_by (brief other) ∙ by (either other number))
+  takes_item end reply now same own takes other = calls_at other now ∙ (ap calls_by (takes other) ∙ by (either other number))
     where
       by : (other ≡ number) ⊎ (other ≢ number) → calls_by (option_map (turned served.session served.item) (brief_at other told)) ≡ served_at other (with_link links number end)
       by (inl is) =
@@ -137,49 +126,29 @@ module _ (number : ℕ) (front : Front) (served : Served) (links : List Link) (t
 
   turn_of_item : (session : SessionId) (one : Item) (other : ℕ) (event : ℕ) (now : List Seen) → brief_at other now ≡ brief_at other told
       → brief_at other (end_session event session one (in_turn session one now)) ≡ option_map (turned session one) (brief_at other told)
-  turn_of_item session one other event now same = session_ended other event session one (in_turn session one now) ∙ (turned_at other session one now ∙ ap (option_map (turned session one)) same)
+  turn_of_item session one other event now same = session_ended brief brief_ends other event session one (in_turn session one now) ∙ (turned_at other session one now ∙ ap (option_map (turned session one)) same)
+
+  -- by a word for what is told of the item before its turn, which tells nothing of turns
+  item_turns : (event : ℕ) (end : Link) (reply : Option Down) (on : Item → List Seen) → ((other : ℕ) → is_connect served.item ≡ false → brief_at other (on served.item) ≡ brief_at other told) → ((other : ℕ) → told_at other (on item.Connect) ≡ told_at other told)
+      → NamesSession front served → end.served ≡ (after_front front served reply).served → TellsTurns (with_link links number end) (end_session event served.session served.item (in_turn served.session served.item (on served.item)))
+  item_turns event end reply on keeps connects (HasName other own) same k =
+      takes_item end reply (end_session event served.session served.item (in_turn served.session served.item (on served.item))) same own
+      (λ at_one. turn_of_item served.session served.item at_one event (on served.item) (keeps at_one other)) k
+  item_turns event end reply on keeps connects (GivesName greets none) same k = by served.item greets ∙ (turns k ∙ sym (greets_served end reply same greets k))
+    where
+      by : (one : Item) → is_connect one ≡ true → told_at k (end_session event served.session one (in_turn served.session one (on one))) ≡ told_at k told
+      by item.Connect is = connects k
+      by one is = absurd (let none : ⊥ = cc in none)
 
   pub serving_turns : (event : ℕ) (end : Link) (reply : Option Down) → NamesSession front served → end.served ≡ (after_front front served reply).served
       → TellsTurns (with_link links number end) (end_session event served.session served.item (in_turn served.session served.item (served_on number served served.item told)))
-  serving_turns event end reply (HasName other own) same k =
-      let now : List Seen = served_on number served served.item told in
-      takes_item end reply (end_session event served.session served.item (in_turn served.session served.item now)) same own
-      (λ at_one. turn_of_item served.session served.item at_one event now (served_brief at_one number served served.item told other)) k
-  serving_turns event end reply (GivesName greets none) same k =
-      by served.item greets ∙ (turns k ∙ sym (greets_served end reply same greets k))
-    where
-      by : (one : Item) → is_connect one ≡ true → told_at k (end_session event served.session one (in_turn served.session one (served_on number served one told))) ≡ told_at k told
-      by item.Connect is = connected_told k number served told
-      by (item.Begin settings) is = absurd (let none : ⊥ = cc in none)
-      by (item.Call replay call answers draws) is = absurd (let none : ⊥ = cc in none)
-      by (item.Blocked call) is = absurd (let none : ⊥ = cc in none)
-      by (item.Outcome x result) is = absurd (let none : ⊥ = cc in none)
-      by item.End is = absurd (let none : ⊥ = cc in none)
-      by item.Close is = absurd (let none : ⊥ = cc in none)
-      by (item.Refused cause) is = absurd (let none : ⊥ = cc in none)
-      by (item.CrashedCall replay call) is = absurd (let none : ⊥ = cc in none)
-      by (item.CrashedOutcome x) is = absurd (let none : ⊥ = cc in none)
+  serving_turns event end reply =
+      item_turns event end reply (λ one. served_on number served one told) (λ other plain. served_kept brief (λ reply link. refl) other number served served.item told plain) (λ other. connected_kept calls_told (λ reply link. refl) (λ at_one session replies. refl) other number served told)
 
   pub stopping_turns : (event : ℕ) (end : Link) (reply : Option Down) → NamesSession front served → end.served ≡ (after_front front served reply).served
       → TellsTurns (with_link links number end) (end_session event served.session served.item (in_turn served.session served.item (stopped_on number served served.item told)))
-  stopping_turns event end reply (HasName other own) same k =
-      let now : List Seen = stopped_on number served served.item told in
-      takes_item end reply (end_session event served.session served.item (in_turn served.session served.item now)) same own
-      (λ at_one. turn_of_item served.session served.item at_one event now (stopped_brief at_one number served served.item told other)) k
-  stopping_turns event end reply (GivesName greets none) same k =
-      by served.item greets ∙ (turns k ∙ sym (greets_served end reply same greets k))
-    where
-      by : (one : Item) → is_connect one ≡ true → told_at k (end_session event served.session one (in_turn served.session one (stopped_on number served one told))) ≡ told_at k told
-      by item.Connect is = stopped_told k number served told
-      by (item.Begin settings) is = absurd (let none : ⊥ = cc in none)
-      by (item.Call replay call answers draws) is = absurd (let none : ⊥ = cc in none)
-      by (item.Blocked call) is = absurd (let none : ⊥ = cc in none)
-      by (item.Outcome x result) is = absurd (let none : ⊥ = cc in none)
-      by item.End is = absurd (let none : ⊥ = cc in none)
-      by item.Close is = absurd (let none : ⊥ = cc in none)
-      by (item.Refused cause) is = absurd (let none : ⊥ = cc in none)
-      by (item.CrashedCall replay call) is = absurd (let none : ⊥ = cc in none)
-      by (item.CrashedOutcome x) is = absurd (let none : ⊥ = cc in none)
+  stopping_turns event end reply =
+      item_turns event end reply (λ one. stopped_on number served one told) (λ other plain. stopped_kept brief other number served served.item told plain) (λ other. crashed_kept calls_told (λ at_one session replies. refl) other number served told)
 
 -- EVENTS ------------------------------------------------------------------------------------------
 
@@ -198,7 +167,7 @@ module _ (setting : Setting) (m : Machine) (stands : Stands m) (some : 0 < m.eve
   -- where all fall
   fallen : (told : List Seen) (links : List Link) → TellsTurns links told → TellsTurns (map (fallen_link m.event) links) (map (end_link m.event) told)
   fallen told links before number =
-      still number told (map (end_link m.event) told) (all_ended number m.event told)
+      still number told (map (end_link m.event) told) (all_ended brief brief_ends number m.event told)
       ∙ (before number ∙ ap calls_served (sym (each_changed (fallen_link m.event) (fallen_served m.event) links number)))
 
   pub does_turns : (tick : ℕ) (one : Note) (items : List Served) (n : Machine) → Does setting m one items n → TellsTurns n.links (after_happening seen (record { event = m.event; tick = tick; noted = one; items = items })).links
@@ -209,7 +178,7 @@ module _ (setting : Setting) (m : Machine) (stands : Stands m) (some : 0 < m.eve
       (names_ordinary setting m stands some seen all connection front served at ordinary).1 (blocked_served m.event front served (replied front served) (is_blocked served.item))
   does_turns tick _ _ _ (CutsNone connection) = turns
   does_turns tick _ _ _ (Cuts connection up down reached link at) =
-      rests _ (with_link m.links connection (cut_link m.event up down link)) (λ k. one_ended k connection m.event seen.links)
+      rests _ (with_link m.links connection (cut_link m.event up down link)) (λ k. one_ended brief brief_ends k connection m.event seen.links)
       (with_one m.links connection link (cut_link m.event up down link) (open_is m.links connection link at).0 (cut_served m.event up down link))
   does_turns tick _ _ _ (ReapsNone connection) = turns
   does_turns tick _ _ _ (Reaps connection) = rests _ _ (λ k. refl) (one_changed reaped_link reaped_served m.links connection)

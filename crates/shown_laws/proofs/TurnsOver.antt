@@ -4,6 +4,7 @@ use Rattle.std.specs.Option.{option_map_or}
 use Rattle.std.proofs.lemmas.List.{append-nil, append_assoc}
 use Rattle.svc_values.specs.declared.entry.SessionId.{SessionId}
 use Rattle.svc_values.specs.declared.frame.Down.{Down}
+use Rattle.svc_values.specs.declared.value.Value.{Value}
 use Rattle.outage_schedule.specs.declared.item.Item.{Item}
 use Rattle.outage_schedule.specs.declared.item.Item.TheVariants as item
 use Rattle.outage_schedule.specs.declared.item.Served.{Served}
@@ -40,9 +41,6 @@ Grows links news = (number : ℕ) → GrowsAt links news number
 
 grows_same : (links news : List Link) → SameServed links news → Grows links news
 grows_same links news same number = record { more = []; is = same number ∙ sym (append-nil (all_at number links)) }
-
-same_then : (links between news : List Link) → Grows links between → SameServed between news → Grows links news
-same_then links between news one same number = let here : GrowsAt links between number = one number in record { more = here.more; is = same number ∙ here.is }
 
 -- what was a turn is one still
 were_still : (Old New : Turn → List Handled → Type 0) → ((turn : Turn) (before : List Handled) → Old turn before → New turn before) → (links news : List Link) (over : List Turn) → Grows links news → WereTurns Old links over → WereTurns New news over
@@ -123,35 +121,19 @@ module _ (Beside : Turn → List Handled → Type 0) (number : ℕ) (front : Fro
   begun : NamesSession front served → is_connect served.item ≡ false → begins
   begun names other = own_over (link_at links number) (link_of number told) (all number) at.there refl (has_session names other)
 
-  served_over : NamesSession front served → WereTurns Beside (with_link links number end) (over_by served.session served.item (served_on number served served.item told))
-  served_over names = by served.item (begun names)
+  -- by a word for what is told of the item before its turn, which a Begin leaves
+  item_over : (on : Item → List Seen) → ((settings : List (List ℕ × Value)) → on (item.Begin settings) ≡ told) → NamesSession front served → WereTurns Beside (with_link links number end) (over_by served.session served.item (on served.item))
+  item_over on same_told names = by served.item (begun names)
     where
-      by : (one : Item) → (is_connect one ≡ false → begins) → WereTurns Beside (with_link links number end) (over_by served.session one (served_on number served one told))
-      by (item.Begin settings) begun = begun refl
-      by item.Connect begun = NoneOver
-      by (item.Call replay call answers draws) begun = NoneOver
-      by (item.Blocked call) begun = NoneOver
-      by (item.Outcome x result) begun = NoneOver
-      by item.End begun = NoneOver
-      by item.Close begun = NoneOver
-      by (item.Refused cause) begun = NoneOver
-      by (item.CrashedCall replay call) begun = NoneOver
-      by (item.CrashedOutcome x) begun = NoneOver
+      by : (one : Item) → (is_connect one ≡ false → begins) → WereTurns Beside (with_link links number end) (over_by served.session one (on one))
+      by (item.Begin settings) begun = subst (λ (now : List Seen). WereTurns Beside (with_link links number end) (over_on (link_of_session served.session now))) (sym (same_told settings)) (begun refl)
+      by _ begun = NoneOver
+
+  served_over : NamesSession front served → WereTurns Beside (with_link links number end) (over_by served.session served.item (served_on number served served.item told))
+  served_over = item_over (λ one. served_on number served one told) (λ settings. refl)
 
   stopped_over : NamesSession front served → WereTurns Beside (with_link links number end) (over_by served.session served.item (stopped_on number served served.item told))
-  stopped_over names = by served.item (begun names)
-    where
-      by : (one : Item) → (is_connect one ≡ false → begins) → WereTurns Beside (with_link links number end) (over_by served.session one (stopped_on number served one told))
-      by (item.Begin settings) begun = begun refl
-      by item.Connect begun = NoneOver
-      by (item.Call replay call answers draws) begun = NoneOver
-      by (item.Blocked call) begun = NoneOver
-      by (item.Outcome x result) begun = NoneOver
-      by item.End begun = NoneOver
-      by item.Close begun = NoneOver
-      by (item.Refused cause) begun = NoneOver
-      by (item.CrashedCall replay call) begun = NoneOver
-      by (item.CrashedOutcome x) begun = NoneOver
+  stopped_over = item_over (λ one. stopped_on number served one told) (λ settings. refl)
 
 -- EVENTS ------------------------------------------------------------------------------------------
 
