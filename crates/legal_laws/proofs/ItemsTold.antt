@@ -105,15 +105,16 @@ module _ (document : Document) (last : Point) (calls : IsTrue (all_requests_righ
 
   module _ (parts : List Part) (all : List Note) (marked : TellsMarked document last parts) where
     -- what is told of a call with the mark is what its frame brings
-    brought : (p : Point) (event : Event) (note : Note) (more : List Served) (after : Seen) (new : Traced) → IsPoint document p → OneEvent p.seen p.t event note more [] after new → LeadsTo document last (next_point p event note more after new)
-        → AreBrought parts p.notes p.items p.t.machine more
-    brought p event note more after new here one leads connection frame served is at ordinary kept call brings marks =
+    brought : (p : Point) (event : Event) (note : Note) (more : List Served) (after : Seen) (new : Traced) → IsPoint document p → OneEvent p.seen p.t event note more [] after new
+        → IsPoint document (next_point p event note more after new) → LeadsTo document last (next_point p event note more after new) → AreBrought parts p.notes p.items p.t.machine more
+    brought p event note more after new here one point leads connection frame served is at ordinary kept call brings marks =
         marked p served kept here (record {
           event = event;
           note = note;
           after = after;
           new = new;
           happens = subst (λ (items : List Served). OneEvent p.seen p.t event note items [] after new) is one;
+          point = subst (λ (items : List Served). IsPoint document (next_point p event note items after new)) is point;
           leads = subst (λ (items : List Served). LeadsTo document last (next_point p event note items after new)) is leads;
           number = connection;
           front = frame;
@@ -137,7 +138,7 @@ module _ (document : Document) (last : Point) (calls : IsTrue (all_requests_righ
         let grown = (grow document p.events p.notes p.items more p.seen after p.t new event note here one).seen in
         let told : OneTold parts all document.schedule p.notes p.items note more others left front one.happened =
         does_tell parts all document.schedule p.notes p.items others left p.t.machine count.events count.ticks (subst (λ (n : ℕ). AreLater n left) push (all_later next leads point)) front p.t.setting event note more new.machine one.happened follows
-        (by_note p.t.setting p.t.machine new.machine more event note one.happened one.follows one.did) comes grown fits.0 (brought p event note more after new here one leads) (unblocked document next.events next.notes next.items after new calls point) in
+        (by_note p.t.setting p.t.machine new.machine more event note one.happened one.follows one.did) comes grown fits.0 (brought p event note more after new here one point leads) (unblocked document next.events next.notes next.items after new calls point) in
         let rest : Tells document last parts all next leads told.next =
         tells_all next leads point told.next (subst (λ (n : ℕ). Comes told.next (front_told document.schedule next.notes next.items others) n) (sym push) told.comes)
         (subst (λ (schedule : List Event). FitsSchedule schedule (events_left document last next leads)) (one_further p.notes note document.schedule) fits.1) in

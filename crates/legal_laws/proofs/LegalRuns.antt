@@ -1,13 +1,12 @@
 -- What the report of a whole run tells of its service is legal, and drew nothing anew twice.
-use Rattle.std.proofs.Common.{◌≡◌, refl, sym, ap, subst, ◌∙◌, append_assoc, ℕ, ◌+◌, true, false, List, [], ◌∷◌, ◌++◌, map}
+use Rattle.std.proofs.Common.{◌≡◌, refl, sym, ap, subst, ◌∙◌, ℕ, ◌+◌, true, List, [], ◌∷◌, ◌++◌, map}
 use Rattle.std.specs.Prelude.{IsTrue}
-use Rattle.std.proofs.lemmas.Bool.{and_from, or_left, or_right}
+use Rattle.std.proofs.lemmas.Bool.{and_from}
 use Rattle.svc_values.specs.declared.entry.Entry.{Entry}
 use Rattle.svc_values.specs.declared.entry.Ltxid.{Ltxid}
 use Rattle.svc_values.specs.declared.frame.Down.TheVariants as down
 use Rattle.outage_schedule.specs.declared.document.Document.{Document}
 use Rattle.outage_schedule.specs.declared.event.Event.{Event}
-use Rattle.outage_schedule.specs.declared.item.Served.{Served}
 use Rattle.outage_schedule.specs.declared.note.Note.{Note}
 use Rattle.outage_schedule.specs.declared.report.Report.{Report}
 use Rattle.run_clauses.specs.Moments.{moments_of_notes, in_order}
@@ -20,7 +19,7 @@ use Rattle.server_model.specs.Legal.{legal}
 use Rattle.server_model.specs.Outcomes.{Telling, Silent, Says, Stopped}
 use Rattle.server_model.specs.Runs.{Happened, Served as ServedFrame, Asked, Server}
 use Rattle.server_model.specs.Seen.{Seen}
-use Rattle.shown_clauses.specs.KeptDraws.{parts, is_marked_item, has_marked}
+use Rattle.shown_clauses.specs.KeptDraws.{parts}
 use Rattle.shown_clauses.specs.Legal.{legal_of, fresh_new_of}
 use Rattle.shown_clauses.specs.LegalItems.{items_from, items_of, outsides_fit}
 use Rattle.shown_clauses.specs.Places.{first_front, reach}
@@ -35,8 +34,8 @@ use Rattle.shown_laws.specs.Growth.{RunsAreCounted, RunsGrow}
 use Rattle.shown_laws.specs.Unblocked.{serve_unblocked}
 use Rattle.shown_laws.proofs.Offered.{reached_coupled}
 use Rattle.legal_laws.specs.MarksTold.{TellsMarked, ReportsTellMarked, end_of}
-use Rattle.legal_laws.specs.Points.{Point, next_point, IsThere}
-use Rattle.legal_laws.specs.ToldLegal.{RunsAreLegalTold, RunsAreFreshNewTold, UnmarkedReportsAreLegal}
+use Rattle.legal_laws.specs.Points.{Point, IsThere}
+use Rattle.legal_laws.specs.ToldLegal.{RunsAreLegalTold, RunsAreFreshNewTold}
 use Rattle.legal_laws.proofs.BareItems.{bare, bare_items, legal_bare, fresh_bare}
 use Rattle.legal_laws.proofs.EventsTold.{bare_of}
 use Rattle.legal_laws.proofs.FinishPoints.{IsPastSchedule, past_schedule, FitsSchedule, fits_schedule}
@@ -58,11 +57,6 @@ history_alike event (ServedFrame session now frame told ∷ more) = ap (λ (item
 history_alike event (Asked x told ∷ more) =
     ap (λ (item : Item). item ∷ bare_items (items_in (event + 1) more)) (asked_alike event x told)
     ∙ ap (λ (items : List Item). bare_of (Asked x told) ∷ items) (history_alike (event + 1) more)
-
--- the item among these
-among : (before : List Served) (one : Served) (behind : List Served) → is_marked_item one.item ≡ true → has_marked (before ++ one ∷ behind) ≡ true
-among [] one behind is = or_left (is_marked_item one.item) (has_marked behind) is
-among (first ∷ before) one behind is = or_right (is_marked_item first.item) (has_marked (before ++ one ∷ behind)) (among before one behind is)
 
 -- A REPORT ----------------------------------------------------------------------------------------
 
@@ -143,15 +137,3 @@ module _ (counted : RunsAreCounted) (grow : RunsGrow) (unblocked : HoldsInRuns s
 
   pub fresh_told : RunsFreshNew → ReportsTellMarked → RunsAreFreshNewTold
   fresh_told law marked document report seen t server calls is = fresh_report document report seen t server calls is (λ events. marked document report seen t server events calls is) law
-
-  -- of one in which no call with the mark was served
-  none_marked : (document : Document) (report : Report) (seen : Seen) (t : Traced) → has_marked report.served ≡ false → IsTold document report seen t
-  none_marked document report seen t none events p served kept here serves =
-      let last : Point = end_of events report seen t in
-      let next : Point = next_point p serves.event serves.note (served ∷ []) serves.after serves.new in
-      let any : has_marked report.served ≡ true = ap has_marked (items_joined document last next serves.leads ∙ append_assoc p.items (served ∷ []) (items_left document last next serves.leads)) ∙ among p.items served (items_left document last next serves.leads) serves.marked in
-      absurd (let never : ⊥ = cc in never)
-
-  pub unmarked_told : RunsLegal → RunsFreshNew → UnmarkedReportsAreLegal
-  unmarked_told law fresh document report seen t server calls is none =
-      (legal_report document report seen t server calls is (none_marked document report seen t none) law, fresh_report document report seen t server calls is (none_marked document report seen t none) fresh)

@@ -8,5 +8,9 @@ pub mod ItemsTold
 pub mod LegalRuns
 pub mod MarksBrought
 pub mod MomentsOrder
+pub mod ReplaysLead
+pub mod ReplaysPlaced
+pub mod ReplaysServed
+pub mod ReplaysShown
 pub mod SettingsSame
 pub mod ThingsTold

@@ -30,12 +30,12 @@ use Rattle.legal_laws.proofs.CallsSince.{since_place}
 
 -- LISTS -------------------------------------------------------------------------------------------
 
-one_of : {A : Type 0} (test : A → Bool) (xs : List A) (index : ℕ) (x : A) → list_all test xs ≡ true → slice_get xs index ≡ Some x → test x ≡ true
+pub one_of : {A : Type 0} (test : A → Bool) (xs : List A) (index : ℕ) (x : A) → list_all test xs ≡ true → slice_get xs index ≡ Some x → test x ≡ true
 one_of test [] index x all is = absurd (let none : ⊥ = cc in none)
 one_of test (first ∷ xs) zero x all is = let same : first ≡ x = cc in subst (λ y. test y ≡ true) same (and_parts (test first) (list_all test xs) all).0
 one_of test (first ∷ xs) (suc index) x all is = one_of test xs index x (and_parts (test first) (list_all test xs) all).1 is
 
-there_in : (front : List Sent) (sent : Sent) (rest : List Sent) → slice_get (front ++ sent ∷ rest) (length front) ≡ Some sent
+pub there_in : (front : List Sent) (sent : Sent) (rest : List Sent) → slice_get (front ++ sent ∷ rest) (length front) ≡ Some sent
 there_in [] sent rest = refl
 there_in (first ∷ front) sent rest = there_in front sent rest
 
@@ -63,11 +63,11 @@ marks_told keeps repeats told document report seen t server events calls is p se
         let tells : TellsReplay (parts document report) p served serves.number by.course by.front = replay.tells in
         let frame : by.sent.frame ≡ up.Call true kept serves.call = by.same ∙ serves.brings in
         let repeat : IsRepeat p.t.setting.terms by.course serves.number by.front by.sent = order by (ap is_marked frame) in
-        let shown : List ShownCall = shown_at p.t.setting.terms by.course.request tells.before in
-        let opening : Some repeat.before ≡ Some tells.before = sym repeat.opened ∙ tells.opened in
-        let same : repeat.before ≡ tells.before = cc in
-        let place : repeat.place ≡ place_in tells.turn = let long = repeat.long in let many = tells.as_many in omega (arith, long, many) in
-        let index : by.sent.call ≡ recorded_from shown + place_in tells.turn =
+        let shown : List ShownCall = shown_at p.t.setting.terms by.course.request tells.shows.before in
+        let opening : Some repeat.before ≡ Some tells.shows.before = sym repeat.opened ∙ tells.shows.opened in
+        let same : repeat.before ≡ tells.shows.before = cc in
+        let place : repeat.place ≡ place_in tells.place.turn = let long = repeat.long in let many = tells.place.as_many in omega (arith, long, many) in
+        let index : by.sent.call ≡ recorded_from shown + place_in tells.place.turn =
         repeat.index ∙ (ap (λ (b : List Step). recorded_from (shown_at p.t.setting.terms by.course.request b) + repeat.place) same ∙ ap (λ (n : ℕ). recorded_from shown + n) place) in
         let within : by.sent.call < length shown = subst (λ (b : List Step). by.sent.call < length (shown_at p.t.setting.terms by.course.request b)) same repeat.within in
         let carried : implies (owned_by by.course.owner by.sent) (has_shown_draws by.course by.sent.call by.sent.frame) ≡ true =
@@ -76,15 +76,15 @@ marks_told keeps repeats told document report seen t server events calls is p se
         (ap (λ (sents : List Sent). slice_get sents (length by.front)) by.among ∙ there_in by.front by.sent by.rest) in
         let carries : has_shown_draws by.course by.sent.call (up.Call true kept serves.call) ≡ true =
         ap (has_shown_draws by.course by.sent.call) (sym frame) ∙ subst (λ (mine : Bool). implies mine (has_shown_draws by.course by.sent.call by.sent.frame) ≡ true) by.owned carried in
-        let draws : option_map_or (λ (s : ShownCall). s.draws) (slice_get shown (recorded_from shown + place_in tells.turn)) [] ≡ kept =
+        let draws : option_map_or (λ (s : ShownCall). s.draws) (slice_get shown (recorded_from shown + place_in tells.place.turn)) [] ≡ kept =
         ap (λ (n : ℕ). option_map_or (λ (s : ShownCall). s.draws) (slice_get shown n) []) (sym index)
-        ∙ (ap (λ (found : Option ShownCall). option_map_or (λ (s : ShownCall). s.draws) found []) (sym (ap (λ (all : List ShownCall). slice_get all by.sent.call) tells.so_far ∙ in_first shown tells.more by.sent.call within))
+        ∙ (ap (λ (found : Option ShownCall). option_map_or (λ (s : ShownCall). s.draws) found []) (sym (ap (λ (all : List ShownCall). slice_get all by.sent.call) tells.shows.so_far ∙ in_first shown tells.shows.more by.sent.call within))
         ∙ drew kept (slice_get by.course.report.calls by.sent.call) carries) in
-        ap (λ (found : Option SeenLink). option_map_or (kept_on_link (parts document report)) found []) tells.found
-        ∙ ap (λ (found : Option Turn). option_map_or (kept_in_turn (parts document report)) found []) tells.has
-        ∙ ap (λ (found : Option Acquired). option_map_or (kept_since (parts document report) (place_in tells.turn)) found []) tells.acquires
-        ∙ ap (λ (found : Option Part). option_map_or (draws_shown tells.acquired.event (place_in tells.turn)) found []) tells.its
-        ∙ ap (λ (all : List ShownCall). option_map_or (λ (s : ShownCall). s.draws) (slice_get (shown_since (shown_before tells.part.steps tells.acquired.event) [] all) (place_in tells.turn)) []) tells.report
-        ∙ ap (λ (n : ℕ). option_map_or (λ (s : ShownCall). s.draws) (slice_get (shown_since n [] (shown ++ tells.later)) (place_in tells.turn)) []) tells.shown
-        ∙ ap (λ (found : Option ShownCall). option_map_or (λ (s : ShownCall). s.draws) found []) (since_place shown tells.later (place_in tells.turn))
+        ap (λ (found : Option SeenLink). option_map_or (kept_on_link (parts document report)) found []) tells.place.found
+        ∙ ap (λ (found : Option Turn). option_map_or (kept_in_turn (parts document report)) found []) tells.place.has
+        ∙ ap (λ (found : Option Acquired). option_map_or (kept_since (parts document report) (place_in tells.place.turn)) found []) tells.shows.acquires
+        ∙ ap (λ (found : Option Part). option_map_or (draws_shown tells.shows.acquired.event (place_in tells.place.turn)) found []) tells.shows.its
+        ∙ ap (λ (all : List ShownCall). option_map_or (λ (s : ShownCall). s.draws) (slice_get (shown_since (shown_before tells.shows.part.steps tells.shows.acquired.event) [] all) (place_in tells.place.turn)) []) tells.shows.report
+        ∙ ap (λ (n : ℕ). option_map_or (λ (s : ShownCall). s.draws) (slice_get (shown_since n [] (shown ++ tells.shows.later)) (place_in tells.place.turn)) []) tells.shows.shown
+        ∙ ap (λ (found : Option ShownCall). option_map_or (λ (s : ShownCall). s.draws) found []) (since_place shown tells.shows.later (place_in tells.place.turn))
         ∙ draws

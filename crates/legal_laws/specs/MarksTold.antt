@@ -27,6 +27,7 @@ pub record ServesMarked (document : Document) (last p : Point) (served : Served)
   pub after : Seen
   pub new : Traced
   pub happens : OneEvent p.seen p.t event note (served ∷ []) [] after new
+  pub point : IsPoint document (next_point p event note (served ∷ []) after new)
   pub leads : LeadsTo document last (next_point p event note (served ∷ []) after new)
   pub number : ℕ
   pub front : Front

@@ -10,10 +10,10 @@ use Rattle.outage_schedule.specs.declared.request.ShownCall.{ShownCall}
 use Rattle.server_model.specs.Runs.{Server}
 use Rattle.server_model.specs.Seen.{Seen}
 use Rattle.shown_clauses.specs.KeptDraws.{parts, shown_before, acquired_by, place_in}
-use Rattle.shown_clauses.specs.Links.{Acquired, Link as SeenLink, Turn, link_of_session}
+use Rattle.shown_clauses.specs.Links.{Acquired, Link as SeenLink, Turn, link_of, link_of_session}
 use Rattle.shown_clauses.specs.Parts.{Part}
-use Rattle.world_model.specs.Clients.{Step}
-use Rattle.world_model.specs.Frames.{Sent}
+use Rattle.world_model.specs.Clients.{Step, Client}
+use Rattle.world_model.specs.Frames.{Owner, Sent}
 use Rattle.world_model.specs.Links.{Link, link_at}
 use Rattle.world_model.specs.Ready.{all_requests_right}
 use Rattle.world_model.specs.Replayed.{shown_at, before_opening}
@@ -22,6 +22,7 @@ use Rattle.world_model.specs.Sames.{owned_by}
 use Rattle.world_model.specs.Traced.{Traced, Course, courses_of}
 use Rattle.world_model.specs.Words.{held_in}
 use Rattle.shown_laws.specs.Telling.{seen_told}
+use Rattle.shown_laws.specs.TurnOwners.{IsStepOf}
 use Rattle.legal_laws.specs.MarksTold.{ServesMarked, end_of}
 use Rattle.legal_laws.specs.Points.{Point, IsPoint}
 
@@ -40,14 +41,17 @@ pub record IsSentBy (p : Point) (number : ℕ) (first : Sent) : Type 0 where
   pub same : sent.frame ≡ first.frame
   pub owned : IsTrue (owned_by course.owner sent)
 
--- The turn that is told of its session has as many calls with the mark as were sent before it. The request that acquired the session is told as the one that
--- sent it, and as shown as many calls before as it was before it opened the connection, the same ones.
-pub record TellsReplay (parts : List Part) (p : Point) (served : Served) (number : ℕ) (course : Course) (front : List Sent) : Type 0 where
+-- The turn that is told of its session has as many calls with the mark as were sent before it.
+pub record TellsPlace (p : Point) (served : Served) (front : List Sent) : Type 0 where
   pub one : SeenLink
   pub found : link_of_session served.session (seen_told p.notes p.items).links ≡ Some one
   pub turn : Turn
   pub has : one.turn ≡ Some turn
   pub as_many : length front ≡ place_in turn + 3
+
+-- The request that acquired the session of the turn is told as the one that sent it, and as shown as many calls before as it was before it opened the
+-- connection, the same ones.
+pub record TellsShown (parts : List Part) (p : Point) (number : ℕ) (course : Course) (turn : Turn) : Type 0 where
   pub acquired : Acquired
   pub acquires : turn.acquired ≡ Some acquired
   pub part : Part
@@ -60,9 +64,41 @@ pub record TellsReplay (parts : List Part) (p : Point) (served : Served) (number
   pub later : List ShownCall
   pub report : part.submission.copy.calls ≡ shown_at p.t.setting.terms course.request before ++ later
 
+-- both
+pub record TellsReplay (parts : List Part) (p : Point) (served : Served) (number : ℕ) (course : Course) (front : List Sent) : Type 0 where
+  pub place : TellsPlace p served front
+  pub shows : TellsShown parts p number course place.turn
+
 pub record ReplayTold (parts : List Part) (p : Point) (served : Served) (number : ℕ) (first : Sent) : Type 0 where
   pub by : IsSentBy p number first
   pub tells : TellsReplay parts p served number by.course by.front
+
+-- A turn whose session was acquired by a step of this request.
+pub record IsAcquired (clients : List Client) (turn : Turn) (owner : Owner) : Type 0 where
+  pub acquired : Acquired
+  pub acquires : turn.acquired ≡ Some acquired
+  pub did : IsStepOf clients owner acquired
+
+-- whose it is, its place in the turn, and that the turn is of this request
+pub record IsPlaced (p : Point) (served : Served) (number : ℕ) (first : Sent) : Type 0 where
+  pub by : IsSentBy p number first
+  pub place : TellsPlace p served by.front
+  pub told : link_of number (seen_told p.notes p.items).links ≡ Some place.one
+  pub acquirer : IsAcquired p.t.machine.clients place.turn by.course.owner
+
+-- so it is of each call with the mark that is served in a run
+abbrev pub ReplaysArePlaced : Type 0
+ReplaysArePlaced =
+    (document : Document) (last : Point) → IsTrue (all_requests_right document)
+    → (p : Point) (served : Served) (kept : List Draw) → IsPoint document p → (serves : ServesMarked document last p served kept) → IsPlaced p served serves.number serves.front.first
+
+-- The request is told as it is of each call with the mark that is served in a whole run, whose place is told.
+abbrev pub ReportsShowReplays : Type 0
+ReportsShowReplays =
+    (document : Document) (report : Report) (seen : Seen) (t : Traced) (server : Server) (events : List Event)
+    → IsTrue (all_requests_right document) → IsReported document report seen t server
+    → (p : Point) (served : Served) (kept : List Draw) → IsPoint document p → (serves : ServesMarked document (end_of events report seen t) p served kept)
+    → (placed : IsPlaced p served serves.number serves.front.first) → TellsShown (parts document report) p serves.number placed.by.course placed.place.turn
 
 -- so it is of each call with the mark that is served in a whole run
 abbrev pub ReportsTellReplays : Type 0

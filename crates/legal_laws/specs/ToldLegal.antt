@@ -1,10 +1,9 @@
 -- What the report of a whole run tells of its service is legal, read off the report alone.
-use Rattle.std.specs.Prelude.{◌≡◌, false, IsTrue}
+use Rattle.std.specs.Prelude.{IsTrue}
 use Rattle.outage_schedule.specs.declared.document.Document.{Document}
 use Rattle.outage_schedule.specs.declared.report.Report.{Report}
 use Rattle.server_model.specs.Runs.{Server}
 use Rattle.server_model.specs.Seen.{Seen}
-use Rattle.shown_clauses.specs.KeptDraws.{has_marked}
 use Rattle.shown_clauses.specs.Legal.{legal_of, fresh_new_of}
 use Rattle.world_model.specs.Ready.{all_requests_right}
 use Rattle.world_model.specs.Reported.{IsReported}
@@ -17,9 +16,3 @@ RunsAreLegalTold = (document : Document) (report : Report) (seen : Seen) (t : Tr
 -- no value that was drawn anew was drawn twice
 abbrev pub RunsAreFreshNewTold : Type 0
 RunsAreFreshNewTold = (document : Document) (report : Report) (seen : Seen) (t : Traced) (server : Server) → IsTrue (all_requests_right document) → IsReported document report seen t server → IsTrue (fresh_new_of document report)
-
--- Both hold of a run that served no call with the mark.
-abbrev pub UnmarkedReportsAreLegal : Type 0
-UnmarkedReportsAreLegal =
-    (document : Document) (report : Report) (seen : Seen) (t : Traced) (server : Server) → IsTrue (all_requests_right document) → IsReported document report seen t server → has_marked report.served ≡ false
-    → IsTrue (legal_of document report) × IsTrue (fresh_new_of document report)

@@ -70,12 +70,12 @@ brief_ends : KeptByEnds brief
 brief_ends event one = refl
 
 -- no item changes by whom a connection was acquired, and a new one was acquired by nobody
-linked_kept : (number : ℕ) (noted : Note) (links : List Link) (one : Served) → told_acquired number (linked noted links one) ≡ told_acquired number links
+pub linked_kept : (number : ℕ) (noted : Note) (links : List Link) (one : Served) → told_acquired number (linked noted links one) ≡ told_acquired number links
 linked_kept number (note.Serve connection (Some frame)) links one = items_served acquirer (λ reply link. refl) (λ other session replies. refl) number connection one one.item links
 linked_kept number (note.Crash connection false) links one = items_stopped acquirer (λ other session replies. refl) number connection one one.item links
 linked_kept number noted links one = refl
 
-item_kept : (number event : ℕ) (noted : Note) (seen : Seen) (one : Served) → told_acquired number (after_item event noted seen one).links ≡ told_acquired number seen.links
+pub item_kept : (number event : ℕ) (noted : Note) (seen : Seen) (one : Served) → told_acquired number (after_item event noted seen one).links ≡ told_acquired number seen.links
 item_kept number event noted seen one =
     let links : List Link = linked noted seen.links one in
     same_told number links (end_session event one.session one.item (in_turn one.session one.item links)) (session_ended brief brief_ends number event one.session one.item (in_turn one.session one.item links) ∙ turn_kept number one.session one.item links)
@@ -193,7 +193,7 @@ module _ (number event tick client : ℕ) (seen : Seen) (items : List Served) (l
 
 -- EVENTS ------------------------------------------------------------------------------------------
 
-happens : (number : ℕ) (seen : Seen) (event tick : ℕ) (noted : Note) (items : List Served)
+pub happens : (number : ℕ) (seen : Seen) (event tick : ℕ) (noted : Note) (items : List Served)
     → told_acquired number (after_happening seen (record { event = event; tick = tick; noted = noted; items = items })).links ≡ acquired_after number (told_acquired number seen.links) (steps_at seen (record { event = event; tick = tick; noted = noted; items = items }) noted)
 happens number seen event tick (note.Go client did) items =
     goes number event tick client seen items (fold (after_item event (note.Go client did)) seen items).links (λ other. go_items other event client did seen items) did

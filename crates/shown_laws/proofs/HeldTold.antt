@@ -97,7 +97,7 @@ one_among one number there = by (or_cases (one == number) false there)
 none_among : (number : ℕ) → Among number [] → ⊥
 none_among number there = let none : ⊥ = cc in none
 
-gone_held : (t : Traced) (doing : Doing) (number : ℕ) {link : _} {frame : _} (more : List Step) → GoneBehind t doing link frame more → held_in more ≡ []
+pub gone_held : (t : Traced) (doing : Doing) (number : ℕ) {link : _} {frame : _} (more : List Step) → GoneBehind t doing link frame more → held_in more ≡ []
 gone_held t doing number _ (GoesOn opens) = refl
 gone_held t doing number _ (IsOver shut over) = refl
 gone_held t doing number _ (IsGone shut keeps) = refl
@@ -113,7 +113,7 @@ kind_held t client place doing step _ number (HasTaken connection sent link fram
     absurd (none_among number (subst (Among number) (gone_held t doing number more gone) there))
 kind_held t client place doing step _ number (HasLost connection link did has here shut bare) there = absurd (none_among number there)
 
-began_held : (t : Traced) (doing : Doing) {own : _} (steps began : List Step) → Begins t own doing steps began → held_in began ≡ []
+pub began_held : (t : Traced) (doing : Doing) {own : _} (steps began : List Step) → Begins t own doing steps began → held_in began ≡ []
 began_held t doing steps _ (WasThere now) = refl
 began_held t doing _ _ (BeginsNow request now next same) = refl
 

@@ -1,5 +1,6 @@
 pub mod AccountRead
 pub mod AcquiredTold
+pub mod AcquirersTold
 pub mod ActsShown
 pub mod ActsTold
 pub mod AllTurnsRight
@@ -31,9 +32,12 @@ pub mod Following
 pub mod FrameAnswered
 pub mod GoNotes
 pub mod GoesTold
+pub mod GreetedSince
 pub mod HappeningsGrow
+pub mod HeldOnce
 pub mod HeldTold
 pub mod HeldTurns
+pub mod HelloOpening
 pub mod IdentifiersHold
 pub mod IdentifiersTold
 pub mod ItemsTold
@@ -54,6 +58,7 @@ pub mod OwnSessions
 pub mod OwnShown
 pub mod OwnTurns
 pub mod OwnersTold
+pub mod PartFirst
 pub mod PartTurns
 pub mod PartsCut
 pub mod PartsHold
@@ -67,6 +72,7 @@ pub mod ReportsOrdered
 pub mod ReportsTold
 pub mod ReportsTurns
 pub mod RequestsAdd
+pub mod RequestsGrow
 pub mod RowTurns
 pub mod RunsGrow
 pub mod SaidStays
@@ -80,11 +86,13 @@ pub mod SessionsApart
 pub mod SessionsReached
 pub mod SessionsTied
 pub mod ShowingsHold
+pub mod ShownBefore
 pub mod ShownOnSessions
 pub mod ShownUnder
 pub mod Single
 pub mod Standing
 pub mod StepsAdd
+pub mod StepsAmong
 pub mod StepsHeard
 pub mod StepsIdentified
 pub mod StepsOwned
@@ -100,6 +108,7 @@ pub mod TookTold
 pub mod TriedKept
 pub mod TriedLists
 pub mod TurnBriefs
+pub mod TurnHeard
 pub mod TurnOwner
 pub mod TurnSent
 pub mod TurnsBegun

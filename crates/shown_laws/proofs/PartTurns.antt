@@ -182,7 +182,7 @@ module _ (setting : Setting) (clients : List Client) (client : ℕ) (own : Clien
 -- PARTS -------------------------------------------------------------------------------------------
 
 -- each part has the steps that come next
-data Segments : List Part → List StepTold → Type 0 where
+pub data Segments : List Part → List StepTold → Type 0 where
   NoSegments : (steps : List StepTold) → Segments [] steps
   OneSegment : (part : Part) (parts : List Part) (steps rest : List StepTold) → steps ≡ part.steps ++ rest → Segments parts rest → Segments (part ∷ parts) steps
 
@@ -201,7 +201,7 @@ upto_then (suc count) (step ∷ steps) = by (acquires step) (upto_then count ste
     by true less same = ap (λ (l : List StepTold). step ∷ l) less
     by false less same = ap (λ (l : List StepTold). step ∷ l) same
 
-cut_segments : (submissions : List Submission) (steps : List StepTold) → Segments (cut submissions steps) steps
+pub cut_segments : (submissions : List Submission) (steps : List StepTold) → Segments (cut submissions steps) steps
 cut_segments [] steps = NoSegments steps
 cut_segments (one ∷ submissions) steps =
     OneSegment (record { submission = one; steps = upto (length one.copy.sessions) steps }) (cut submissions (from (length one.copy.sessions) steps)) steps (from (length one.copy.sessions) steps)

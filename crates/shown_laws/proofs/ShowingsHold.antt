@@ -84,7 +84,7 @@ outcomes_taken stands tell = finishes_hold stands tell has_its_outcomes outcomes
 
 -- SHOWINGS ----------------------------------------------------------------------------------------
 
-as_many : (shown : List Shown) (items : List Served) → AreShownBy shown items → length (map shown_call shown) ≡ length items
+pub as_many : (shown : List Shown) (items : List Served) → AreShownBy shown items → length (map shown_call shown) ≡ length items
 as_many _ _ NoneShown = refl
 as_many _ _ (OneShown shown served more items is rest) = ap suc (as_many more items rest)
 

@@ -20,12 +20,12 @@ use Rattle.shown_laws.proofs.StepsTold.{StepTells, TellsNone, TellsOne, Acts}
 
 -- LISTS -------------------------------------------------------------------------------------------
 
-get_front : {A : Type 0} (xs ys : List A) (index : ℕ) (x : A) → slice_get xs index ≡ Some x → slice_get (xs ++ ys) index ≡ Some x
+pub get_front : {A : Type 0} (xs ys : List A) (index : ℕ) (x : A) → slice_get xs index ≡ Some x → slice_get (xs ++ ys) index ≡ Some x
 get_front [] ys index x is = absurd (let none : ⊥ = cc in none)
 get_front (first ∷ xs) ys zero x is = is
 get_front (first ∷ xs) ys (suc index) x is = get_front xs ys index x is
 
-get_last : {A : Type 0} (xs : List A) (x : A) → slice_get (xs ++ x ∷ []) (length xs) ≡ Some x
+pub get_last : {A : Type 0} (xs : List A) (x : A) → slice_get (xs ++ x ∷ []) (length xs) ≡ Some x
 get_last [] x = refl
 get_last (first ∷ xs) x = get_last xs x
 

@@ -60,11 +60,13 @@ filter_rise test (step ∷ steps) rise = by (test step) (filter_rise test steps 
     by true rest = (filter_after step.event test steps rise.0, rest)
     by false rest = rest
 
--- so are those of one client
+-- of all clients
+pub all_rise : (notes : List Note) (items : List Served) → Rise (steps_told notes items)
+all_rise notes items = let first : 0 < 1 = omega arith in (from_rise 0 1 0 nothing_seen notes items first).0
+
+-- and of each
 pub told_rise : (notes : List Note) (items : List Served) (client : ℕ) → Rise (steps_of client (steps_told notes items))
-told_rise notes items client =
-    let first : 0 < 1 = omega arith in
-    filter_rise (λ step. step.client == client) (steps_told notes items) (from_rise 0 1 0 nothing_seen notes items first).0
+told_rise notes items client = filter_rise (λ step. step.client == client) (steps_told notes items) (all_rise notes items)
 
 -- WHERE AN EVENT IS -------------------------------------------------------------------------------
 

@@ -11,6 +11,7 @@ pub mod Identified
 pub mod OwnTurns
 pub mod PartsTold
 pub mod ReportsTold
+pub mod RequestsGrow
 pub mod ServedSent
 pub mod ShowingsTold
 pub mod Submitted

@@ -6,6 +6,7 @@ ghost use Rattle.shown_laws.specs.ConnectionLaws.{RunsTellConnections, FinishesT
 ghost use Rattle.shown_laws.specs.Growth.{RunsAreCounted, RunsGrow, FinishesAreCounted, FinishesGrow};
 ghost use Rattle.shown_laws.specs.Identified.{CallsAreIdentified};
 ghost use Rattle.shown_laws.specs.TurnsServed.{RunsTellTurns, FinishesTellTurns};
+ghost use Rattle.shown_laws.specs.RequestsGrow.{RequestsGrow};
 ghost use Rattle.shown_laws.specs.Tellings.{RunsTellSteps, FinishesTellSteps};
 
 /// There are as many events as notes, and as many ticks as are among them. One event more is told behind all others, with its number, its tick,
@@ -41,6 +42,13 @@ pub fn held_connections_stay_unclosed()
 pub fn steps_are_told()
     ensures reached { RunsTellSteps }
     ensures finishing { FinishesTellSteps }
+{
+    world_model::kept_laws::runs_keep_invariant();
+}
+
+/// What a request did stays in front of its steps, event by event: it goes on, or it is over with them.
+pub fn requests_go_on()
+    ensures { RequestsGrow }
 {
     world_model::kept_laws::runs_keep_invariant();
 }
