@@ -188,6 +188,7 @@ module _ (document : Document) (ran : Ran Within) (before : Before) (report : Re
     followed_so = laws.followed document report has.seen has.traced is_run (off.clients ∙ has.clients);
     serial = serial_of laws.serial;
     legal = laws.legal document report has.seen has.traced gained.server reported;
+    legal_so = laws.legal_told document report has.seen has.traced gained.server calls reported;
     fresh_new = laws.fresh_new document report has.seen has.traced gained.server reported;
     fresh = laws.fresh document report has.seen has.traced gained.server calls reported;
     once_so = laws.once document report has.seen has.traced gained.server calls reported;

@@ -12,6 +12,7 @@ use Rattle.run_clauses.specs.Same.{same}
 use Rattle.run_clauses.specs.Serial.{IsSerial, printed_tables}
 use Rattle.run_clauses.specs.Stored.{stored}
 use Rattle.shown_clauses.specs.Caused.{caused}
+use Rattle.shown_clauses.specs.Legal.{legal_of}
 use Rattle.shown_clauses.specs.Whole.{whole}
 use Rattle.world_model.specs.Followed.{followed}
 use Rattle.world_model.specs.Judged.{is_legal, is_fresh_new}
@@ -40,6 +41,8 @@ pub record Headline (document : Document) (report : Report) : Type 0 where
   pub serial : IsSerial document report
   -- what was served is legal
   pub legal : IsTrue (is_legal document report)
+  -- so it is by what the report alone tells
+  pub legal_so : IsTrue (legal_of document report)
   -- and no value was drawn anew twice
   pub fresh_new : IsTrue (is_fresh_new document report)
   -- nor stands one twice among what the entries drew

@@ -1,4 +1,5 @@
 -- What is proved of whole runs and of their reports, before any is made.
+use Rattle.legal_laws.specs.ToldLegal.{RunsAreLegalTold}
 use Rattle.server_model.specs.Laws.{RunsSerial}
 use Rattle.shown_laws.specs.CausedRuns.{RunsAreCaused}
 use Rattle.shown_laws.specs.WholeRuns.{RunsAreWhole}
@@ -11,6 +12,7 @@ pub record RunsHold : Type 0 where
   pub followed : RunsAreFollowed
   pub serial : RunsSerial
   pub legal : RunsAreLegal
+  pub legal_told : RunsAreLegalTold
   pub fresh_new : RunsAreFreshNew
   pub fresh : RunsAreFresh
   pub once : ReportsAreOnce

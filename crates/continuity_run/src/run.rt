@@ -12,6 +12,7 @@ ghost use Rattle.continuity_run.specs.Runs.{HasRun, IsRunOf, IsRunOfSome};
 use crate::reporting::report_of;
 use crate::store::{Store, store_of};
 use auto_bounds::AutoRule;
+use legal_laws::laws::runs_are_legal_told;
 use mutable_values::Grants;
 use outage_schedule::{Client, Consistency, Document, Event, Failover, KeepOf, Report, ServiceOf};
 use request_bounds::{BoundRule, DynamicRule, OffRule, StaticRule};
@@ -99,6 +100,7 @@ fn runs_hold()
     runs_are_followed();
     runs_serial();
     runs_are_legal();
+    runs_are_legal_told();
     runs_are_fresh_new();
     runs_are_fresh();
     reports_are_once();

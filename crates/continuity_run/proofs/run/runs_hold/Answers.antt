@@ -5,6 +5,7 @@ returns c = record {
   followed = c.runs_are_followed.ensures;
   serial = c.runs_serial.ensures;
   legal = c.runs_are_legal.ensures;
+  legal_told = c.runs_are_legal_told.ensures.legal;
   fresh_new = c.runs_are_fresh_new.ensures;
   fresh = c.runs_are_fresh.ensures;
   once = c.reports_are_once.ensures;
