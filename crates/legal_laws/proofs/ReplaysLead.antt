@@ -9,14 +9,15 @@ use Rattle.shown_clauses.specs.KeptDraws.{has_marked, is_marked_item}
 use Rattle.world_model.specs.Clients.{Step}
 use Rattle.world_model.specs.Frames.{Owner}
 use Rattle.world_model.specs.Ready.{all_requests_right}
-use Rattle.shown_laws.specs.RequestsGrow.{Submitted, IsRequestOf, GoesOnAs, RequestsGrow}
+use Rattle.shown_laws.specs.ByPlace.{RequestSteps, IsRequestOf}
+use Rattle.shown_laws.specs.RequestsGrow.{GoesOnAs, RequestsGrow}
 use Rattle.legal_laws.specs.MarksTold.{ServesMarked}
 use Rattle.legal_laws.specs.Points.{Point, IsPoint, next_point, LeadsTo, IsThere, Onward}
 use Rattle.legal_laws.proofs.ItemsTold.{items_left, items_joined}
 
 module _ (document : Document) (last : Point) where
   -- what a request did at a point stays in front of what it did at the last
-  pub leads_on : IsTrue (all_requests_right document) → RequestsGrow → (p : Point) → LeadsTo document last p → IsPoint document p → (owner : Owner) (one : Submitted) → IsRequestOf p.t.machine.clients owner one → GoesOnAs last.t.machine.clients owner one
+  pub leads_on : IsTrue (all_requests_right document) → RequestsGrow → (p : Point) → LeadsTo document last p → IsPoint document p → (owner : Owner) (one : RequestSteps) → IsRequestOf p.t.machine.clients owner one → GoesOnAs last.t.machine.clients owner one
   leads_on right grow _ IsThere here owner one is =
       record { more = []; is = subst (λ (steps : List Step). IsRequestOf last.t.machine.clients owner (record { request = one.request; steps = steps })) (sym (append-nil one.steps)) is }
   leads_on right grow _ (Onward p event note more after new happens point leads) here owner one is =

@@ -1,15 +1,12 @@
 -- The request that acquired a session is told by its part, which was shown as many calls before that step as the request was before it opened the connection.
-use Rattle.std.proofs.Common.{◌≡◌, ◌≢◌, refl, sym, ap, subst, ◌∙◌, append-nil, Bool, true, false, ℕ, zero, suc, ◌+◌, ◌<◌, ◌&&◌, ◌||◌, length, List, [], ◌∷◌, ◌++◌, map, Option, Some, None, if◌then◌else◌, IsTrue, arith}
+use Rattle.std.proofs.Common.{◌≡◌, refl, sym, ap, subst, ◌∙◌, Bool, true, false, ℕ, zero, suc, ◌+◌, ◌<◌, ◌&&◌, ◌||◌, length, List, [], ◌∷◌, map, Some, None, if◌then◌else◌, IsTrue, arith}
 use Rattle.std.specs.Prelude.{◌==◌, slice_get, is_some, flat_map}
-use Rattle.std.specs.List.{list_any}
-use Rattle.std.specs.Option.{option_map_or}
 use Rattle.std.proofs.lemmas.Bool.{and_parts}
 use Rattle.std.proofs.lemmas.Option.{slice_get_within}
 use Rattle.outage_schedule.specs.declared.document.Client.{Client as Scripted}
 use Rattle.outage_schedule.specs.declared.document.Document.{Document}
 use Rattle.outage_schedule.specs.declared.report.Report.{Report}
 use Rattle.outage_schedule.specs.declared.request.RequestReport.{RequestReport}
-use Rattle.outage_schedule.specs.declared.request.ShownCall.{ShownCall}
 use Rattle.run_clauses.specs.Copies.{copies_by_client}
 use Rattle.server_model.specs.Runs.{Server}
 use Rattle.server_model.specs.Seen.{Seen}
@@ -19,7 +16,7 @@ use Rattle.shown_clauses.specs.Links.{Acquired}
 use Rattle.shown_clauses.specs.Parts.{Part, parts_of}
 use Rattle.shown_clauses.specs.Steps.{Step as StepTold, steps, steps_of}
 use Rattle.shown_clauses.specs.Submissions.{Submission, submissions_of, submissions_by_client}
-use Rattle.world_model.specs.Clients.{Step, Past, Doing, Client, client_at}
+use Rattle.world_model.specs.Clients.{Step, Client, client_at}
 use Rattle.world_model.specs.Conversing.{AreThrough, IsThrough}
 use Rattle.world_model.specs.Frames.{Owner}
 use Rattle.world_model.specs.KeptLaws.{FinishesKeepInvariant}
@@ -29,7 +26,7 @@ use Rattle.world_model.specs.Reported.{IsReported}
 use Rattle.world_model.specs.Traced.{Traced}
 use Rattle.client_model.specs.Terms.{Terms}
 use Rattle.shown_laws.specs.AcquiredTold.{is_on, acquired_by as acquired_on}
-use Rattle.shown_laws.specs.RequestsGrow.{Submitted, over_so, doing_so, requests_by_place, IsRequestOf}
+use Rattle.shown_laws.specs.ByPlace.{RequestSteps, IsRequestOf}
 use Rattle.shown_laws.specs.Submitted.{submission_of}
 use Rattle.shown_laws.specs.Tellings.{steps_in_tellings, TellsClient, FinishesTellSteps}
 use Rattle.shown_laws.specs.TurnOwners.{has_step_at}
@@ -43,10 +40,11 @@ use Rattle.shown_laws.proofs.PartsSplit.{all_told}
 use Rattle.shown_laws.proofs.PartsTold.{parts_told, whole_told}
 use Rattle.shown_laws.proofs.PartTurns.{Segments}
 use Rattle.shown_laws.proofs.ReportsTold.{IsOfRun, of_run, told_run}
+use Rattle.shown_laws.proofs.RequestsOver.{IsOver, is_over, through_at}
 use Rattle.shown_laws.proofs.ShownBefore.{AtStep, at_step, shown_by_then}
 use Rattle.shown_laws.proofs.StepsAmong.{IsAmong, among_met, AnAmong, any_among, one_of_event}
-use Rattle.shown_laws.proofs.SubmissionsTold.{submissions_in, past_submitted}
-use Rattle.shown_laws.proofs.ToldRise.{Rise, is_of, all_rise, told_rise}
+use Rattle.shown_laws.proofs.SubmissionsTold.{past_submitted}
+use Rattle.shown_laws.proofs.ToldRise.{Rise, all_rise, told_rise}
 use Rattle.shown_laws.proofs.TurnHeard.{HeardBy}
 
 -- A STEP THAT ACQUIRED A SESSION ------------------------------------------------------------------
@@ -87,32 +85,17 @@ is_there [] index below = absurd (let none : ⊥ = omega (arith, below) in none)
 is_there (first ∷ scripts) zero below = record { one = first; at = refl }
 is_there (first ∷ scripts) (suc index) below = let less : index < length scripts = omega (arith, below) in let later : IsThere scripts index = is_there scripts index less in record { one = later.one; at = later.at }
 
-record IsOver (past : List Past) (place : ℕ) (one : Submitted) : Type 0 where
-  over : Past
-  at : slice_get past place ≡ Some over
-  same : over_so over ≡ one
-
-is_over : (past : List Past) (place : ℕ) (one : Submitted) → slice_get (map over_so past) place ≡ Some one → IsOver past place one
-is_over [] place one at = absurd (let none : ⊥ = cc in none)
-is_over (first ∷ past) zero one at = record { over = first; at = refl; same = (let same : over_so first ≡ one = cc in same) }
-is_over (first ∷ past) (suc place) one at = let later : IsOver past place one = is_over past place one at in record { over = later.over; at = later.at; same = later.same }
-
-through_at : (terms : Terms) (past : List Past) (place : ℕ) (one : Past) → AreThrough terms past → slice_get past place ≡ Some one → IsThrough terms one
-through_at terms [] place one through at = absurd (let none : ⊥ = cc in none)
-through_at terms (first ∷ past) zero one through at = let same : first ≡ one = cc in subst (IsThrough terms) same through.0
-through_at terms (first ∷ past) (suc place) one through at = through_at terms past place one through.1 at
-
 -- REPORTS -----------------------------------------------------------------------------------------
 
 -- The part that a report tells the request to have, with as many calls shown before its step as before the opening, and all that it was shown.
-pub record TellsAcquirer (document : Document) (report : Report) (terms : Terms) (acquired : Acquired) (one : Submitted) (before : List Step) : Type 0 where
+pub record TellsAcquirer (document : Document) (report : Report) (terms : Terms) (acquired : Acquired) (one : RequestSteps) (before : List Step) : Type 0 where
   pub part : Part
   pub its : acquired_by (parts_from 1 (steps report) (submissions_by_client document report)) acquired ≡ Some part
   pub shown : shown_before part.steps acquired.event ≡ length (shown_at terms one.request before)
   pub all : part.submission.copy.calls ≡ shown_at terms one.request one.steps
 
 module _ (stands : FinishesKeepInvariant) (tell : FinishesTellSteps) (document : Document) (report : Report) (seen : Seen) (t : Traced) (server : Server) (right : IsTrue (all_requests_right document)) (reported : IsReported document report seen t server)
-    (owner : Owner) (one : Submitted) (is : IsRequestOf t.machine.clients owner one) (number : ℕ) (acquired : Acquired) (whose : acquired.client ≡ owner.client) (did : has_step_at acquired.event one.steps ≡ true)
+    (owner : Owner) (one : RequestSteps) (is : IsRequestOf t.machine.clients owner one) (number : ℕ) (acquired : Acquired) (whose : acquired.client ≡ owner.client) (did : has_step_at acquired.event one.steps ≡ true)
     (heard : HeardBy number acquired (steps report)) (before : List Step) (opened : before_opening number [] one.steps ≡ Some before) where
   own : Client
   own = is.own
@@ -152,15 +135,13 @@ module _ (stands : FinishesKeepInvariant) (tell : FinishesTellSteps) (document :
   whole = whole_told t.setting (suc at.index) is.own (steps_of (suc at.index) (steps report)) of.rests tells
 
   over : IsOver is.own.past owner.place one
-  over =
-      is_over is.own.past owner.place one
-      (ap (λ (all : List Submitted). slice_get all owner.place) (sym (ap (λ (now : Option Doing). map over_so is.own.past ++ option_map_or (λ doing. doing_so doing ∷ []) now []) of.rests ∙ append-nil (map over_so is.own.past))) ∙ is.at)
+  over = is_over is.own owner.place one of.rests is.at
 
   same_steps : over.over.steps ≡ one.steps
-  same_steps = ap (λ (s : Submitted). s.steps) over.same
+  same_steps = ap (λ (s : RequestSteps). s.steps) over.same
 
   same_request : over.over.request ≡ one.request
-  same_request = ap (λ (s : Submitted). s.request) over.same
+  same_request = ap (λ (s : RequestSteps). s.request) over.same
 
   its : PartAt t.setting (suc at.index) tells.past its_parts owner.place over.over
   its = part_at t.setting (suc at.index) 0 is.own.past tells.past its_parts owner.place over.over tells.tells_past (parts_told t.setting (suc at.index) is.own (steps_of (suc at.index) (steps report)) through of.rests tells) over.at

@@ -3,8 +3,6 @@ use Rattle.std.proofs.Common.{◌≡◌, refl, ap, ◌∙◌, Bool, true, false,
 use Rattle.std.specs.Option.{option_map_or}
 use Rattle.svc_values.specs.declared.call.Call.{Call}
 use Rattle.svc_values.specs.declared.entry.SessionId.{SessionId}
-use Rattle.svc_values.specs.declared.frame.Up.{Up}
-use Rattle.svc_values.specs.declared.frame.Up.TheVariants as up
 use Rattle.svc_values.specs.Identifiers.{same_session}
 use Rattle.outage_schedule.specs.declared.item.Item.{Item}
 use Rattle.outage_schedule.specs.declared.item.Item.TheVariants as item
@@ -12,32 +10,13 @@ use Rattle.outage_schedule.specs.declared.item.Served.{Served}
 use Rattle.outage_schedule.specs.declared.note.GoNote.{GoNote}
 use Rattle.shown_clauses.specs.Fronts.{changed_if, with_changed, first_item}
 use Rattle.shown_clauses.specs.Links.{Acquired, Link as Seen, Turn, has_session, link_of, served_on, stopped_on, end_session, in_turn, turn_begun, call_served, acquire_if, is_hello, after_go}
-use Rattle.world_model.specs.Begins.{is_begin_frame}
-use Rattle.world_model.specs.Crashing.{is_crashed_item}
 use Rattle.world_model.specs.Same.{is_begin}
-use Rattle.world_model.specs.Serving.{is_item_of}
 use Rattle.shown_laws.specs.TurnOwners.{told_begin}
 use Rattle.shown_laws.proofs.SeenLists.{link_changed}
 use Rattle.shown_laws.proofs.WordsKept.{KeepsWord, KeptByEnds, some_kept, session_ended, gone_kept, items_served, items_stopped}
 
 abbrev pub starts : Seen → Option (Option Acquired)
 starts one = option_map (λ turn. turn.acquired) one.turn
-
--- an item is a Begin where its frame is one
-pub item_begins : (frame : Up) (one : Item) → is_item_of frame one ≡ true → is_begin_frame frame ≡ is_begin one
-item_begins up.Connect item.Connect is = refl
-item_begins (up.Begin settings) (item.Begin begun) is = refl
-item_begins (up.Call replay kept call) (item.Call marked served answers draws) is = refl
-item_begins (up.Call replay kept call) (item.Blocked served) is = refl
-item_begins (up.Outcome x) (item.Outcome asked result) is = refl
-item_begins up.End item.End is = refl
-item_begins up.Close item.Close is = refl
-item_begins frame one is = absurd (let none : ⊥ = cc in none)
-
-pub stopped_begins : (frame : Up) (one : Item) → is_crashed_item frame one ≡ true → is_begin_frame frame ≡ is_begin one
-stopped_begins (up.Call replay kept call) (item.CrashedCall marked served) is = refl
-stopped_begins (up.Outcome x) (item.CrashedOutcome asked) is = refl
-stopped_begins frame one is = absurd (let none : ⊥ = cc in none)
 
 -- WHAT KEEPS IT -----------------------------------------------------------------------------------
 

@@ -26,7 +26,7 @@ use Rattle.shown_laws.proofs.EndsTold.{still_end}
 use Rattle.shown_laws.proofs.Following.{Does, Goes, ServesNone, Serves, CutsNone, Cuts, ReapsNone, Reaps, IsDown, Crashes, CrashStops, CrashServes, Ticks, Drains, IsServers, only_met, only_is}
 use Rattle.shown_laws.proofs.GoesTold.{Speaks, goes_told}
 use Rattle.shown_laws.proofs.GoNotes.{follow_goes}
-use Rattle.shown_laws.proofs.ItemsTold.{IsFront, front_is, NamesSession, names_session, item_connects, stopped_connects, AreApart, linked_told, ends_told, with_next}
+use Rattle.shown_laws.proofs.ItemsTold.{IsFront, front_is, NamesSession, names_session, item_kinds, stopped_kinds, AreApart, linked_told, ends_told, with_next}
 use Rattle.shown_laws.proofs.Lookups.{changed_own, changed_other, eq_to}
 use Rattle.shown_laws.proofs.TurnsTold.{in_turn_told}
 
@@ -110,7 +110,7 @@ module _ (setting : Setting) (m : Machine) (stands : Stands m) (some : 0 < m.eve
   names_ordinary number front served at ordinary =
       let parts = and_parts (is_of_front m front served) (is_item_of front.first.frame served.item) ordinary in
       let mine = and_parts (served.event == m.event) (is_served_by m.server front.link front.first.frame served.session) parts.0 in
-      (parts.1, names_session m.server front served (stands.fresh number front at) mine.1 (item_connects front.first.frame served.item parts.1))
+      (parts.1, names_session m.server front served (stands.fresh number front at) mine.1 (item_kinds front.first.frame served.item parts.1).0)
 
   pub names_stopped : (number after : ℕ) (front : Front) (served : Served) → front_at m.links number ≡ Some front → is_stopped m after front served ≡ true → NamesSession front served
   names_stopped number after front served at stopped =
@@ -118,7 +118,7 @@ module _ (setting : Setting) (m : Machine) (stands : Stands m) (some : 0 < m.eve
       let parts = and_parts (is_of_front m front served) (is_crashed_item front.first.frame served.item && nat_lt after (m.server.per_record * (1 + sequences_in front.first.frame))) stopped in
       let mine = and_parts (served.event == m.event) (is_served_by m.server front.link front.first.frame served.session) parts.0 in
       names_session m.server front served (stands.fresh number front at) mine.1
-      (stopped_connects front.first.frame served.item (and_parts (is_crashed_item front.first.frame served.item) (nat_lt after (m.server.per_record * (1 + sequences_in front.first.frame))) parts.1).0)
+      (stopped_kinds front.first.frame served.item (and_parts (is_crashed_item front.first.frame served.item) (nat_lt after (m.server.per_record * (1 + sequences_in front.first.frame))) parts.1).0).0
 
   serves_told : (number : ℕ) (front : Front) (served : Served) → front_at m.links number ≡ Some front → is_ordinary m front served ≡ true
       → AllTold (with_link m.links number (handled m.event front served)) (end_session m.event served.session served.item (in_turn served.session served.item (served_on number served served.item seen.links)))

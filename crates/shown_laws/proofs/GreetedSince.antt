@@ -1,5 +1,5 @@
 -- A request that awaits a Hello opened its connection, and was shown nothing since.
-use Rattle.std.proofs.Common.{◌≡◌, refl, sym, ap, subst, ◌∙◌, append-nil, append_assoc, Bool, true, false, ℕ, ◌&&◌, List, [], ◌∷◌, ◌++◌, fold, Option, Some, None, ◌⊎◌, inl, inr, if◌then◌else◌}
+use Rattle.std.proofs.Common.{◌≡◌, refl, sym, ap, subst, ◌∙◌, append-nil, append_assoc, Bool, true, false, ℕ, ◌&&◌, List, [], ◌∷◌, ◌++◌, Option, Some, None, ◌⊎◌, inl, inr, if◌then◌else◌}
 use Rattle.std.specs.Prelude.{nat_le, not, ◌-◌, ◌+◌, is_none, Result, Ok, Err}
 use Rattle.std.specs.List.{list_all}
 use Rattle.std.proofs.lemmas.Bool.{and_parts, and_from}
@@ -14,7 +14,7 @@ use Rattle.svc_values.specs.declared.frame.Down.{Down}
 use Rattle.svc_values.specs.declared.frame.Down.TheVariants as down
 use Rattle.svc_values.specs.declared.frame.Up.{Up}
 use Rattle.call_recorder.specs.declared.recorded.Recorded.{Recorded}
-use Rattle.client_model.specs.Conversation.{Done, Timed, steps_of, talk_after, talk_at, done_at}
+use Rattle.client_model.specs.Conversation.{Done, steps_of, talk_after, talk_at, done_at}
 use Rattle.client_model.specs.declared.act.Shown.{Shown}
 use Rattle.client_model.specs.declared.track.Mismatch.{Mismatch}
 use Rattle.client_model.specs.declared.track.Over.{Over}
@@ -26,9 +26,8 @@ use Rattle.client_model.specs.Told as told_as
 use Rattle.client_model.specs.Verifying.{compared}
 use Rattle.client_model.specs.declared.input.Input.{Input}
 use Rattle.client_model.specs.declared.input.Input.TheVariants.{Start, Waiting, Lent, Opened, TryFailed, Took, Gone}
-use Rattle.outage_schedule.specs.declared.document.Request.{Request}
 use Rattle.world_model.specs.Clients.{Step, Doing}
-use Rattle.world_model.specs.Conversing.{timed, inputs_of, first_talk, connected, connection_after, Converses, Talks}
+use Rattle.world_model.specs.Conversing.{timed, inputs_of, first_talk, connected, connection_after, Talks}
 use Rattle.world_model.specs.Words.{dones_of}
 
 abbrev pub is_greeting : Phase → Bool

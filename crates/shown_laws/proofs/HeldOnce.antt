@@ -1,18 +1,16 @@
 -- A request holds each connection once: it is lent one before all others, and each that it opens is new.
 use Rattle.std.proofs.Common.{◌≡◌, refl, sym, ap, subst, ◌∙◌, append-nil, Bool, true, false, ℕ, zero, suc, ◌+◌, ◌&&◌, ◌||◌, length, List, [], ◌∷◌, ◌++◌, Option, Some, None, ◌⊎◌, inl, inr, if◌then◌else◌, arith}
-use Rattle.std.specs.Prelude.{◌==◌, not, IsTrue, filter_map, slice_get}
+use Rattle.std.specs.Prelude.{◌==◌, not}
 use Rattle.std.specs.List.{list_all, list_any, cons_option}
 use Rattle.std.specs.Option.{option_map_or}
 use Rattle.std.proofs.lemmas.Bool.{and_parts, and_from, or_cases, or_left, or_right}
 use Rattle.std.proofs.lemmas.List.{map-append}
 use Rattle.std.proofs.lemmas.List.Elements.{filter_map-append}
 use Rattle.svc_values.specs.declared.entry.Ltxid.{Ltxid}
-use Rattle.client_model.specs.Conversation.{Timed, talk_after, talk_at, done_at, is_gone, is_gone_next, is_wanted, may_come, MayCome}
+use Rattle.client_model.specs.Conversation.{Timed, talk_after, talk_at, done_at, is_gone, is_gone_next, is_wanted, MayCome}
 use Rattle.client_model.specs.Talk.{wants_in, wants_of}
-use Rattle.client_model.specs.Terms.{Terms, Talk, Phase, Idle, Unbegun, Queued, Seeking, Greeting, Asked, Running, Replaying}
-use Rattle.client_model.specs.declared.input.Input.{Input}
-use Rattle.client_model.specs.declared.input.Input.TheVariants.{Lent, Opened}
-use Rattle.client_model.specs.declared.input.Wants.{Wants}
+use Rattle.client_model.specs.Terms.{Terms, Talk, Phase, Unbegun, Queued, Seeking}
+use Rattle.client_model.specs.declared.input.Input.TheVariants.{Lent}
 use Rattle.client_model.specs.declared.input.Wants.TheVariants as wants
 use Rattle.outage_schedule.specs.declared.document.Request.{Request}
 use Rattle.request_bounds.specs.Limits.{has_waited}

@@ -1,35 +1,29 @@
 -- What a request was shown before it acquired the session of a connection that it opened is what it was shown before it opened this connection.
-use Rattle.std.proofs.Common.{◌≡◌, refl, sym, ap, subst, ◌∙◌, append-nil, append_assoc, Bool, true, false, ℕ, List, [], ◌∷◌, ◌++◌, Option, Some, None, ◌⊎◌, inl, inr, if◌then◌else◌}
+use Rattle.std.proofs.Common.{◌≡◌, refl, sym, ap, subst, ◌∙◌, append-nil, append_assoc, Bool, true, false, ℕ, List, [], ◌∷◌, ◌++◌, Option, Some, None, inl, inr, if◌then◌else◌}
 use Rattle.std.specs.Prelude.{◌==◌, is_some}
 use Rattle.std.specs.List.{list_any, cons_option}
 use Rattle.std.proofs.lemmas.Bool.{or_left, or_right}
 use Rattle.svc_values.specs.declared.entry.SessionId.{SessionId}
 use Rattle.svc_values.specs.declared.frame.Down.{Down}
-use Rattle.client_model.specs.Conversation.{MayCome}
 use Rattle.client_model.specs.Terms.{Phase}
 use Rattle.client_model.specs.declared.input.Input.{Input}
-use Rattle.client_model.specs.declared.input.Input.TheVariants.{Lent, Opened, Took}
+use Rattle.client_model.specs.declared.input.Input.TheVariants.{Lent, Opened}
 use Rattle.outage_schedule.specs.declared.document.Request.{Request}
 use Rattle.outage_schedule.specs.declared.item.Item.{Item}
-use Rattle.outage_schedule.specs.declared.item.Item.TheVariants as item
-use Rattle.outage_schedule.specs.declared.item.Served.{Served}
 use Rattle.outage_schedule.specs.declared.note.GoNote.{GoNote}
-use Rattle.outage_schedule.specs.declared.request.ShownCall.{ShownCall}
 use Rattle.shown_clauses.specs.Links.{is_connect}
 use Rattle.shown_clauses.specs.Steps.{Step as StepTold}
-use Rattle.world_model.specs.Clients.{Step, Doing, Client, client_at}
-use Rattle.world_model.specs.Conversing.{inputs_of, first_talk, IsTalking, Talks}
-use Rattle.world_model.specs.Invariant.{Invariant}
+use Rattle.world_model.specs.Clients.{Step, Doing}
+use Rattle.world_model.specs.Conversing.{IsTalking, Talks}
 use Rattle.world_model.specs.Replayed.{shown_at, opens, before_opening}
 use Rattle.world_model.specs.Settings.{Setting}
-use Rattle.world_model.specs.Traced.{Traced}
 use Rattle.world_model.specs.Words.{brought, held_in}
 use Rattle.shown_laws.specs.AcquiredTold.{is_on}
-use Rattle.shown_laws.specs.ClientSteps.{IsBare, TellsKind, Rested, FoundNone, Waited, WasLent, HasOpened, HasFailed, HasTaken, HasLost, now_at}
-use Rattle.shown_laws.specs.Tellings.{Telling, Begins, WasThere, BeginsNow, TellsStep, TellsRequest}
+use Rattle.shown_laws.specs.ClientSteps.{TellsKind, Rested, FoundNone, Waited, WasLent, HasOpened, HasFailed, HasTaken, HasLost, now_at}
+use Rattle.shown_laws.specs.Tellings.{Telling, Begins, WasThere, BeginsNow, TellsStep}
 use Rattle.shown_laws.proofs.BeforeSession.{talks_at}
 use Rattle.shown_laws.proofs.GreetedSince.{is_greeting, Since, greeted_since}
-use Rattle.shown_laws.proofs.HeldOnce.{HeldOnce, held_once, new_to, one_brings}
+use Rattle.shown_laws.proofs.HeldOnce.{HeldOnce, new_to, one_brings}
 use Rattle.shown_laws.proofs.HeldTold.{Among}
 use Rattle.shown_laws.proofs.Lookups.{eq_from, eq_to}
 use Rattle.shown_laws.proofs.ShownBefore.{AtStep, shown_silent}

@@ -12,11 +12,13 @@ use Rattle.outage_schedule.specs.declared.item.Item.TheVariants as item
 use Rattle.outage_schedule.specs.declared.item.Served.{Served}
 use Rattle.shown_clauses.specs.Fronts.{changed_if, with_changed}
 use Rattle.shown_clauses.specs.Links.{Link as Seen, has_session, link_of, new_link, add_reply, connected, served_on, is_connect, end_link, end_session}
+use Rattle.world_model.specs.Begins.{is_begin_frame}
 use Rattle.world_model.specs.Crashing.{is_crashed_item}
 use Rattle.world_model.specs.Frames.{Sent}
 use Rattle.world_model.specs.Hold.{is_connect as is_connect_frame}
 use Rattle.world_model.specs.Links.{Link, link_at, with_link, ends}
 use Rattle.world_model.specs.Machines.{Server}
+use Rattle.world_model.specs.Same.{is_begin}
 use Rattle.world_model.specs.Serving.{Front, first_of, front_of, front_at, is_served_by, is_item_of, is_blocked, reply_of, after_front}
 use Rattle.shown_laws.specs.Connections.{answers_of, TellsReplies, TellsLink, IsUnnamed, TellsAt, NoLink, Unnamed, Named}
 use Rattle.shown_laws.proofs.ConnectionsTold.{AllTold, told_at, one_changes, one_turns}
@@ -74,20 +76,21 @@ names_session server front served fresh by_session same = by front.first.frame f
     by up.End fresh is same = HasName same (has_name front.link.session served.session is)
     by up.Close fresh is same = HasName same (has_name front.link.session served.session is)
 
-pub item_connects : (frame : Up) (one : Item) → is_item_of frame one ≡ true → is_connect one ≡ is_connect_frame frame
-item_connects up.Connect item.Connect is = refl
-item_connects (up.Begin settings) (item.Begin begun) is = refl
-item_connects (up.Call replay kept call) (item.Call marked served answers draws) is = refl
-item_connects (up.Call replay kept call) (item.Blocked served) is = refl
-item_connects (up.Outcome x) (item.Outcome asked result) is = refl
-item_connects up.End item.End is = refl
-item_connects up.Close item.Close is = refl
-item_connects frame one is = absurd (let none : ⊥ = cc in none)
+-- an item connects, or begins, where its frame does
+pub item_kinds : (frame : Up) (one : Item) → is_item_of frame one ≡ true → (is_connect one ≡ is_connect_frame frame) × (is_begin_frame frame ≡ is_begin one)
+item_kinds up.Connect item.Connect is = (refl, refl)
+item_kinds (up.Begin settings) (item.Begin begun) is = (refl, refl)
+item_kinds (up.Call replay kept call) (item.Call marked served answers draws) is = (refl, refl)
+item_kinds (up.Call replay kept call) (item.Blocked served) is = (refl, refl)
+item_kinds (up.Outcome x) (item.Outcome asked result) is = (refl, refl)
+item_kinds up.End item.End is = (refl, refl)
+item_kinds up.Close item.Close is = (refl, refl)
+item_kinds frame one is = absurd (let none : ⊥ = cc in none)
 
-pub stopped_connects : (frame : Up) (one : Item) → is_crashed_item frame one ≡ true → is_connect one ≡ is_connect_frame frame
-stopped_connects (up.Call replay kept call) (item.CrashedCall marked served) is = refl
-stopped_connects (up.Outcome x) (item.CrashedOutcome asked) is = refl
-stopped_connects frame one is = absurd (let none : ⊥ = cc in none)
+pub stopped_kinds : (frame : Up) (one : Item) → is_crashed_item frame one ≡ true → (is_connect one ≡ is_connect_frame frame) × (is_begin_frame frame ≡ is_begin one)
+stopped_kinds (up.Call replay kept call) (item.CrashedCall marked served) is = (refl, refl)
+stopped_kinds (up.Outcome x) (item.CrashedOutcome asked) is = (refl, refl)
+stopped_kinds frame one is = absurd (let none : ⊥ = cc in none)
 
 not_refused : (frame : Up) (cause : ℕ) → is_item_of frame (item.Refused cause) ≡ true → ⊥
 not_refused up.Connect cause is = let none : ⊥ = cc in none

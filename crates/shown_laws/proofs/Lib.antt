@@ -42,6 +42,7 @@ pub mod IdentifiersHold
 pub mod IdentifiersTold
 pub mod ItemsTold
 pub mod LastSent
+pub mod LinksSame
 pub mod LinksStay
 pub mod LinksTold
 pub mod LoneOutcomes
@@ -71,8 +72,10 @@ pub mod ReplyTaken
 pub mod ReportsOrdered
 pub mod ReportsTold
 pub mod ReportsTurns
+pub mod RequestCourses
 pub mod RequestsAdd
 pub mod RequestsGrow
+pub mod RequestsOver
 pub mod RowTurns
 pub mod RunsGrow
 pub mod SaidStays

@@ -4,7 +4,7 @@ use Rattle.std.specs.Prelude.{◌==◌, slice_get}
 use Rattle.std.specs.Option.{option_map_or}
 use Rattle.std.proofs.lemmas.Bool.Decides.{nat_tests}
 use Rattle.world_model.specs.Links.{Link, link_at, with_link, changed}
-use Rattle.shown_laws.proofs.Places.{set_own, set_other}
+use Rattle.shown_laws.proofs.Places.{set_own, set_other, get_last, get_map}
 
 -- NUMBERS -----------------------------------------------------------------------------------------
 
@@ -55,23 +55,14 @@ changed_other change links number other differ = by (link_at links number)
 
 -- ALL CHANGE --------------------------------------------------------------------------------------
 
-mapped : (change : Link → Link) (links : List Link) (index : ℕ) → slice_get (map change links) index ≡ option_map change (slice_get links index)
-mapped change [] index = refl
-mapped change (first ∷ links) zero = refl
-mapped change (first ∷ links) (suc index) = mapped change links index
-
 pub all_changed : (change : Link → Link) (links : List Link) (number : ℕ) → link_at (map change links) number ≡ option_map change (link_at links number)
 all_changed change links zero = refl
-all_changed change links (suc index) = mapped change links index
+all_changed change links (suc index) = get_map change links index
 
 -- A NEW ONE ---------------------------------------------------------------------------------------
 
-new_last : (links : List Link) (new : Link) → slice_get (links ++ new ∷ []) (length links) ≡ Some new
-new_last [] new = refl
-new_last (first ∷ links) new = new_last links new
-
 pub new_own : (links : List Link) (new : Link) → link_at (links ++ new ∷ []) (length links + 1) ≡ Some new
-new_own links new = ap (link_at (links ++ new ∷ [])) (add-one (length links)) ∙ new_last links new
+new_own links new = ap (link_at (links ++ new ∷ [])) (add-one (length links)) ∙ get_last links new
 
 new_before : (links : List Link) (new : Link) (index : ℕ) → index ≢ length links → slice_get (links ++ new ∷ []) index ≡ slice_get links index
 new_before [] new zero differ = absurd (differ refl)

@@ -23,7 +23,9 @@ pub use Rattle.shown_laws.proofs.FinishesReached.{reached_coupled}
 -- the turn that is told of a connection was acquired by a step on it that is told, as it is where more is told
 pub use Rattle.shown_laws.proofs.TurnHeard.{HeardBy, still_heard, turn_heard}
 -- the request of a course, the steps that it did, and one that did no more
-pub use Rattle.shown_laws.proofs.RequestsGrow.{IsCourseOf, course_is, has_did, same_more}
+pub use Rattle.shown_laws.proofs.RequestCourses.{IsCourseOf, course_is}
+pub use Rattle.shown_laws.proofs.RequestsGrow.{same_more}
+pub use Rattle.shown_laws.proofs.StepsOwned.{has_did}
 -- what was shown at some steps is a front of what was shown at more, and where a connection was opened stays
 pub use Rattle.shown_laws.proofs.ShownBefore.{ShownMore, shown_more}
 pub use Rattle.shown_laws.proofs.HelloOpening.{opened_front}

@@ -41,7 +41,7 @@ use Rattle.shown_laws.specs.ClientSteps.{TellsReply, TellsKind}
 use Rattle.shown_laws.specs.Tellings.{Telling, steps_in_tellings, Begins, WasThere, BeginsNow, TellsStep, TellsRequest, NoneYet, OneMore}
 use Rattle.shown_laws.proofs.AnswersStand.{reply_stands}
 use Rattle.shown_laws.proofs.BeforeSession.{talks_at}
-use Rattle.shown_laws.proofs.RecordedCalls.{get_push}
+use Rattle.shown_laws.proofs.Places.{get_push}
 use Rattle.shown_laws.proofs.RequestsAdd.{heard_known, request_accounted}
 use Rattle.shown_laws.proofs.SessionsReached.{as_list}
 use Rattle.shown_laws.proofs.ScriptShown.{as_long}

@@ -38,11 +38,12 @@ use Rattle.shown_laws.proofs.Following.{at_event, Does, Goes, ServesNone, Serves
 use Rattle.shown_laws.proofs.GoNotes.{follow_goes}
 use Rattle.shown_laws.proofs.ItemsTold.{front_is}
 use Rattle.shown_laws.proofs.LinksTold.{AllStand, runs_told}
+use Rattle.shown_laws.proofs.RequestsGrow.{does_grow}
 use Rattle.shown_laws.proofs.SaidStays.{SameSaid, cut_said, fallen_said, reaped_said, front_said, handled_said, one_said, with_said, each_said, drained_said}
 use Rattle.shown_laws.proofs.ServedStays.{all_at}
 use Rattle.shown_laws.proofs.SessionsApart.{at_link}
-use Rattle.shown_laws.proofs.SessionsTied.{Stay, goes_tied}
-use Rattle.shown_laws.proofs.StepsOwned.{steps_stay}
+use Rattle.shown_laws.proofs.SessionsTied.{goes_tied}
+use Rattle.shown_laws.proofs.StepsOwned.{Stay, go_on_stay}
 use Rattle.shown_laws.proofs.StepsTold.{step_tells}
 use Rattle.shown_laws.proofs.TurnsBegun.{AllBegun, begun_still, IsKnown, does_begun}
 use Rattle.shown_laws.proofs.TurnsInRuns.{reached_turns}
@@ -55,23 +56,6 @@ AllTied clients links found = (number : ℕ) → Tied clients (said_at number li
 -- EVENTS ------------------------------------------------------------------------------------------
 
 module _ (t : Traced) (inv : Invariant t) (notes : List Note) (items : List Served) (are : AreTold notes items t) (unclosed : AllUnclosed t.machine) where
-  -- each step that was a request's is its still
-  does_stay : (one : Note) (more : List Served) (n : Machine) → Does t.setting (at_event t.machine) one more n → Stay t.machine.clients n.clients
-  does_stay _ _ _ (Goes client did n goes) = steps_stay t (seen_told notes items) client did n (step_tells t inv (seen_told notes items) are.links.at are.sessions unclosed client did n (follow_goes t.setting (at_event t.machine) client did n goes))
-  does_stay _ _ _ (ServesNone connection) = λ owner acquired is. is
-  does_stay _ _ _ (Serves connection name front served at ordinary) = λ owner acquired is. is
-  does_stay _ _ _ (CutsNone connection) = λ owner acquired is. is
-  does_stay _ _ _ (Cuts connection up down reached link at) = λ owner acquired is. is
-  does_stay _ _ _ (ReapsNone connection) = λ owner acquired is. is
-  does_stay _ _ _ (Reaps connection) = λ owner acquired is. is
-  does_stay _ _ _ (IsDown connection) = λ owner acquired is. is
-  does_stay _ _ _ (Crashes connection failover) = λ owner acquired is. is
-  does_stay _ _ _ (CrashStops connection after failover front served at stopped) = λ owner acquired is. is
-  does_stay _ _ _ (CrashServes connection failover front served at ordinary) = λ owner acquired is. is
-  does_stay _ _ _ Ticks = λ owner acquired is. is
-  does_stay _ _ _ (Drains closed) = λ owner acquired is. is
-  does_stay _ _ _ (IsServers one server is) = λ owner acquired is. is
-
   module _ (before : ℕ → Option Acquired) (tied : AllTied t.machine.clients t.machine.links before) where
     abbrev Ties : Note → List Served → Machine → Type 0
     Ties one more n = (number : ℕ) → Tied n.clients (said_at number n.links) (acquired_after number (before number) (steps_in (seen_told notes items) (next_told t.machine one more)))
@@ -137,7 +121,7 @@ module _ (before after : Seen) (old new : Traced) (event : Event) (note : Note) 
   grows = grows_on before after old new event note notes items more one come
 
   stay : Stay old.machine.clients new.machine.clients
-  stay = does_stay old inv notes items are unclosed note more new.machine does
+  stay = go_on_stay old.machine.clients new.machine.clients (does_grow old inv notes items are unclosed note more new.machine does)
 
   some : 0 < old.machine.event + 1
   some = omega arith

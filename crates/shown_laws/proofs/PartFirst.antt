@@ -1,8 +1,8 @@
 -- Which of all parts is the first that has a step of an event.
-use Rattle.std.proofs.Common.{◌≡◌, ◌≢◌, refl, sym, ap, subst, ◌∙◌, Bool, true, false, ℕ, zero, suc, ◌+◌, List, [], ◌∷◌, ◌++◌, map, Option, Some, None, ◌⊎◌, inl, inr, if◌then◌else◌, arith}
+use Rattle.std.proofs.Common.{◌≡◌, ◌≢◌, refl, sym, ap, subst, ◌∙◌, Bool, true, false, ℕ, zero, suc, ◌+◌, List, [], ◌∷◌, ◌++◌, map, Some, None, ◌⊎◌, inl, inr, if◌then◌else◌, arith}
 use Rattle.std.specs.Prelude.{◌==◌, slice_get, flat_map}
 use Rattle.std.specs.List.{list_any}
-use Rattle.std.proofs.lemmas.Bool.{or_cases, or_left, or_right}
+use Rattle.std.proofs.lemmas.Bool.{or_left, or_right}
 use Rattle.std.proofs.lemmas.List.Folds.{list_any-append}
 use Rattle.outage_schedule.specs.declared.document.Client.{Client as Scripted}
 use Rattle.run_clauses.specs.Copies.{copies_by_client}
@@ -15,7 +15,7 @@ use Rattle.world_model.specs.Clients.{Past, Client, reports_of}
 use Rattle.world_model.specs.Settings.{Setting}
 use Rattle.shown_laws.specs.PartsTold.{OfEach, IsQuiet, IsPartOf, ArePartsOf, NoParts, OnePart}
 use Rattle.shown_laws.specs.Submitted.{submission_of}
-use Rattle.shown_laws.specs.Tellings.{Telling, steps_in_tellings, TellsRequest, TellsPast, NonePast, OnePast}
+use Rattle.shown_laws.specs.Tellings.{Telling, steps_in_tellings, TellsRequest, TellsPast, OnePast}
 use Rattle.shown_laws.proofs.Lookups.{eq_from, eq_to}
 use Rattle.shown_laws.proofs.PartsCut.{parts_cut}
 use Rattle.shown_laws.proofs.PartsSplit.{all_told, told_more}

@@ -1,8 +1,7 @@
 -- A turn whose session was acquired by a step of a part is of the request of this part.
-use Rattle.std.proofs.Common.{◌≡◌, refl, sym, ap, subst, ◌∙◌, append-nil, append_assoc, Bool, true, false, ℕ, zero, suc, ◌+◌, ◌<◌, ◌≤◌, ◌&&◌, length, List, [], ◌∷◌, ◌++◌, map, cond, Option, Some, None, ◌⊎◌, inl, inr, if◌then◌else◌, arith}
+use Rattle.std.proofs.Common.{◌≡◌, refl, sym, ap, subst, ◌∙◌, append_assoc, Bool, true, false, ℕ, zero, suc, ◌+◌, ◌<◌, ◌≤◌, ◌&&◌, length, List, [], ◌∷◌, ◌++◌, map, cond, Option, Some, None, ◌⊎◌, inl, inr, if◌then◌else◌, arith}
 use Rattle.std.specs.Prelude.{◌==◌, nat_le, slice_get, option_and_then}
 use Rattle.std.specs.List.{list_all, list_any, last_or, cons_option}
-use Rattle.std.specs.Option.{option_map_or}
 use Rattle.std.proofs.lemmas.Bool.{and_parts, and_from, or_cases, or_left, or_right}
 use Rattle.std.proofs.lemmas.Bool.Decides.{nat_tests}
 use Rattle.std.proofs.lemmas.List.Folds.{list_any-append}
@@ -12,18 +11,20 @@ use Rattle.shown_clauses.specs.Parts.{Part, acquires, parts_of}
 use Rattle.shown_clauses.specs.Steps.{Step as StepTold}
 use Rattle.shown_clauses.specs.Submissions.{Submission}
 use Rattle.shown_clauses.specs.Turns.{Owned, is_turn_right, owned_if, turns_of, owned_between, owned_in, turns_right}
-use Rattle.world_model.specs.Clients.{Step, Doing, Past, Client, client_at}
+use Rattle.world_model.specs.Clients.{Past, Client, client_at}
 use Rattle.world_model.specs.Conversing.{AreThrough}
 use Rattle.world_model.specs.Settings.{Setting}
+use Rattle.shown_laws.specs.ByPlace.{RequestSteps, requests_by_place}
 use Rattle.shown_laws.specs.PartsTold.{OfEach, IsQuiet, IsPartOf, ArePartsOf, NoParts, OnePart}
 use Rattle.shown_laws.specs.Submitted.{submission_of}
 use Rattle.shown_laws.specs.Tellings.{Telling, steps_in_tellings, TellsRequest, TellsPast, NonePast, OnePast, TellsClient}
-use Rattle.shown_laws.specs.TurnOwners.{steps_by_place, has_step_at, IsOwned, AreOwned, NoneOwned, OneOwned}
+use Rattle.shown_laws.specs.TurnOwners.{has_step_at, IsOwned, AreOwned, NoneOwned, OneOwned}
 use Rattle.shown_laws.proofs.Lookups.{eq_from}
 use Rattle.shown_laws.proofs.LoudSteps.{is_loud, quiet_silent, request_loud}
 use Rattle.shown_laws.proofs.PartsCut.{upto, from, cut, parts_cut}
 use Rattle.shown_laws.proofs.PartsSplit.{all_told, told_more}
 use Rattle.shown_laws.proofs.PartsTold.{parts_told}
+use Rattle.shown_laws.proofs.RequestsOver.{IsOver, is_over}
 use Rattle.shown_laws.proofs.ToldRise.{is_of, Rise, rise_behind, front_before, last_before, never_both}
 
 -- LISTS -------------------------------------------------------------------------------------------
@@ -116,17 +117,6 @@ told_there setting client _ _ _ (suc place) one (OnePast start first others tell
     let later : ToldAt setting client more place one = told_there setting client (start + 1) others more place one rest at in
     record { number = later.number; tellings = later.tellings; at = later.at; tells = later.tells }
 
--- a request whose steps are these
-record PastAt (past : List Past) (place : ℕ) (steps : List Step) : Type 0 where
-  one : Past
-  at : slice_get past place ≡ Some one
-  same : one.steps ≡ steps
-
-past_at : (past : List Past) (place : ℕ) (steps : List Step) → slice_get (map (λ (one : Past). one.steps) past) place ≡ Some steps → PastAt past place steps
-past_at [] place steps at = absurd (let none : ⊥ = cc in none)
-past_at (first ∷ past) zero steps at = record { one = first; at = refl; same = (let same : first.steps ≡ steps = cc in same) }
-past_at (first ∷ past) (suc place) steps at = let later : PastAt past place steps = past_at past place steps at in record { one = later.one; at = later.at; same = later.same }
-
 -- TURNS -------------------------------------------------------------------------------------------
 
 -- of a turn of this client: the request that has the step by which the session was acquired, for which it is right
@@ -144,29 +134,21 @@ AreMine own told [] = Unit {0}
 AreMine own told (one ∷ its) = IsMine own told one × AreMine own told its
 
 module _ (setting : Setting) (clients : List Client) (client : ℕ) (own : Client) (here : client_at clients client ≡ Some own) (rests : own.now ≡ None) (told : List (List Telling)) (tells : TellsPast setting client 0 own.past told) where
-  -- none is in course
-  past_steps : steps_by_place own ≡ map (λ (one : Past). one.steps) own.past
-  past_steps = ap (λ (now : Option Doing). map (λ (one : Past). one.steps) own.past ++ option_map_or (λ doing. doing.steps ∷ []) now []) rests ∙ append-nil (map (λ (one : Past). one.steps) own.past)
-
-  -- the request at a place has these steps
-  steps_at : (place : ℕ) (its : Client) (steps : List Step) → its ≡ own → slice_get (steps_by_place its) place ≡ Some steps → slice_get (map (λ (one : Past). one.steps) own.past) place ≡ Some steps
-  steps_at place its steps same at = ap (λ (all : List (List Step)). slice_get all place) (sym past_steps) ∙ (ap (λ (c : Client). slice_get (steps_by_place c) place) (sym same) ∙ at)
-
   one_mine : (turn : Turn) (is : IsOwned clients turn) → is.acquired.client ≡ client → IsMine own told (record { event = is.acquired.event; turn = turn })
   one_mine turn is same =
       let whose : is.owner.client ≡ client = sym is.did.whose ∙ same in
-      let both : Some is.did.own ≡ Some own = sym is.did.here ∙ (ap (client_at clients) whose ∙ here) in
-      let it : is.did.own ≡ own = cc in
-      let past : PastAt own.past is.owner.place is.did.steps = past_at own.past is.owner.place is.did.steps (steps_at is.owner.place is.did.own is.did.steps it is.did.at) in
-      let tells_it : ToldAt setting client told is.owner.place past.one = told_there setting client 0 own.past told is.owner.place past.one tells past.at in
+      let both : Some is.did.request.own ≡ Some own = sym is.did.request.here ∙ (ap (client_at clients) whose ∙ here) in
+      let it : is.did.request.own ≡ own = cc in
+      let past : IsOver own.past is.owner.place is.did.one = is_over own is.owner.place is.did.one rests (ap (λ (c : Client). slice_get (requests_by_place c) is.owner.place) (sym it) ∙ is.did.request.at) in
+      let tells_it : ToldAt setting client told is.owner.place past.over = told_there setting client 0 own.past told is.owner.place past.over tells past.at in
       record {
         place = is.owner.place;
-        past = past.one;
+        past = past.over;
         at = past.at;
         tellings = tells_it.tellings;
         told_at = tells_it.at;
-        loud = request_loud setting client tells_it.number past.one.request tells_it.tellings past.one.steps is.acquired.event tells_it.tells (ap (has_step_at is.acquired.event) past.same ∙ is.did.among);
-        right = is.right own past.one (ap (client_at clients) whose ∙ here) past.at;
+        loud = request_loud setting client tells_it.number past.over.request tells_it.tellings past.over.steps is.acquired.event tells_it.tells (ap (λ (r : RequestSteps). has_step_at is.acquired.event r.steps) past.same ∙ is.did.among);
+        right = is.right own past.over (ap (client_at clients) whose ∙ here) past.at;
       }
 
   pub all_mine : (turns : List Turn) → AreOwned clients turns → AreMine own told (turns_of client turns)

@@ -1,5 +1,5 @@
 -- The calls that are recorded since the last purge are those of the request, in a row.
-use Rattle.std.proofs.Common.{◌≡◌, refl, sym, ap, subst, ◌∙◌, Bool, true, false, ℕ, zero, suc, ◌+◌, length, List, [], ◌∷◌, ◌++◌, Option, Some, None, ◌⊎◌, inl, inr, arith}
+use Rattle.std.proofs.Common.{◌≡◌, refl, sym, ap, subst, ◌∙◌, Bool, true, false, ℕ, ◌+◌, length, List, [], ◌∷◌, ◌++◌, Option, Some, None, ◌⊎◌, inl, inr, arith}
 use Rattle.std.specs.Prelude.{fold, slice_get}
 use Rattle.std.proofs.lemmas.List.{length_push}
 use Rattle.svc_values.specs.declared.call.Call.{Call}
@@ -16,6 +16,7 @@ use Rattle.client_model.specs.Account.{Account, unheard, hears, hears_outcome, s
 use Rattle.client_model.specs.Conversation.{Done}
 use Rattle.client_model.specs.Talk.{recorded_as}
 use Rattle.client_model.specs.Terms.{Terms}
+use Rattle.shown_laws.proofs.Places.{get_push}
 
 -- each at its place behind the last purge, up to the calls that were shown
 pub record InRow (calls : List Call) (since : List Recorded) (purged shown : ℕ) : Type 0 where
@@ -24,17 +25,6 @@ pub record InRow (calls : List Call) (since : List Recorded) (purged shown : ℕ
 
 abbrev pub RowOf : List Call → Account → Type 0
 RowOf calls a = InRow calls a.since_purge a.purged (length a.shown)
-
--- one of some, or the one behind them
-pub get_push : {A : Type 0} (xs : List A) (x y : A) (place : ℕ) → slice_get (xs ++ x ∷ []) place ≡ Some y → (slice_get xs place ≡ Some y) ⊎ ((place ≡ length xs) × (x ≡ y))
-get_push [] x y zero is = inr (refl, let same : x ≡ y = cc in same)
-get_push [] x y (suc place) is = absurd (let none : ⊥ = cc in none)
-get_push (one ∷ xs) x y zero is = inl is
-get_push (one ∷ xs) x y (suc place) is = by (get_push xs x y place is)
-  where
-    by : (slice_get xs place ≡ Some y) ⊎ ((place ≡ length xs) × (x ≡ y)) → (slice_get xs place ≡ Some y) ⊎ ((suc place ≡ length (one ∷ xs)) × (x ≡ y))
-    by (inl there) = inl there
-    by (inr last) = inr (ap suc last.0, last.1)
 
 row_more : (calls : List Call) (since : List Recorded) (purged shown : ℕ) (one : Recorded) → InRow calls since purged shown → slice_get calls shown ≡ Some one.call → InRow calls (since ++ one ∷ []) purged (shown + 1)
 row_more calls since purged shown one row here = record {

@@ -57,7 +57,7 @@ has_number clients (suc index) own here =
 
 one_client : (clients : List Client) (many : ℕ) (turn : Turn) → length clients ≡ many → IsOwned clients turn → has_client many turn ≡ true
 one_client clients many turn long is =
-    let number = has_number clients is.owner.client is.did.own is.did.here in
+    let number = has_number clients is.owner.client is.did.request.own is.did.request.here in
     let whose : is.acquired.client ≡ is.owner.client = is.did.whose in
     let some : 0 < is.acquired.client = omega (arith, whose, number.0) in
     let most : is.acquired.client ≤ many = omega (arith, whose, long, number.1) in

@@ -1,5 +1,5 @@
 -- Who sent last on each connection, and the identifier that was taken last there, stay in every event but a step of a client.
-use Rattle.std.proofs.Common.{◌≡◌, ◌≢◌, refl, sym, ap, ◌∙◌, Bool, true, false, ℕ, List, [], ◌∷◌, ◌++◌, map, fold, Option, Some, None, option_map, ◌⊎◌, inl, inr, if◌then◌else◌}
+use Rattle.std.proofs.Common.{◌≡◌, refl, ap, ◌∙◌, Bool, true, false, ℕ, List, [], ◌∷◌, ◌++◌, map, fold, Option, Some, None, option_map, if◌then◌else◌}
 use Rattle.std.specs.List.{list_any}
 use Rattle.svc_values.specs.declared.frame.Down.{Down}
 use Rattle.svc_values.specs.declared.frame.Up.{Up}
@@ -13,8 +13,8 @@ use Rattle.world_model.specs.Outside.{closed_by_drain}
 use Rattle.world_model.specs.Serving.{Front, is_blocked, reply_of, commits_after, after_front, handled}
 use Rattle.world_model.specs.UnservedBegins.{last_owner}
 use Rattle.world_model.proofs.Offered.{moves, last_more, stays_own}
-use Rattle.shown_laws.specs.TurnOwners.{said_of, said_at}
-use Rattle.shown_laws.proofs.Lookups.{either, with_own, with_other, changed_own, changed_other, all_changed}
+use Rattle.shown_laws.specs.TurnOwners.{said_of}
+use Rattle.shown_laws.proofs.LinksSame.{SameRead, one_same, with_same, each_same, drained_same}
 
 -- WHO SENT LAST -----------------------------------------------------------------------------------
 
@@ -79,34 +79,20 @@ handled_said event front served = by (is_blocked served.item)
 -- ALL CONNECTIONS ---------------------------------------------------------------------------------
 
 abbrev pub SameSaid : List Link → List Link → Type 0
-SameSaid links news = (number : ℕ) → said_at number news ≡ said_at number links
+SameSaid links news = SameRead (option_map said_of) links news
 
 if_said : (change : Link → Link) → KeepsSaid change → (found : Option Link) → option_map said_of (option_map change found) ≡ option_map said_of found
 if_said change keeps None = refl
 if_said change keeps (Some link) = ap Some (keeps link)
 
 pub one_said : (change : Link → Link) → KeepsSaid change → (links : List Link) (number : ℕ) → SameSaid links (changed change links number)
-one_said change keeps links number other = by (either other number)
-  where
-    by : (other ≡ number) ⊎ (other ≢ number) → said_at other (changed change links number) ≡ said_at other links
-    by (inl same) =
-        ap (λ (n : ℕ). said_at n (changed change links number)) same
-        ∙ (ap (option_map said_of) (changed_own change links number) ∙ (if_said change keeps (link_at links number) ∙ ap (λ (n : ℕ). said_at n links) (sym same)))
-    by (inr differ) = ap (option_map said_of) (changed_other change links number other differ)
+one_said change keeps = one_same (option_map said_of) change (if_said change keeps)
 
 pub with_said : (links : List Link) (number : ℕ) (old new : Link) → link_at links number ≡ Some old → said_of new ≡ said_of old → SameSaid links (with_link links number new)
-with_said links number old new there kept other = by (either other number)
-  where
-    by : (other ≡ number) ⊎ (other ≢ number) → said_at other (with_link links number new) ≡ said_at other links
-    by (inl same) =
-        ap (λ (n : ℕ). said_at n (with_link links number new)) same
-        ∙ (ap (option_map said_of) (with_own links number old new there) ∙ (ap Some kept ∙ (ap (option_map said_of) (sym there) ∙ ap (λ (n : ℕ). said_at n links) (sym same))))
-    by (inr differ) = ap (option_map said_of) (with_other links number other new differ)
+with_said links number old new there kept = with_same (option_map said_of) links number old new there (ap Some kept)
 
 pub each_said : (change : Link → Link) → KeepsSaid change → (links : List Link) → SameSaid links (map change links)
-each_said change keeps links number = ap (option_map said_of) (all_changed change links number) ∙ if_said change keeps (link_at links number)
+each_said change keeps = each_same (option_map said_of) change (if_said change keeps)
 
 pub drained_said : (event : ℕ) (numbers : List ℕ) (links : List Link) → SameSaid links (fold (changed (sends event (closed_by_drain ∷ []))) links numbers)
-drained_said event [] links other = refl
-drained_said event (number ∷ numbers) links other =
-    drained_said event numbers (changed (sends event (closed_by_drain ∷ [])) links number) other ∙ one_said (sends event (closed_by_drain ∷ [])) (drain_said event) links number other
+drained_said event = drained_same (option_map said_of) event (if_said (sends event (closed_by_drain ∷ [])) (drain_said event))

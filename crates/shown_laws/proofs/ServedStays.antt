@@ -18,13 +18,14 @@ use Rattle.world_model.specs.Outside.{closed_by_drain}
 use Rattle.world_model.specs.Settings.{Setting}
 use Rattle.shown_laws.specs.TurnsServed.{served_in}
 use Rattle.shown_laws.proofs.GoNotes.{GoesAs, Idles, Rests, Waits, Lends, Opens, Fails, Takes, Loses, next_number, taking, with_new, with_pool}
-use Rattle.shown_laws.proofs.Lookups.{either, with_own, with_other, changed_own, changed_other, all_changed, new_own, new_other, none_new}
+use Rattle.shown_laws.proofs.LinksSame.{SameRead, one_same, with_same, each_same, drained_same}
+use Rattle.shown_laws.proofs.Lookups.{either, new_own, new_other, none_new}
 
 abbrev pub all_at : ℕ → List Link → List Handled
 all_at number links = served_in (link_at links number)
 
 abbrev pub SameServed : List Link → List Link → Type 0
-SameServed links news = (number : ℕ) → all_at number news ≡ all_at number links
+SameServed links news = SameRead served_in links news
 
 abbrev pub KeepsServed : (Link → Link) → Type 0
 KeepsServed change = (link : Link) → (change link).served ≡ link.served
@@ -36,25 +37,13 @@ if_there change keeps None = refl
 if_there change keeps (Some link) = keeps link
 
 pub one_changed : (change : Link → Link) → KeepsServed change → (links : List Link) (number : ℕ) → SameServed links (changed change links number)
-one_changed change keeps links number other = by (either other number)
-  where
-    by : (other ≡ number) ⊎ (other ≢ number) → all_at other (changed change links number) ≡ all_at other links
-    by (inl same) =
-        ap (λ (n : ℕ). all_at n (changed change links number)) same
-        ∙ (ap served_in (changed_own change links number) ∙ (if_there change keeps (link_at links number) ∙ ap (λ (n : ℕ). all_at n links) (sym same)))
-    by (inr differ) = ap served_in (changed_other change links number other differ)
+one_changed change keeps = one_same served_in change (if_there change keeps)
 
 pub with_one : (links : List Link) (number : ℕ) (old new : Link) → link_at links number ≡ Some old → new.served ≡ old.served → SameServed links (with_link links number new)
-with_one links number old new there kept other = by (either other number)
-  where
-    by : (other ≡ number) ⊎ (other ≢ number) → all_at other (with_link links number new) ≡ all_at other links
-    by (inl same) =
-        ap (λ (n : ℕ). all_at n (with_link links number new)) same
-        ∙ (ap served_in (with_own links number old new there) ∙ (kept ∙ (ap served_in (sym there) ∙ ap (λ (n : ℕ). all_at n links) (sym same))))
-    by (inr differ) = ap served_in (with_other links number other new differ)
+with_one links number old new there kept = with_same served_in links number old new there kept
 
 pub each_changed : (change : Link → Link) → KeepsServed change → (links : List Link) → SameServed links (map change links)
-each_changed change keeps links number = ap served_in (all_changed change links number) ∙ if_there change keeps (link_at links number)
+each_changed change keeps = each_same served_in change (if_there change keeps)
 
 -- nothing was served on a new one
 pub new_served : (links : List Link) → SameServed links (links ++ new_link ∷ [])
@@ -95,9 +84,7 @@ pub reaped_served : KeepsServed reaped_link
 reaped_served link = refl
 
 pub drained_served : (event : ℕ) (numbers : List ℕ) (links : List Link) → SameServed links (fold (changed (sends event (closed_by_drain ∷ []))) links numbers)
-drained_served event [] links other = refl
-drained_served event (number ∷ numbers) links other =
-    drained_served event numbers (changed (sends event (closed_by_drain ∷ [])) links number) other ∙ one_changed (sends event (closed_by_drain ∷ [])) (sends_served event (closed_by_drain ∷ [])) links number other
+drained_served event = drained_same served_in event (if_there (sends event (closed_by_drain ∷ [])) (sends_served event (closed_by_drain ∷ [])))
 
 -- A STEP OF A CLIENT ------------------------------------------------------------------------------
 

@@ -41,7 +41,7 @@ use Rattle.shown_laws.proofs.Lookups.{either, eq_from, eq_to, ne_to, with_own, w
 use Rattle.shown_laws.proofs.OwnTurns.{same_test}
 use Rattle.shown_laws.proofs.SaidStays.{last_after, Speech, last_said, sends_said, silent_said, one_said}
 use Rattle.shown_laws.proofs.SessionsApart.{at_link}
-use Rattle.shown_laws.proofs.StepsOwned.{acts_own, steps_stay}
+use Rattle.shown_laws.proofs.StepsOwned.{Stay, acts_own, steps_stay}
 use Rattle.shown_laws.proofs.StepsTold.{told_step, told_steps, StepTells, TellsNone, TellsOne, Acts}
 use Rattle.shown_laws.proofs.TookTold.{IsLent, lent_kind, IsTaken, taken_kind}
 use Rattle.shown_laws.proofs.TurnSent.{owners_are}
@@ -82,9 +82,6 @@ hello_of up.Close other one connect same is = absurd (let no : same_up up.Close 
 hello_of up.Connect other one connect same is = absurd (let never : ⊥ = cc in never)
 
 -- WHAT IS TIED ------------------------------------------------------------------------------------
-
-abbrev pub Stay : List Client → List Client → Type 0
-Stay clients news = (owner : Owner) (acquired : Acquired) → IsStepOf clients owner acquired → IsStepOf news owner acquired
 
 pub tied_still : (clients news : List Client) → Stay clients news → (said : Option Said) (acquired : Option Acquired) → Tied clients said acquired → Tied news said acquired
 tied_still clients news stay _ _ Unopened = Unopened

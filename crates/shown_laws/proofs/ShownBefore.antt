@@ -1,15 +1,13 @@
 -- How many calls were shown before a step, as a part tells it: those that its request was shown by then.
-use Rattle.std.proofs.Common.{◌≡◌, refl, sym, ap, subst, ◌∙◌, append-nil, append_assoc, Bool, true, false, ℕ, suc, ◌<◌, ◌≤◌, ◌&&◌, length, List, [], ◌∷◌, ◌++◌, map, fold, filter, Option, Some, None, ◌⊎◌, inl, inr, if◌then◌else◌, arith}
-use Rattle.std.specs.Prelude.{is_some, is_none, nat_lt, filter_map}
+use Rattle.std.proofs.Common.{◌≡◌, refl, sym, ap, subst, ◌∙◌, append-nil, append_assoc, Bool, true, false, ℕ, suc, ◌<◌, ◌≤◌, ◌&&◌, length, List, [], ◌∷◌, ◌++◌, map, filter, Option, Some, None, ◌⊎◌, inl, inr, if◌then◌else◌, arith}
+use Rattle.std.specs.Prelude.{is_some, is_none, nat_lt}
 use Rattle.std.specs.List.{list_all, cons_option}
 use Rattle.std.proofs.lemmas.Bool.{and_parts}
 use Rattle.std.proofs.lemmas.Bool.Decides.{nat_tests}
 use Rattle.std.proofs.lemmas.List.{map-append}
 use Rattle.std.proofs.lemmas.List.Elements.{filter-append}
 use Rattle.std.proofs.lemmas.List.Sums.{fold-append}
-use Rattle.svc_values.specs.declared.call.Call.{Call}
 use Rattle.client_model.specs.Account.{Account, unheard, after_step, account_of}
-use Rattle.client_model.specs.Conversation.{Done}
 use Rattle.client_model.specs.Terms.{Terms}
 use Rattle.client_model.specs.declared.act.Shown.{Shown}
 use Rattle.outage_schedule.specs.declared.document.Request.{Request}
@@ -31,7 +29,7 @@ use Rattle.shown_laws.proofs.GreetedSince.{shows_none}
 use Rattle.shown_laws.proofs.RequestsAdd.{request_accounted}
 use Rattle.shown_laws.proofs.ShowingsHold.{quiet_shows, as_many}
 use Rattle.shown_laws.proofs.StepsAmong.{IsAmong, among_behind, among_either, later_than}
-use Rattle.shown_laws.proofs.ToldRise.{AllAfter, Rise, rise_behind}
+use Rattle.shown_laws.proofs.ToldRise.{AllAfter, Rise}
 
 -- WHERE A STEP IS TOLD ----------------------------------------------------------------------------
 

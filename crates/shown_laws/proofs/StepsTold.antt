@@ -230,34 +230,27 @@ module _ (t : Traced) (inv : Invariant t) (seen : Seen) (all : AllTold t.machine
     kind : (more : List Step) → SentBy (now_at t doing (Took reply.frame link.is_open)).done.act sent → GoneBehind t doing link reply.frame more → TellsKind t client (length own.past) doing (told_step t seen client (go.Took connection sent)) (now_at t doing (Took reply.frame link.is_open) ∷ more)
     kind more sends gone = HasTaken connection sent link reply.frame replied.served more refl sends has there replied.taken replied.tells (session_told replied.served replied.taken) lost_so gone
 
+    -- it goes on, or is over, at the reply
+    one_act : doing_of t.setting.terms (t.machine.event + 1) t.machine.tick own ≡ Some doing → SentBy (now_at t doing (Took reply.frame link.is_open)).done.act sent → (n : Machine) → GoneBehind t doing link reply.frame []
+        → Moves t.setting (at_event t.machine) n client own (after_now t doing (Took reply.frame link.is_open)) → Acts t seen client (go.Took connection sent) n
+    one_act does sends n behind moves = record {
+      own = own;
+      here = here;
+      doing = doing;
+      does = does;
+      acts = now_at t doing (Took reply.frame link.is_open) ∷ [];
+      tells = kind [] sends behind;
+      after = after_now t doing (Took reply.frame link.is_open);
+      request = refl;
+      steps = refl;
+      moves = moves;
+      told = refl;
+    }
+
     taken_acts : (does : doing_of t.setting.terms (t.machine.event + 1) t.machine.tick own ≡ Some doing) (sends : SentBy (now_at t doing (Took reply.frame link.is_open)).done.act sent) (a n : Machine) → a.event ≡ t.machine.event + 1 → a.tick ≡ t.machine.tick
         → TakenSo t.setting (at_event t.machine) client own here a n (after_now t doing (Took reply.frame link.is_open)) link (now_at t doing (Took reply.frame link.is_open)).done.act.hold → Acts t seen client (go.Took connection sent) n
-    taken_acts does sends a n event tick (Alive opens clients moves) = record {
-      own = own;
-      here = here;
-      doing = doing;
-      does = does;
-      acts = now_at t doing (Took reply.frame link.is_open) ∷ [];
-      tells = kind [] sends (GoesOn opens);
-      after = after_now t doing (Took reply.frame link.is_open);
-      request = refl;
-      steps = refl;
-      moves = moves;
-      told = refl;
-    }
-    taken_acts does sends a n event tick (Ended shut over moves) = record {
-      own = own;
-      here = here;
-      doing = doing;
-      does = does;
-      acts = now_at t doing (Took reply.frame link.is_open) ∷ [];
-      tells = kind [] sends (IsOver shut over);
-      after = after_now t doing (Took reply.frame link.is_open);
-      request = refl;
-      steps = refl;
-      moves = moves;
-      told = refl;
-    }
+    taken_acts does sends a n event tick (Alive opens clients moves) = one_act does sends n (GoesOn opens) moves
+    taken_acts does sends a n event tick (Ended shut over moves) = one_act does sends n (IsOver shut over) moves
     taken_acts does sends a n event tick (Lost shut keeps moves) = record {
       own = own;
       here = here;
@@ -274,94 +267,36 @@ module _ (t : Traced) (inv : Invariant t) (seen : Seen) (all : AllTold t.machine
       told = refl;
     }
 
+  -- the request that it is at did this, or nothing
+  did_so : {wanted : Wants} (doing : Doing) (is : IsDoing t.setting (at_event t.machine) client doing wanted) (did : GoNote) (n : Machine) (acts : List Step) (after : Doing) → told_steps t seen client did ≡ told_step t seen client did ∷ [] → after.request ≡ doing.request
+      → after.steps ≡ doing.steps ++ acts → TellsKind t client (length is.client.past) doing (told_step t seen client did) acts → Moves t.setting (at_event t.machine) n client is.client after → StepTells t seen client did n
+  did_so doing is did n acts after told request steps tells moves =
+      TellsOne (record { own = is.client; here = is.here; doing = doing; does = is.does; acts = acts; tells = tells; after = after; request = request; steps = steps; moves = moves; told = told })
+
   -- Each step of a client, by its note.
   pub step_tells : (did : GoNote) (n : Machine) → GoesAs t.setting (at_event t.machine) client did n → StepTells t seen client did n
   step_tells _ _ Idles = TellsNone refl refl
   step_tells _ _ (Rests doing _ _ is TooEarly) =
-      TellsOne (record {
-        own = is.client;
-        here = is.here;
-        doing = doing;
-        does = is.does;
-        acts = [];
-        tells = Rested refl is.wants (bare t seen client go.Early refl refl);
-        after = doing;
-        request = refl;
-        steps = sym (append-nil doing.steps);
-        moves = rests_at doing go.Early is.client is.here (was_there t.setting.terms (t.machine.event + 1) t.machine.tick wants.Early is.client.now is.client.next doing is.does is.wants (λ same. let none : ⊥ = cc in none));
-        told = refl;
-      })
+      did_so doing is go.Early _ [] doing refl refl (sym (append-nil doing.steps)) (Rested refl is.wants (bare t seen client go.Early refl refl))
+      (rests_at doing go.Early is.client is.here (was_there t.setting.terms (t.machine.event + 1) t.machine.tick wants.Early is.client.now is.client.next doing is.does is.wants (λ same. let none : ⊥ = cc in none)))
   step_tells _ _ (Rests doing _ _ is NoneFound) =
-      TellsOne (record {
-        own = is.client;
-        here = is.here;
-        doing = doing;
-        does = is.does;
-        acts = [];
-        tells = FoundNone refl is.wants (bare t seen client go.NoFrame refl refl);
-        after = doing;
-        request = refl;
-        steps = sym (append-nil doing.steps);
-        moves = rests_at doing go.NoFrame is.client is.here (old_doing doing is);
-        told = refl;
-      })
+      did_so doing is go.NoFrame _ [] doing refl refl (sym (append-nil doing.steps)) (FoundNone refl is.wants (bare t seen client go.NoFrame refl refl)) (rests_at doing go.NoFrame is.client is.here (old_doing doing is))
   step_tells _ _ (Waits doing is answer) =
-      TellsOne (record {
-        own = is.client;
-        here = is.here;
-        doing = doing;
-        does = is.does;
-        acts = now_at t doing Waiting ∷ [];
-        tells = Waited refl (begun_slot doing is) (bare t seen client go.Wait refl refl);
-        after = after_now t doing Waiting;
-        request = refl;
-        steps = refl;
-        moves = steps_move t.setting (at_event t.machine) client is.client is.here (with_pool (at_event t.machine) _) doing false Waiting refl;
-        told = refl;
-      })
+      did_so doing is go.Wait _ (now_at t doing Waiting ∷ []) (after_now t doing Waiting) refl refl refl (Waited refl (begun_slot doing is) (bare t seen client go.Wait refl refl))
+      (steps_move t.setting (at_event t.machine) client is.client is.here (with_pool (at_event t.machine) _) doing false Waiting refl)
   step_tells _ _ (Lends doing connection link ltxid is answer there held) =
       let session = lent_session connection link ltxid there held in
-      TellsOne (record {
-        own = is.client;
-        here = is.here;
-        doing = doing;
-        does = is.does;
-        acts = now_at t doing (Lent connection ltxid) ∷ [];
-        tells = WasLent connection link ltxid refl (begun_slot doing is) there held refl session.0 (session.0 ∙ session.1) refl;
-        after = after_now t (record doing { connection = Some connection }) (Lent connection ltxid);
-        request = refl;
-        steps = refl;
-        moves = steps_move t.setting (at_event t.machine) client is.client is.here (with_pool (at_event t.machine) _) (record doing { connection = Some connection }) true (Lent connection ltxid) refl;
-        told = refl;
-      })
+      did_so doing is (go.Lent connection) _ (now_at t doing (Lent connection ltxid) ∷ []) (after_now t (record doing { connection = Some connection }) (Lent connection ltxid)) refl refl refl
+      (WasLent connection link ltxid refl (begun_slot doing is) there held refl session.0 (session.0 ∙ session.1) refl)
+      (steps_move t.setting (at_event t.machine) client is.client is.here (with_pool (at_event t.machine) _) (record doing { connection = Some connection }) true (Lent connection ltxid) refl)
   step_tells _ _ (Opens doing wanted pool is tries) =
-      TellsOne (record {
-        own = is.client;
-        here = is.here;
-        doing = doing;
-        does = is.does;
-        acts = now_at t doing (Opened (next_number (at_event t.machine))) ∷ [];
-        tells = HasOpened (next_number (at_event t.machine)) refl refl (begun_try doing wanted pool is tries) (bare t seen client (go.Open (next_number (at_event t.machine))) refl refl);
-        after = after_now t (record doing { connection = Some (next_number (at_event t.machine)) }) (Opened (next_number (at_event t.machine)));
-        request = refl;
-        steps = refl;
-        moves = steps_move t.setting (at_event t.machine) client is.client is.here (with_new (at_event t.machine) pool) (record doing { connection = Some (next_number (at_event t.machine)) }) true (Opened (next_number (at_event t.machine))) refl;
-        told = refl;
-      })
+      let new : ℕ = next_number (at_event t.machine) in
+      did_so doing is (go.Open new) _ (now_at t doing (Opened new) ∷ []) (after_now t (record doing { connection = Some new }) (Opened new)) refl refl refl
+      (HasOpened new refl refl (begun_try doing wanted pool is tries) (bare t seen client (go.Open new) refl refl))
+      (steps_move t.setting (at_event t.machine) client is.client is.here (with_new (at_event t.machine) pool) (record doing { connection = Some new }) true (Opened new) refl)
   step_tells _ _ (Fails doing wanted pool is tries) =
-      TellsOne (record {
-        own = is.client;
-        here = is.here;
-        doing = doing;
-        does = is.does;
-        acts = now_at t doing TryFailed ∷ [];
-        tells = HasFailed refl (begun_try doing wanted pool is tries) (bare t seen client go.Down refl refl);
-        after = after_now t doing TryFailed;
-        request = refl;
-        steps = refl;
-        moves = steps_move t.setting (at_event t.machine) client is.client is.here (with_pool (at_event t.machine) pool) doing true TryFailed refl;
-        told = refl;
-      })
+      did_so doing is go.Down _ (now_at t doing TryFailed ∷ []) (after_now t doing TryFailed) refl refl refl (HasFailed refl (begun_try doing wanted pool is tries) (bare t seen client go.Down refl refl))
+      (steps_move t.setting (at_event t.machine) client is.client is.here (with_pool (at_event t.machine) pool) doing true TryFailed refl)
   step_tells _ _ (Takes doing connection sent link reply left is has there down frames) =
       TellsOne (taken_acts doing is.client is.here (old_doing doing is) connection sent link reply left has there down is.does
       (subst (SentBy (now_at t doing (Took reply.frame link.is_open)).done.act) (sym frames) (frames_sent t.machine.pool connection (now_at t doing (Took reply.frame link.is_open)).done.act))
@@ -370,16 +305,6 @@ module _ (t : Traced) (inv : Invariant t) (seen : Seen) (all : AllTold t.machine
       (after_now t doing (Took reply.frame link.is_open)) link (now_at t doing (Took reply.frame link.is_open)).done.act.hold
       (stepped t.setting t.machine.clients client is.client (after_now t doing (Took reply.frame link.is_open)) (now_at t doing (Took reply.frame link.is_open)).done.act.hold is.here)))
   step_tells _ _ (Loses doing connection link is has there down shut) =
-      TellsOne (record {
-        own = is.client;
-        here = is.here;
-        doing = doing;
-        does = is.does;
-        acts = now_at t doing (Gone (ended_at link)) ∷ [];
-        tells = HasLost connection link refl has there shut (bare t seen client (go.Lost connection) refl refl);
-        after = after_now t (record doing { connection = None }) (Gone (ended_at link));
-        request = refl;
-        steps = refl;
-        moves = steps_move t.setting (at_event t.machine) client is.client is.here (at_event t.machine) (record doing { connection = None }) true (Gone (unwrap_or link.ended 0)) refl;
-        told = refl;
-      })
+      did_so doing is (go.Lost connection) _ (now_at t doing (Gone (ended_at link)) ∷ []) (after_now t (record doing { connection = None }) (Gone (ended_at link))) refl refl refl
+      (HasLost connection link refl has there shut (bare t seen client (go.Lost connection) refl refl))
+      (steps_move t.setting (at_event t.machine) client is.client is.here (at_event t.machine) (record doing { connection = None }) true (Gone (unwrap_or link.ended 0)) refl)

@@ -1,17 +1,16 @@
 -- The turn that is told of a connection was acquired by a step on it, which is told.
-use Rattle.std.proofs.Common.{◌≡◌, refl, sym, ap, subst, ◌∙◌, append-nil, append_assoc, Bool, true, false, ℕ, List, [], ◌∷◌, ◌++◌, map, fold, Option, Some, None, option_map, ◌⊎◌, inl, inr}
+use Rattle.std.proofs.Common.{◌≡◌, refl, sym, ap, subst, ◌∙◌, append_assoc, Bool, true, false, ℕ, List, [], ◌∷◌, ◌++◌, fold, Option, Some, None, option_map, ◌⊎◌, inl, inr}
 use Rattle.std.specs.Option.{option_map_or, option_or}
 use Rattle.svc_values.specs.declared.call.Call.{Call}
 use Rattle.svc_values.specs.declared.entry.SessionId.{SessionId}
 use Rattle.outage_schedule.specs.declared.item.Item.{Item}
 use Rattle.outage_schedule.specs.declared.item.Item.TheVariants as item
 use Rattle.outage_schedule.specs.declared.item.Served.{Served}
-use Rattle.outage_schedule.specs.declared.note.GoNote.{GoNote}
 use Rattle.outage_schedule.specs.declared.note.Note.{Note}
 use Rattle.outage_schedule.specs.declared.note.Note.TheVariants as note
 use Rattle.shown_clauses.specs.Fronts.{changed_if, with_changed, first_item}
 use Rattle.shown_clauses.specs.Happenings.{Happening}
-use Rattle.shown_clauses.specs.Links.{Acquired, Link, Turn, Seen, nothing_seen, has_session, is_hello, is_link, link_of, linked, end_link, end_session, in_turn, turn_begun, call_served, acquire_if, take_reply, after_item, after_note, after_happening}
+use Rattle.shown_clauses.specs.Links.{Acquired, Link, Turn, Seen, nothing_seen, has_session, is_hello, link_of, linked, end_session, in_turn, turn_begun, call_served, acquire_if, take_reply, after_item, after_note, after_happening}
 use Rattle.shown_clauses.specs.Steps.{Step, steps_at, steps_from}
 use Rattle.shown_laws.specs.AcquiredTold.{acquired_by, acquired_after, told_acquired}
 use Rattle.shown_laws.specs.Telling.{seen_after, events_told, seen_told, steps_told}

@@ -41,15 +41,15 @@ use Rattle.shown_laws.specs.AcquiredTold.{told_acquired}
 use Rattle.shown_laws.specs.Connections.{TellsAt, NoLink, Unnamed, Named}
 use Rattle.shown_laws.specs.TurnOwners.{Said, said_of, said_at, Tied, Unopened, Unheard, Heard, begun_by, sent_begin, served_begin, told_begin, Begun, NotBegun, HasBegun}
 use Rattle.shown_laws.specs.TurnsServed.{served_in}
-use Rattle.shown_laws.proofs.BeginsTold.{starts, starts_end, item_begins, stopped_begins, gone_begin, other_begin, other_stopped, begun_on, now_begun}
+use Rattle.shown_laws.proofs.BeginsTold.{starts, starts_end, gone_begin, other_begin, other_stopped, begun_on, now_begun}
 use Rattle.shown_laws.proofs.ConnectionsTold.{AllTold}
 use Rattle.shown_laws.proofs.EventsTold.{Stands, names_ordinary, names_stopped, open_is}
 use Rattle.shown_laws.proofs.Following.{Does, Goes, ServesNone, Serves, CutsNone, Cuts, ReapsNone, Reaps, IsDown, Crashes, CrashStops, CrashServes, Ticks, Drains, IsServers}
 use Rattle.shown_laws.proofs.GoNotes.{follow_goes}
-use Rattle.shown_laws.proofs.ItemsTold.{IsFront, front_is, NamesSession, GivesName, HasName, AreApart}
+use Rattle.shown_laws.proofs.ItemsTold.{IsFront, front_is, NamesSession, GivesName, HasName, AreApart, item_kinds, stopped_kinds}
 use Rattle.shown_laws.proofs.Lookups.{either, eq_from, with_own, with_other}
 use Rattle.shown_laws.proofs.ServedStays.{SameServed, all_at, one_changed, with_one, each_changed, cut_served, fallen_served, reaped_served, drained_served, goes_served}
-use Rattle.shown_laws.proofs.SessionsTied.{Stay}
+use Rattle.shown_laws.proofs.StepsOwned.{Stay}
 use Rattle.shown_laws.proofs.TurnSent.{owners_are}
 use Rattle.shown_laws.proofs.TurnsHappen.{blocked_served}
 use Rattle.shown_laws.proofs.WordsKept.{all_ended, one_ended}
@@ -258,7 +258,7 @@ module _ (setting : Setting) (m : Machine) (stands : Stands m) (some : 0 < m.eve
   stopped_alike : (after : ℕ) (front : Front) (served : Served) → is_stopped m after front served ≡ true → is_begin_frame front.first.frame ≡ is_begin served.item
   stopped_alike after front served stopped =
       let parts = and_parts (is_of_front m front served) (is_crashed_item front.first.frame served.item && nat_lt after (m.server.per_record * (1 + sequences_in front.first.frame))) stopped in
-      stopped_begins front.first.frame served.item (and_parts (is_crashed_item front.first.frame served.item) (nat_lt after (m.server.per_record * (1 + sequences_in front.first.frame))) parts.1).0
+      (stopped_kinds front.first.frame served.item (and_parts (is_crashed_item front.first.frame served.item) (nat_lt after (m.server.per_record * (1 + sequences_in front.first.frame))) parts.1).0).1
 
   pub does_begun : (tick : ℕ) (one : Note) (items : List Served) (n : Machine) → Does setting m one items n → AllBegun m.clients n.links (after_happening seen (record { event = m.event; tick = tick; noted = one; items = items })).links
   does_begun tick _ _ _ (Goes client did n goes) = rests _ n.links (λ k. gone_begin k client m.event did seen.links) (goes_served setting m client did n (follow_goes setting m client did n goes))
@@ -266,7 +266,7 @@ module _ (setting : Setting) (m : Machine) (stands : Stands m) (some : 0 < m.eve
   does_begun tick _ _ _ (Serves connection name front served at ordinary) =
       let its = names_ordinary setting m stands some seen all connection front served at ordinary in
       serving_begun m.clients m.links seen.links known tied begun all stands.apart connection front served (front_is m.links connection front at) its.1 (handled m.event front served) (answered front served)
-      (blocked_served m.event front served (answered front served) (is_blocked served.item)) m.event (item_begins front.first.frame served.item its.0)
+      (blocked_served m.event front served (answered front served) (is_blocked served.item)) m.event (item_kinds front.first.frame served.item its.0).1
   does_begun tick _ _ _ (CutsNone connection) = begun
   does_begun tick _ _ _ (Cuts connection up down reached link at) =
       rests _ (with_link m.links connection (cut_link m.event up down link)) (λ k. one_ended starts starts_end k connection m.event seen.links)
@@ -283,7 +283,7 @@ module _ (setting : Setting) (m : Machine) (stands : Stands m) (some : 0 < m.eve
       let its = names_ordinary setting m stands some seen all connection front served at ordinary in
       fallen _ (with_link m.links connection (handled m.event front served))
       (stopping_begun m.clients m.links seen.links known tied begun all stands.apart connection front served (front_is m.links connection front at) its.1 (handled m.event front served) (answered front served)
-      (blocked_served m.event front served (answered front served) (is_blocked served.item)) m.event (item_begins front.first.frame served.item its.0))
+      (blocked_served m.event front served (answered front served) (is_blocked served.item)) m.event (item_kinds front.first.frame served.item its.0).1)
   does_begun tick _ _ _ Ticks = begun
   does_begun tick _ _ _ (Drains closed) = rests seen.links _ (λ k. refl) (drained_served m.event m.pool.idle m.links)
   does_begun tick _ _ _ (IsServers (note.Up incarnation) server is) = begun

@@ -1,5 +1,5 @@
 -- At the end of a whole run each turn that is told is of a request that has the step by which its session was acquired, and right for it.
-use Rattle.std.proofs.Common.{◌≡◌, refl, sym, ap, subst, ◌∙◌, append-nil, true, ℕ, zero, suc, ◌+◌, ◌≤◌, List, [], ◌∷◌, ◌++◌, map, Option, Some, None, option_map, ◌⊎◌, inl, inr, arith}
+use Rattle.std.proofs.Common.{◌≡◌, refl, sym, ap, subst, ◌∙◌, append-nil, true, ℕ, suc, List, [], ◌∷◌, ◌++◌, map, Option, Some, None, option_map}
 use Rattle.std.specs.Prelude.{◌==◌, flat_map, slice_get}
 use Rattle.std.specs.List.{list_all}
 use Rattle.std.specs.Option.{option_map_or}
@@ -10,7 +10,7 @@ use Rattle.shown_clauses.specs.Fronts.{front_of, rest_of}
 use Rattle.shown_clauses.specs.Links.{Acquired, Link as SeenLink, Marked, Turn, link_of, turn_of}
 use Rattle.shown_clauses.specs.Submissions.{Submission}
 use Rattle.shown_clauses.specs.Turns.{is_marked, begins_with, is_turn_right}
-use Rattle.world_model.specs.Clients.{Doing, Past, Client, client_at}
+use Rattle.world_model.specs.Clients.{Past, Client, client_at}
 use Rattle.world_model.specs.FirstBegins.{begin_once}
 use Rattle.world_model.specs.Frames.{Owner, Sent, Handled}
 use Rattle.world_model.specs.Invariant.{Invariant}
@@ -19,14 +19,13 @@ use Rattle.world_model.specs.Links.{Link, link_at}
 use Rattle.world_model.specs.NearCalls.{send_near}
 use Rattle.world_model.specs.SameLaws.{FollowsInvariant, HoldsInRuns}
 use Rattle.world_model.specs.Sames.{same_owners}
-use Rattle.world_model.specs.Settings.{Setting}
-use Rattle.world_model.specs.Traced.{Traced, Course, courses_from, courses_of_clients, courses_of}
+use Rattle.world_model.specs.Traced.{Traced}
 use Rattle.world_model.specs.Wire.{New}
 use Rattle.shown_laws.specs.ConnectionLaws.{AreTold}
 use Rattle.shown_laws.specs.OwnTurns.{OnWire}
 use Rattle.shown_laws.specs.Telling.{seen_told}
 use Rattle.shown_laws.specs.TurnOwners.{served_begin, Begun, NotBegun, HasBegun, TurnBegun, TellsOwners, RunsTellOwners, IsOwned, AreOwned, NoneOwned, OneOwned, WholeRunsOwnTurns}
-use Rattle.shown_laws.specs.Submitted.{submission_of, submission_so_far}
+use Rattle.shown_laws.specs.Submitted.{submission_of}
 use Rattle.shown_laws.specs.TurnSent.{sent_since}
 use Rattle.shown_laws.specs.TurnsOver.{WereTurns, NoneOver, OneOver}
 use Rattle.shown_laws.specs.TurnsServed.{calls_served, calls_told, served_in, TellsTurns}
@@ -37,102 +36,10 @@ use Rattle.shown_laws.proofs.FinishesReached.{finishing_reached}
 use Rattle.shown_laws.proofs.LinksTold.{AllStand, runs_told}
 use Rattle.shown_laws.proofs.Lookups.{eq_from}
 use Rattle.shown_laws.proofs.OwnersTold.{current_begun}
+use Rattle.shown_laws.proofs.RequestCourses.{course_over_is}
 use Rattle.shown_laws.proofs.TurnSent.{owners_are}
 use Rattle.shown_laws.proofs.TurnsInRuns.{reached_turns}
 use Rattle.shown_laws.proofs.TurnsRight.{OwnRight, own_right, none_right, wire}
-
--- THE REQUEST OF AN OWNER -------------------------------------------------------------------------
-
--- a request that is over stands at its place
-record AtPlace (client place : ℕ) (past : List Past) (course : Course) : Type 0 where
-  whose : course.owner.client ≡ client
-  from : place ≤ course.owner.place
-  is : (index : ℕ) (one : Past) → course.owner.place ≡ place + index → slice_get past index ≡ Some one → submission_so_far course ≡ submission_of one
-
-in_client : (setting : Setting) (client place : ℕ) (past : List Past) (now : Option Doing) (index : ℕ) (course : Course) → slice_get (courses_from setting client place past now) index ≡ Some course → AtPlace client place past course
-in_client setting client place [] None index course is = absurd (let none : ⊥ = cc in none)
-in_client setting client place [] (Some doing) (suc index) course is = absurd (let none : ⊥ = cc in none)
-in_client setting client place [] (Some doing) zero course is = record {
-  whose = ap (λ (found : Option Course). option_map_or (λ (c : Course). c.owner.client) found 0) (sym is);
-  from = let same : course.owner.place ≡ place = ap (λ (found : Option Course). option_map_or (λ (c : Course). c.owner.place) found 0) (sym is) in omega (arith, same);
-  is = λ index one at there. absurd (let none : ⊥ = cc in none);
-}
-in_client setting client place (first ∷ others) now zero course is =
-    let same : course.owner.place ≡ place = ap (λ (found : Option Course). option_map_or (λ (c : Course). c.owner.place) found 0) (sym is) in
-    record {
-      whose = ap (λ (found : Option Course). option_map_or (λ (c : Course). c.owner.client) found 0) (sym is);
-      from = omega (arith, same);
-      is = λ index one at there. by index one at there;
-    }
-  where
-    by : (index : ℕ) (one : Past) → course.owner.place ≡ place + index → slice_get (first ∷ others) index ≡ Some one → submission_so_far course ≡ submission_of one
-    by zero one at there =
-        let mine : first ≡ one = cc in
-        ap (λ (found : Option Course). option_map_or submission_so_far found (submission_of first)) (sym is) ∙ ap submission_of mine
-    by (suc index) one at there =
-        let same : course.owner.place ≡ place = ap (λ (found : Option Course). option_map_or (λ (c : Course). c.owner.place) found 0) (sym is) in
-        absurd (let none : ⊥ = omega (arith, same, at) in none)
-in_client setting client place (first ∷ others) now (suc index) course is =
-    let rest : AtPlace client (place + 1) others course = in_client setting client (place + 1) others now index course is in
-    let below : place + 1 ≤ course.owner.place = rest.from in
-    record {
-      whose = rest.whose;
-      from = omega (arith, below);
-      is = λ at one same there. by rest at one same there;
-    }
-  where
-    by : AtPlace client (place + 1) others course → (at : ℕ) (one : Past) → course.owner.place ≡ place + at → slice_get (first ∷ others) at ≡ Some one → submission_so_far course ≡ submission_of one
-    by rest zero one same there = let below : place + 1 ≤ course.owner.place = rest.from in absurd (let none : ⊥ = omega (arith, same, below) in none)
-    by rest (suc at) one same there = let next : course.owner.place ≡ (place + 1) + at = omega (arith, same) in rest.is at one next there
-
-record OfClients (number : ℕ) (clients : List Client) (course : Course) : Type 0 where
-  from : number ≤ course.owner.client
-  is : (index : ℕ) (own : Client) (one : Past) → course.owner.client ≡ number + index → slice_get clients index ≡ Some own → slice_get own.past course.owner.place ≡ Some one → submission_so_far course ≡ submission_of one
-
--- an item of two lists is one of the first or of the second
-record Behind {A : Type 0} (ys : List A) (x : A) : Type 0 where
-  index : ℕ
-  at : slice_get ys index ≡ Some x
-
-of_both : {A : Type 0} (xs ys : List A) (index : ℕ) (x : A) → slice_get (xs ++ ys) index ≡ Some x → (slice_get xs index ≡ Some x) ⊎ Behind ys x
-of_both [] ys index x is = inr (record { index = index; at = is })
-of_both (first ∷ xs) ys zero x is = inl is
-of_both (first ∷ xs) ys (suc index) x is = of_both xs ys index x is
-
-of_clients : (setting : Setting) (number : ℕ) (clients : List Client) (index : ℕ) (course : Course) → slice_get (courses_of_clients setting number clients) index ≡ Some course → OfClients number clients course
-of_clients setting number [] index course is = absurd (let none : ⊥ = cc in none)
-of_clients setting number (first ∷ clients) index course is =
-    by (of_both (courses_from setting number 0 first.past first.now) (courses_of_clients setting (number + 1) clients) index course is) (λ behind. of_clients setting (number + 1) clients behind.index course behind.at)
-  where
-    mine : AtPlace number 0 first.past course → OfClients number (first ∷ clients) course
-    mine at = record { from = let same : course.owner.client ≡ number = at.whose in omega (arith, same); is = λ place own one same there past. its place own one same there past }
-      where
-        its : (place : ℕ) (own : Client) (one : Past) → course.owner.client ≡ number + place → slice_get (first ∷ clients) place ≡ Some own → slice_get own.past course.owner.place ≡ Some one → submission_so_far course ≡ submission_of one
-        its zero own one same there past =
-            let it : first ≡ own = cc in
-            let its_place : course.owner.place ≡ 0 + course.owner.place = omega arith in
-            at.is course.owner.place one its_place (ap (λ (c : Client). slice_get c.past course.owner.place) it ∙ past)
-        its (suc place) own one same there past = let whose : course.owner.client ≡ number = at.whose in absurd (let none : ⊥ = omega (arith, same, whose) in none)
-
-    other : OfClients (number + 1) clients course → OfClients number (first ∷ clients) course
-    other rest = record { from = let below : number + 1 ≤ course.owner.client = rest.from in omega (arith, below); is = λ place own one same there past. its place own one same there past }
-      where
-        its : (place : ℕ) (own : Client) (one : Past) → course.owner.client ≡ number + place → slice_get (first ∷ clients) place ≡ Some own → slice_get own.past course.owner.place ≡ Some one → submission_so_far course ≡ submission_of one
-        its zero own one same there past = let below : number + 1 ≤ course.owner.client = rest.from in absurd (let none : ⊥ = omega (arith, same, below) in none)
-        its (suc place) own one same there past = let next : course.owner.client ≡ (number + 1) + place = omega (arith, same) in rest.is place own one next there past
-
-    by : (slice_get (courses_from setting number 0 first.past first.now) index ≡ Some course) ⊎ Behind (courses_of_clients setting (number + 1) clients) course → (Behind (courses_of_clients setting (number + 1) clients) course → OfClients (number + 1) clients course) → OfClients number (first ∷ clients) course
-    by (inl here) later = mine (in_client setting number 0 first.past first.now index course here)
-    by (inr behind) later = other (later behind)
-
-course_over_is : (t : Traced) (index : ℕ) (course : Course) (own : Client) (one : Past) → slice_get (courses_of t) index ≡ Some course → client_at t.machine.clients course.owner.client ≡ Some own → slice_get own.past course.owner.place ≡ Some one → submission_so_far course ≡ submission_of one
-course_over_is t index course own one at here past = by course.owner.client refl (of_clients t.setting 1 t.machine.clients index course at)
-  where
-    by : (client : ℕ) → course.owner.client ≡ client → OfClients 1 t.machine.clients course → submission_so_far course ≡ submission_of one
-    by zero same is = let below : 1 ≤ course.owner.client = is.from in absurd (let none : ⊥ = omega (arith, same, below) in none)
-    by (suc place) same is =
-        let next : course.owner.client ≡ 1 + place = omega (arith, same) in
-        is.is place own one next (ap (client_at t.machine.clients) (sym same) ∙ here) past
 
 -- TURNS -------------------------------------------------------------------------------------------
 
@@ -159,7 +66,7 @@ module _ (t : Traced) (inv : Invariant t) (unblocked : serve_unblocked t ≡ tru
         let client : right.course.owner.client ≡ owner.client = eq_from right.course.owner.client owner.client same.0 in
         let place : right.course.owner.place ≡ owner.place = eq_from right.course.owner.place owner.place same.1 in
         subst (λ (submission : Submission). is_turn_right submission turn ≡ true)
-        (course_over_is t right.place right.course own one right.at (ap (client_at t.machine.clients) client ∙ here) (ap (slice_get own.past) place ∙ at)) right.right
+        (course_over_is t inv right.place right.course own one right.at (ap (client_at t.machine.clients) client ∙ here) (ap (slice_get own.past) place ∙ at)) right.right
 
   owned_turn : (number : ℕ) (found : Option Link) → link_at t.machine.links number ≡ found → (served later : List Handled) → served_in found ≡ served ++ later → (turn : Turn) → calls_served served ≡ Some turn.calls → TurnBegun t.machine.clients turn served
       → IsOwned t.machine.clients turn

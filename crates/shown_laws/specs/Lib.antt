@@ -1,5 +1,6 @@
 pub mod AcquiredTold
 pub mod AnswersTold
+pub mod ByPlace
 pub mod CausedRuns
 pub mod ClientSteps
 pub mod Closing

@@ -1,5 +1,5 @@
 -- Whose turn it is that a session serves: the request that sent its Begin is the one that acquired the session last before.
-use Rattle.std.specs.Prelude.{◌≡◌, ◌==◌, ◌&&◌, ℕ, Bool, true, false, IsTrue, List, [], ◌∷◌, ◌++◌, map, fold, slice_get, Option, Some, None, option_map}
+use Rattle.std.specs.Prelude.{◌≡◌, ◌==◌, ◌&&◌, ℕ, Bool, true, false, IsTrue, List, [], ◌∷◌, map, fold, slice_get, Option, Some, None, option_map}
 use Rattle.std.specs.List.{list_any}
 use Rattle.std.specs.Option.{option_map_or}
 use Rattle.svc_values.specs.declared.entry.Ltxid.{Ltxid}
@@ -23,16 +23,13 @@ use Rattle.world_model.specs.Ready.{all_requests_right}
 use Rattle.world_model.specs.Traced.{Traced}
 use Rattle.world_model.specs.UnservedBegins.{last_owner}
 use Rattle.shown_laws.specs.AcquiredTold.{last_acquired}
+use Rattle.shown_laws.specs.ByPlace.{RequestSteps, IsRequestOf}
 use Rattle.shown_laws.specs.Submitted.{submission_of}
 use Rattle.shown_laws.specs.Telling.{seen_told, steps_told}
 use Rattle.shown_laws.specs.TurnsOver.{WereTurns}
 use Rattle.shown_laws.specs.TurnsServed.{served_in}
 
 -- STEPS -------------------------------------------------------------------------------------------
-
--- the steps of each request of a client, in order, with those of the one in course
-abbrev pub steps_by_place : Client → List (List Step)
-steps_by_place own = map (λ past. past.steps) own.past ++ option_map_or (λ doing. doing.steps ∷ []) own.now []
 
 -- it is lent a connection, or takes a reply
 abbrev pub is_met : Input → Bool
@@ -49,11 +46,9 @@ has_step_at event steps = list_any (meets_at event) steps
 -- An acquisition is a step of this request.
 pub record IsStepOf (clients : List Client) (owner : Owner) (acquired : Acquired) : Type 0 where
   pub whose : acquired.client ≡ owner.client
-  pub own : Client
-  pub here : client_at clients owner.client ≡ Some own
-  pub steps : List Step
-  pub at : slice_get (steps_by_place own) owner.place ≡ Some steps
-  pub among : has_step_at acquired.event steps ≡ true
+  pub one : RequestSteps
+  pub request : IsRequestOf clients owner one
+  pub among : has_step_at acquired.event one.steps ≡ true
 
 -- SESSIONS ----------------------------------------------------------------------------------------
 
