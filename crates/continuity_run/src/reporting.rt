@@ -10,8 +10,8 @@ use outage_schedule::{Image, Report, ReportTable, ReportTables};
 use service_calls::{ServeFault, Service};
 use service_core::tables_of;
 use std::alloc::Global;
-use svc_values::{Listed, NoMemory, TryCopy};
-use table_store::Tables;
+use svc_values::{Listed, NoMemory};
+use table_store::{TableRows, Tables};
 use world_run::Ran;
 
 /// What stands behind the first of these.
@@ -22,15 +22,17 @@ fn behind<T: Drop>(alloc: Global, all: Vec<T>, first: usize) -> Result<Listed<T>
     Ok(Listed::from_vec(later))
 }
 
-/// The rows of each table, in order of key.
-fn report_tables(alloc: Global, tables: &Tables) -> Result<ReportTables, NoMemory>
-    ensures { IfOk result (λ all. all ≡ map (printed_by tables.now.rows) tables.now.schemas) }
+/// The rows of each table, in order of key. They are moved, and the time is linear in them.
+#[tactic(auto, using(crate::proofs::ReadOff::given_printed))]
+fn report_tables(alloc: Global, tables: Tables) -> Result<ReportTables, NoMemory>
+    ensures { IfOk result (λ all. all ≡ map (printed_by tables.rows) tables.schemas) }
 {
     let mut all = Vec::new(alloc);
-    for schema in tables.schemas().as_slice() {
+    for one in tables.into_rows()? {
+        let TableRows { table, rows } = one;
         all.push(ReportTable {
-            name: schema.name.copy(alloc)?,
-            rows: Listed::from_vec(tables.rows(&schema.name)?),
+            name: table,
+            rows: Listed::from_vec(rows),
         })?;
     }
     Ok(Listed::from_vec(all))
@@ -106,6 +108,6 @@ pub(crate) fn report_of<S: Service + Drop>(
         image,
         notes,
         served,
-        tables: report_tables(alloc, &tables)?,
+        tables: report_tables(alloc, tables)?,
     })
 }

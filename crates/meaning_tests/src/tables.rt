@@ -5,7 +5,7 @@ use std::test::Fail;
 use svc_values::{
     Column, Columns, Kind, Name, NoMemory, Row, Schema, Schemas, Test, Value, Write, Writes,
 };
-use table_store::Tables;
+use table_store::{TableRows, Tables};
 
 /// The name of the only table.
 fn accounts(alloc: Global) -> Result<Name, Fail> {
@@ -75,10 +75,44 @@ fn rows_stand_by_key_and_the_last_write_counts(rt: HostRuntime) -> Result<(), Fa
         .and_then(|row| row.get(1));
     assert!(rt; balance == Some(&Value::Int(90)));
     assert!(rt; tables.get(&table, &Value::Int(3)).is_none());
-    let rows = tables.rows(&table)?;
-    assert_eq!(rt; rows.len(), 2);
-    assert!(rt; rows[0].get(0) == Some(&Value::Int(1)));
     assert!(rt; tables.schema(&table).is_some());
+    let all = tables.into_rows()?;
+    assert!(rt; is_of(all.as_slice(), 1, 2));
+    Ok(())
+}
+
+/// Whether this is one table with two rows, of these accounts.
+fn is_of(all: &[TableRows], first: i64, last: i64) -> bool {
+    match all {
+        [one] => match one.rows.as_slice() {
+            [row, next] => {
+                row.get(0) == Some(&Value::Int(first)) && next.get(0) == Some(&Value::Int(last))
+            }
+            _ => false,
+        },
+        _ => false,
+    }
+}
+
+#[test]
+fn rows_are_given_up_whether_they_are_shared_or_not(rt: HostRuntime) -> Result<(), Fail> {
+    let alloc = rt.alloc();
+    let table = accounts(alloc)?;
+    let mut writes = Writes::new(alloc);
+    for id in [2, 1] {
+        writes.push(write_of(alloc, id, Some(7))?)?;
+    }
+    let mut alone = empty(alloc)?;
+    assert!(rt; apply(&mut alone, &writes)?);
+    let all = alone.into_rows()?;
+    assert!(rt; is_of(all.as_slice(), 1, 2));
+    let mut shared = empty(alloc)?;
+    assert!(rt; apply(&mut shared, &writes)?);
+    let rows = shared.row_map(&table).expect(&rt, "rows").share()?;
+    let all = shared.into_rows()?;
+    assert!(rt; is_of(all.as_slice(), 1, 2));
+    assert_eq!(rt; rows.len(), 2);
+    assert!(rt; rows.get(&Value::Int(2)).is_some());
     Ok(())
 }
 

@@ -76,7 +76,7 @@ applied_more seen writes items i item now next same within there before after =
     after ∙ ap (λ (s : Stored). let t : Stored = record { schemas = s.schemas; rows = with_write s.rows item } in t) before
     ∙ ap (λ (rows : List PlainRow). let t : Stored = record { schemas = seen.schemas; rows = rows } in t) (sym (with_writes-last seen.rows (take i writes) item) ∙ ap (with_writes seen.rows) (sym longer))
 
-rows_of_plain : (table : List ℕ) (entries : Keyed) → map (λ one. one.row) (plain_rows table entries) ≡ values_of entries
+pub rows_of_plain : (table : List ℕ) (entries : Keyed) → map (λ one. one.row) (plain_rows table entries) ≡ values_of entries
 rows_of_plain table [] = refl
 rows_of_plain table (entry ∷ rest) = ap (λ l. entry.1 ∷ l) (rows_of_plain table rest)
 

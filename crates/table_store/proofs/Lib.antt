@@ -6,5 +6,6 @@ pub mod Changes
 pub mod Filled
 pub mod Joined
 pub mod Keeps
+pub mod Emptied
 pub mod ValueCmp
 pub mod Offered

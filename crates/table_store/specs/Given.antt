@@ -1,9 +1,13 @@
--- Rows as they are given to tables.
+-- Rows as they are given to tables and given back.
 use Rattle.std.specs.Prelude.{ℕ, List, map}
 use Rattle.std.specs.List.{flat_map}
 use Rattle.svc_values.specs.declared.value.Value.{Value}
 use Rattle.svc_values.specs.declared.tables.PlainRow.{PlainRow}
+use Rattle.svc_values.specs.declared.schema.Schema.{Schema}
+use Rattle.svc_values.specs.declared.tables.Place.TheVariants as place
 use Rattle.svc_values.specs.Schemas.{key_of}
+use Rattle.svc_values.specs.Tables.{rows_at}
+use Rattle.table_store.specs.Rows.{Shelves, shelf_of, shelf_rows}
 use Rattle.table_store.specs.declared.shelves.TableRows.{TableRows}
 
 -- a row with its key
@@ -17,3 +21,15 @@ plain_given table rows = map (λ row. record { table = table; key = key_of row; 
 -- all rows, one table after the other
 abbrev pub plain : List TableRows → List PlainRow
 plain tables = flat_map (λ one. plain_given one.table one.rows.items) tables
+
+-- the name of a table with its rows
+abbrev pub named : TableRows → List ℕ × List (List Value)
+named one = (one.table, one.rows.items)
+
+-- the name of a declared table with its rows in order of key
+abbrev pub named_in : List PlainRow → Schema → List ℕ × List (List Value)
+named_in rows schema = (schema.name, map (λ one. one.row) (rows_at rows (place.Table schema.name)))
+
+-- the same of rows that are kept as maps
+abbrev pub shelf_named : Shelves → Schema → List ℕ × List (List Value)
+shelf_named shelves schema = (schema.name, shelf_rows (shelf_of shelves schema.name))

@@ -5,7 +5,7 @@ use Rattle.std.specs.List.Sorted.{IsStrictlySortedBy}
 use Rattle.std.specs.Ordering.{nat_cmp}
 use Rattle.std.specs.Cmp.Lexicographic.{slice_cmp}
 use Rattle.std.specs.BTreeMap.{is_at}
-use Rattle.std.specs.Map.{keys_of, lookup}
+use Rattle.std.specs.Map.{keys_of, lookup, values_of}
 use Rattle.svc_values.specs.declared.value.Value.{Value}
 use Rattle.svc_values.specs.Order.{value_cmp}
 use Rattle.svc_values.specs.declared.tables.PlainRow.{PlainRow}
@@ -61,3 +61,8 @@ rows_if_any table (Some entries) = plain_rows table entries
 abbrev pub row_if_any : List ℕ → Value → Option (List Value) → List PlainRow
 row_if_any table key None = []
 row_if_any table key (Some row) = record { table = table; key = key; row = row } ∷ []
+
+-- the rows of a table that may have none, in order of key
+abbrev pub shelf_rows : Option Keyed → List (List Value)
+shelf_rows None = []
+shelf_rows (Some entries) = values_of entries

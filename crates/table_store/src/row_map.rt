@@ -1,6 +1,6 @@
 //! The rows of one table.
 ghost use Rattle.std.specs.Prelude.{◌≡◌, ◌<◌, ◌^◌, None, OnOk, OnErr, IfOk, [], length, map, if◌then◌else◌};
-ghost use Rattle.std.specs.Map.{update_all};
+ghost use Rattle.std.specs.Map.{update_all, values_of};
 ghost use Rattle.std.specs.Option.{option_copied};
 ghost use Rattle.std.specs.Ordering.{eq_by_cmp, is_eq};
 ghost use Rattle.svc_values.specs.Order.{value_cmp};
@@ -73,6 +73,18 @@ impl RowMap {
             rows,
             alloc: self.alloc,
         })
+    }
+
+    /// The rows in order of key. They are moved where nobody shares them, and else copied. Linear in
+    /// the rows.
+    pub(crate) fn into_rows(self) -> Result<Vec<Row>, NoMemory>
+        ensures { IfOk result (λ rows. rows.items ≡ values_of self) }
+    {
+        let RowMap { rows, alloc } = self;
+        match Rc::try_unwrap(rows) {
+            Ok(rows) => Ok(rows.into_values().collect(alloc)?),
+            Err(rows) => copied_rows(alloc, &rows),
+        }
     }
 
     /// Puts a row in the place of that of its key, if any. It takes the logarithm of the number of
@@ -185,4 +197,15 @@ fn copied(alloc: Global, rows: &BTreeMap<Value, Row>) -> Result<BTreeMap<Value, 
         made.insert(key.copy(alloc)?, row.copy(alloc)?)?;
     }
     Ok(made)
+}
+
+/// Copies of the rows in order of key.
+fn copied_rows(alloc: Global, rows: &BTreeMap<Value, Row>) -> Result<Vec<Row>, NoMemory>
+    ensures { IfOk result (λ copied. copied.items ≡ values_of rows.now.entries) }
+{
+    let mut copied = Vec::new(alloc);
+    for row in rows.values() {
+        copied.push(row.copy(alloc)?)?;
+    }
+    Ok(copied)
 }

@@ -1,15 +1,15 @@
 //! The maps of all tables.
 ghost use Rattle.std.specs.Prelude.{◌≡◌, OnOk, OnErr, IfOk, None, Some, map};
 ghost use Rattle.svc_values.specs.Tables.{in_order};
-ghost use Rattle.table_store.specs.Given.{keyed, plain};
-ghost use Rattle.table_store.specs.Rows.{IsShelved, all_rows};
+ghost use Rattle.table_store.specs.Given.{keyed, named, plain, shelf_named};
+ghost use Rattle.table_store.specs.Rows.{IsShelved, all_rows, shelf_of, shelf_rows};
 ghost use Rattle.table_store.specs.Shelves.{Changes, ChangesAll};
 ghost use Rattle.table_store.specs.Stored.{AreApart};
 
 use crate::row_map::RowMap;
 use std::alloc::Global;
 use std::collections::BTreeMap;
-use svc_values::{Name, NoMemory, Row, TryCopy, Value};
+use svc_values::{Name, NoMemory, Row, Schema, TryCopy, Value, schema_of};
 
 /// The rows that a table begins with. The first value of a row is its key.
 #[derive(Drop)]
@@ -33,6 +33,51 @@ pub(crate) fn filled(alloc: Global, tables: Vec<TableRows>) -> Result<Shelves, N
         put_all(alloc, &mut shelves, table, rows)?;
     }
     Ok(shelves)
+}
+
+/// The rows of each declared table in order of key beside its name, taken out of the maps. Linear in
+/// the rows, and quadratic in the tables, which are at most 32.
+pub(crate) fn emptied(
+    alloc: Global,
+    shelves: &mut Shelves,
+    schemas: &[Schema],
+) -> Result<Vec<TableRows>, NoMemory>
+    ensures { IfOk result (λ all. map named all.items ≡ map (shelf_named shelves.old.entries) schemas.now) }
+{
+    let mut all = Vec::new(alloc);
+    for at in 0..schemas.len() {
+        let name = &schemas[at].name;
+        let rows = taken(alloc, shelves, name, &schemas[at + 1..])?;
+        all.push(TableRows {
+            table: name.copy(alloc)?,
+            rows,
+        })?;
+    }
+    Ok(all)
+}
+
+/// The rows of a table in order of key. They are taken out of the maps, and copied where they are
+/// shared or a later declaration is of the same table. Linear in the rows.
+#[tactic(auto, using(crate::proofs::Emptied::others_same))]
+fn taken(
+    alloc: Global,
+    shelves: &mut Shelves,
+    table: &Name,
+    later: &[Schema],
+) -> Result<Vec<Row>, NoMemory>
+    ensures rows { IfOk result (λ rows. rows.items ≡ shelf_rows (shelf_of shelves.old.entries table.now)) }
+    ensures later { map (shelf_named shelves.new.entries) later.now ≡ map (shelf_named shelves.old.entries) later.now }
+{
+    if schema_of(later, table).is_some() {
+        return match shelves.get(table) {
+            None => Ok(Vec::new(alloc)),
+            Some(rows) => rows.share()?.into_rows(),
+        };
+    }
+    match shelves.remove(table) {
+        None => Ok(Vec::new(alloc)),
+        Some(rows) => rows.into_rows(),
+    }
 }
 
 /// Puts each row of a table in the place of that of its key, if any, one after the other. After a

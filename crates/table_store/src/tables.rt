@@ -1,7 +1,6 @@
 //! The tables of a service.
 ghost use Rattle.std.specs.Prelude.{◌≡◌, IsTrue, None, OnOk, OnErr, IfOk, map};
 ghost use Rattle.std.specs.Option.{option_copied, option_map};
-ghost use Rattle.std.specs.Map.{values_of};
 ghost use Rattle.svc_values.specs.Same.{same_value};
 ghost use Rattle.svc_values.specs.declared.tables.Place.TheVariants as place;
 ghost use Rattle.svc_values.specs.Tables.{rows_at, with_write, with_writes, in_order};
@@ -9,7 +8,7 @@ ghost use Rattle.svc_values.specs.Schemas.{schema_of as schema_of_def, key_of as
 ghost use Rattle.svc_values.specs.Tests.{selected as selected_def};
 ghost use Rattle.svc_values.specs.Fitting.{is_row_of, has_fit, tables_fit, write_fits, writes_fit};
 ghost use Rattle.table_store.specs.Rows.{rows_if_any, row_if_any};
-ghost use Rattle.table_store.specs.Given.{plain};
+ghost use Rattle.table_store.specs.Given.{plain, named, named_in};
 ghost use Rattle.table_store.specs.Selection.{at_most_32};
 ghost use Rattle.table_store.specs.Stored.{AreKept, AreApart, HasSome};
 
@@ -112,16 +111,6 @@ impl Tables {
         }
     }
 
-    /// Copies of the rows of a table in order of key. Linear in the rows.
-    pub fn rows(&self, table: &Name) -> Result<Vec<Row>, NoMemory>
-        ensures { IfOk result (λ rows. rows.items ≡ map (λ one. one.row) (rows_at self.now.rows (place.Table table.now))) }
-    {
-        let Some(rows) = self.row_map(table) else {
-            return Ok(Vec::new(self.alloc));
-        };
-        copied_rows(self.alloc, rows)
-    }
-
     /// Copies of the rows whose value in a column, told by its place from 0, meets the test, in order
     /// of key, and `None` exactly where more than 32 do. Linear in the rows of the table.
     pub fn select(
@@ -137,6 +126,20 @@ impl Tables {
             None => Ok(Some(Vec::new(self.alloc))),
             Some(rows) => selected(self.alloc, rows, column, test, value),
         }
+    }
+
+    /// Each declared table in its order, with its rows in order of key. The rows are moved, but those of
+    /// a table are copied where they are shared, or where a later declaration has its name. Linear in
+    /// the rows, and quadratic in the tables, which are at most 32.
+    pub fn into_rows(self) -> Result<Vec<TableRows>, NoMemory>
+        ensures { IfOk result (λ all. map named all.items ≡ map (named_in self.rows) self.schemas) }
+    {
+        let Tables {
+            schemas,
+            mut shelves,
+            alloc,
+        } = self;
+        shelves::emptied(alloc, &mut shelves, schemas.as_slice())
     }
 
     /// The tables after writes, in their order. A write takes the logarithm of the number of rows,
@@ -211,15 +214,4 @@ fn is_key_of(key: &Value, row: &Row) -> bool
         None => Value::Int(0) == *key,
         Some(first) => *first == *key,
     }
-}
-
-/// Copies of the rows in order of key.
-fn copied_rows(alloc: Global, rows: &RowMap) -> Result<Vec<Row>, NoMemory>
-    ensures { IfOk result (λ copied. copied.items ≡ values_of rows.now) }
-{
-    let mut copied = Vec::new(alloc);
-    for row in rows.as_map().values() {
-        copied.push(row.copy(alloc)?)?;
-    }
-    Ok(copied)
 }

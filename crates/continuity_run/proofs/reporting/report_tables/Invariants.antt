@@ -1,6 +1,7 @@
-use Rattle.std.proofs.Common.{◌≡◌, map, take}
+use Rattle.std.proofs.Common.{◌≡◌, ◌++◌, map}
 use Rattle.continuity_run.specs.Reading.{printed_by}
+use Rattle.continuity_run.proofs.ReadOff.{printed_of}
 use Rattle.continuity_run.proofs.reporting.report_tables.Given as goal
 
-abbrev pub invariant-loop-schema : goal.invariant-loop-schema
-invariant-loop-schema l = l.all.items ≡ map (printed_by l.tables.rows) (take l.schema-index l.schema-items)
+abbrev pub invariant-loop-one : goal.invariant-loop-one
+invariant-loop-one l = l.all.items ++ map printed_of l.one-iterator.rest.items ≡ map (printed_by l.fn.tables.rows) l.fn.tables.schemas
