@@ -162,8 +162,8 @@ fn document_from(alloc: Global, value: Json) -> Result<Document, DocFault>
 
 /// The document that the bytes spell as JSON (RFC 8259), of at most 8 MiB, or the first fault and its
 /// place. The texts of the document are moved out of the JSON value, which goes as it is read. The cost
-/// is linear in the number of bytes, but for the n log n comparisons of the keys of each table's n rows
-/// and of the names of each list of n names.
+/// is linear in the number of bytes, but for the n log n comparisons of the keys of a table whose n rows
+/// do not stand in rising order of key, and of the names of a list of n names in no such order.
 pub fn read_document(alloc: Global, bytes: &[u8]) -> Result<Document, DocFault>
     ensures read { Gives result (document_at bytes.now) }
     ensures document { IfOk result IsDocument }

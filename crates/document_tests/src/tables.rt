@@ -82,6 +82,36 @@ fn rows_fit_their_columns_and_have_new_keys(rt: HostRuntime) {
 }
 
 #[test]
+fn a_key_that_stands_twice_is_found_in_rows_of_any_order(rt: HostRuntime) {
+    let around = Around {
+        before: r#"{"clients":[],"tables":[{"name":"t","columns":[["id","int"]],"rows":"#,
+        after: "}]}",
+        place: "/tables/0/rows",
+    };
+    let rising = r##"0 | [[1],[2],[3],[4]]
+7 /1/0 | [[1],[1],[2],[3]]
+7 /3/0 | [[1],[2],[3],[3]]
+7 /3/0 | [[1],[2],[3],[1],[4]]
+7 /3/0 | [[1],[2],[3],[2],[2]]"##;
+    let falling = r##"0 | [[4],[3],[2],[1]]
+7 /1/0 | [[4],[4],[3],[2]]
+7 /3/0 | [[4],[3],[2],[2]]
+7 /3/0 | [[4],[3],[2],[4],[1]]
+7 /3/0 | [[4],[3],[2],[3],[3]]"##;
+    let mixed = r##"0 | [[3],[5],[1],[7],[4],[9],[2]]
+7 /6/0 | [[3],[5],[1],[7],[4],[9],[3]]
+7 /6/0 | [[3],[5],[1],[7],[4],[9],[7]]
+7 /6/0 | [[3],[5],[1],[7],[4],[9],[9]]
+7 /6/0 | [[3],[5],[1],[7],[4],[9],[1]]
+7 /6/0 | [[3],[5],[1],[7],[4],[9],[4]]
+7 /2/0 | [[3],[5],[5],[1],[1]]
+7 /3/0 | [[3],[5],[1],[1],[5]]"##;
+    assert!(rt; are_told(&rt, rt.alloc(), &around, rising));
+    assert!(rt; are_told(&rt, rt.alloc(), &around, falling));
+    assert!(rt; are_told(&rt, rt.alloc(), &around, mixed));
+}
+
+#[test]
 fn sequences_start_somewhere(rt: HostRuntime) {
     let cases = r##"0 | []
 3 | 1

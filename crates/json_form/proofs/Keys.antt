@@ -2,6 +2,7 @@
 use Rattle.std.proofs.Common.{◌≡◌, List, [], ◌∷◌, ◌++◌, map, Bool, true, false, cond, ◌||◌, refl, sym, ap, ◌∙◌}
 use Rattle.std.proofs.Math.Path.{fun_ext}
 use Rattle.std.specs.List.{list_any}
+use Rattle.std.proofs.lemmas.List.Folds.{list_any-append}
 use Rattle.std.specs.Ordering.{is_eq}
 use Rattle.std.specs.declared.cmp.Ordering.{Ordering}
 use Rattle.std.specs.BTreeMap.{is_at}
@@ -41,3 +42,8 @@ pub still_has : {A K : Type 0} (same : K → K → Bool) (key : A → K) (found 
     → (k : K) → is_key same new k ≡ is_key same (map key (found ++ x ∷ [])) k
 still_has same key found x old new has added k =
     added k ∙ ap (λ b. b || same k (key x)) (has k) ∙ sym (key_of_more same key found x k)
+
+-- the same where a list stands before the set
+pub has_added_behind : {K : Type 0} (same : K → K → Bool) (run old new : List K) (key : K) → ((k : K) → is_key same new k ≡ (is_key same old k || same k key)) → (k : K) → is_key same (run ++ new) k ≡ (is_key same (run ++ old) k || same k key)
+has_added_behind same run old new key added k =
+    list_any-append (same k) run new ∙ ap (λ b. is_key same run k || b) (added k) ∙ or_assoc (is_key same run k) (is_key same old k) (same k key) ∙ ap (λ b. b || same k key) (sym (list_any-append (same k) run old))

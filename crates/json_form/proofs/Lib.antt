@@ -3,10 +3,9 @@ pub mod DistinctKeys
 pub mod Failures
 pub mod Keys
 pub mod Known
-pub mod NoFloats
 pub mod Offered
 pub mod Readings
+pub mod Runs
 pub mod TakenOut
 pub mod Utf8
-pub mod WrittenItems
 pub mod WrittenTokens

@@ -1,5 +1,7 @@
 //! Arrays whose items have different keys.
-ghost use Rattle.std.specs.Prelude.{◌≡◌, map, ◌≤◌, Result, List, length, IfOk, IfErr, OnOk, OnErr, [], ◌||◌, false};
+ghost use Rattle.std.specs.Prelude.{◌≡◌, map, ◌≤◌, Result, List, length, IfOk, IfErr, OnOk, OnErr, [], ◌∷◌, ◌++◌, ◌||◌, ◌↔◌, IsTrue, false};
+ghost use Rattle.std.specs.List.Sorted.{IsStrictlySortedBy};
+ghost use Rattle.std.specs.Ordering.{is_lt};
 ghost use Rattle.serde_json.specs.View.{view, items_view};
 ghost use Rattle.json_form.specs.Faults.{Fault, Gives, GivesBy, within, within_item as within_item_def};
 ghost use Rattle.json_form.specs.Arrays.{distinct, array_of, list_of, is_key};
@@ -12,18 +14,59 @@ use std::alloc::{AllocError, Global};
 use std::collections::BTreeSet;
 use std::marker::Model;
 
-/// The keys of the items read so far, as an ordered set. Clauses see the list of its keys, in their order.
+/// The key is smaller than the other.
+fn is_below<K: Ord>(key: &K, other: &K) -> bool
+    ensures { result ≡ is_lt (K.cmp key.now other.now) }
+{
+    key.cmp(other).is_lt()
+}
+
+/// The key is greater than each of a run that rises: the run still rises with the key behind it. The cost is
+/// one comparison.
+fn rises_to<K: Ord>(run: &[K], key: &K) -> bool
+    requires { IsStrictlySortedBy K.cmp run.now }
+    ensures { IsTrue result ↔ IsStrictlySortedBy K.cmp (run.now ++ key.now ∷ []) }
+{
+    match run.split_last() {
+        Some((last, _)) => is_below(last, key),
+        None => true,
+    }
+}
+
+/// The key stands in a run that rises. The cost is one comparison where the key is greater than the last of
+/// the run, and else is logarithmic in the length of the run.
+fn stands_in_run<K: Ord>(run: &[K], key: &K) -> bool
+    requires { IsStrictlySortedBy K.cmp run.now }
+    ensures { result ≡ is_key K.eq run.now key.now }
+{
+    !rises_to(run, key) && run.binary_search(key).is_ok()
+}
+
+/// The key stands in the set. The cost is no comparison where the set is empty, and else is logarithmic in
+/// the number of its keys.
+fn stands_in_set<K: Ord>(keys: &BTreeSet<K>, key: &K) -> bool
+    ensures { result ≡ is_key K.eq keys.now.keys key.now }
+{
+    !keys.is_empty() && keys.contains(key)
+}
+
+/// The keys of the items read so far: a run of keys that rise, each greater than the one before it, and as an
+/// ordered set those that came out of order. Clauses see the list of the keys, those of the run first.
 #[derive(Drop)]
 pub struct Taken<K: Ord + Drop> {
-    keys: BTreeSet<K>,
+    run: Vec<K>,
+    others: BTreeSet<K>,
 }
 
 impl<K: Ord + Drop> Model for Taken<K> {
-    ghost use Rattle.std.specs.Prelude.{List};
+    ghost use Rattle.std.specs.Prelude.{List, ◌++◌};
+    ghost use Rattle.std.specs.List.Sorted.{IsStrictlySortedBy};
 
     ghost Value = { List K };
 
-    ghost view = { λ s. s.keys.keys };
+    ghost view = { λ s. s.run.items ++ s.others.keys };
+
+    ghost invariant = { λ s. IsStrictlySortedBy K.cmp s.run.items };
 }
 
 impl<K: Ord + Drop> Taken<K> {
@@ -33,22 +76,30 @@ impl<K: Ord + Drop> Taken<K> {
         ensures { result ≡ [] }
     {
         Taken {
-            keys: BTreeSet::new(alloc),
+            run: Vec::new(alloc),
+            others: BTreeSet::new(alloc),
         }
     }
 
+    /// One key more. The cost is one comparison where the key is greater than the last of the run, and else
+    /// is logarithmic in the number of keys out of order.
     fn add(&mut self, key: K) -> Result<(), AllocError>
         ensures { OnOk result ((k : K) → is_key K.eq self.new k ≡ (is_key K.eq self.old k || K.eq k key)) }
     {
-        self.keys.insert(key)?;
+        if rises_to(self.run.as_slice(), &key) {
+            self.run.push(key)?;
+        } else {
+            self.others.insert(key)?;
+        }
         Ok(())
     }
 
-    /// No item before has this key. The cost is logarithmic in the number of items before.
+    /// No item before has this key. The cost is one comparison where the keys of the items before rise to
+    /// this one, and else is logarithmic in the number of items before.
     pub fn fresh(&self, alloc: Global, key: &K) -> Result<(), DocFault>
         ensures { GivesBy (λ _. tt) result (fresh_def (is_key K.eq self.now) key.now) }
     {
-        if self.keys.contains(key) {
+        if stands_in_run(self.run.as_slice(), key) || stands_in_set(&self.others, key) {
             return Err(DocFault::here(alloc, DocCode::Duplicate));
         }
         Ok(())
@@ -114,7 +165,7 @@ fn each_distinct<T: Drop, R: KeyedReader<T>>(
 }
 
 /// The items of an array of `low` to `high`, in order, with different keys. Beside the readings of the
-/// items the cost is n log n comparisons of keys and a key for each item.
+/// items the cost is a key for each item and, where the keys rise, two comparisons for each, else n log n.
 pub fn distinct_from<T: Drop, R: KeyedReader<T>>(
     alloc: Global,
     value: Value,
