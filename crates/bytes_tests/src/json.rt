@@ -1,10 +1,11 @@
 //! Values of RFC 8259, and places of faults by RFC 6901.
 
 use json_form::{
-    DocCode, DocFault, Flag, Integer, ObjectWriter, Reader, Whole, Written, array_at, fixed,
-    head_from, json_from, object_with, octets_in,
+    DocCode, DocFault, Flag, Integer, Reader, TextWriter, Whole, array_at, fixed, head_from,
+    json_from, object_with, octets_in,
 };
 use serde_json::Value;
+use std::alloc::{AllocError, Global};
 
 /// The number of the code and the place of a fault.
 fn told<T>(read: &Result<T, DocFault>) -> (u8, &str) {
@@ -136,20 +137,26 @@ fn octets_are_pairs_of_digits(rt: HostRuntime) {
     assert_eq!(rt; octets.as_slice(), [10, 255].as_slice());
 }
 
+/// An object of an array and of octets.
+fn image_written(alloc: Global, out: &mut TextWriter) -> Result<(), AllocError> {
+    out.begin_object()?;
+    out.name("IDs")?;
+    out.begin_array()?;
+    out.integer(-943)?;
+    out.null()?;
+    out.flag(false)?;
+    out.end_array()?;
+    out.name("Id")?;
+    out.octets(alloc, &[0, 171])?;
+    out.end_object()
+}
+
 #[test]
-fn members_are_written_in_order(rt: HostRuntime) {
+fn a_text_is_written_piece_by_piece(rt: HostRuntime) {
     let alloc = rt.alloc();
-    let numbers = [
-        Written::integer(-943),
-        Written::null(),
-        Written::flag(false),
-    ];
-    let numbers = Written::array(alloc, numbers).expect(&rt, "memory");
-    let octets = Written::octets(alloc, &[0, 171]).expect(&rt, "memory");
-    let mut image = ObjectWriter::new(alloc);
-    image.put(alloc, "Id", octets).expect(&rt, "memory");
-    image.put(alloc, "IDs", numbers).expect(&rt, "memory");
-    let bytes = image.written().to_bytes(alloc).expect(&rt, "memory");
+    let mut out = TextWriter::new(alloc);
+    image_written(alloc, &mut out).expect(&rt, "memory");
+    let bytes = out.into_bytes();
     let expected = b"{\"IDs\":[-943,null,false],\"Id\":\"00ab\"}";
     assert_eq!(rt; bytes.as_slice(), expected.as_slice());
 }

@@ -80,7 +80,7 @@ fn report_text(alloc: Global, document: Document) -> Result<Vec<u8>, NoMemory>
     ensures { IfOk result (λ text. IsReported document text.items) }
 {
     let report = run_document(alloc, document)?;
-    report_bytes(alloc, report)
+    report_bytes(alloc, &report)
 }
 
 fn read_input<S: Source>(alloc: Global, source: &mut S) -> Result<Vec<u8>, ReadError>

@@ -1,7 +1,5 @@
 -- Lemmas on this crate's words that the crates above cite.
 use Rattle.json_form.proofs.TakenOut.{has_after, required_after, optional_after, part_after}
--- items without a float, and one more behind them without one
-pub use Rattle.json_form.proofs.NoFloats.{none_with_item}
 -- the tokens of an array, item by item
 pub use Rattle.json_form.proofs.WrittenTokens.{each_written, array_written}
 -- what a reading did that gave a value, one step after the other

@@ -13,7 +13,6 @@ mod reader;
 mod step;
 mod text;
 mod word;
-mod written;
 
 pub use array::{array_at, array_from, exact_from, list_at, list_from};
 pub use bytes::json_from;
@@ -27,4 +26,3 @@ pub use reader::{Flag, Integer, Reader, Whole};
 pub use step::{within, within_item};
 pub use text::{TextWriter, Writer};
 pub use word::{chosen, head_from, text_from, word_from};
-pub use written::{ArrayWriter, Mover, ObjectWriter, Written};

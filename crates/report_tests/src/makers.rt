@@ -123,7 +123,7 @@ pub fn empty(alloc: Global) -> Report {
 }
 
 /// The report is written as these texts, one behind the other.
-pub fn reads(rt: &impl Abort, alloc: Global, report: Report, parts: &[&str]) {
+pub fn reads(rt: &impl Abort, alloc: Global, report: &Report, parts: &[&str]) {
     let bytes = report_bytes(alloc, report).expect(rt, "memory");
     let mut rest = bytes.as_slice();
     for part in parts {
@@ -145,7 +145,7 @@ pub fn note_reads(rt: &impl Abort, alloc: Global, note: Note, text: &str) {
         text,
         r#"],"served":[],"tables":[]}"#,
     ];
-    reads(rt, alloc, report, &parts);
+    reads(rt, alloc, &report, &parts);
 }
 
 /// What the session (1,1) served at the event 13 is written as this text.
@@ -162,7 +162,7 @@ pub fn item_reads(rt: &impl Abort, alloc: Global, item: Item, text: &str) {
         text,
         r#"],"tables":[]}"#,
     ];
-    reads(rt, alloc, report, &parts);
+    reads(rt, alloc, &report, &parts);
 }
 
 /// The only request of the only client is written as this text.
@@ -175,5 +175,5 @@ pub fn request_reads(rt: &impl Abort, alloc: Global, request: RequestReport, tex
         text,
         r#"]],"entries":[],"notes":[],"served":[],"tables":[]}"#,
     ];
-    reads(rt, alloc, report, &parts);
+    reads(rt, alloc, &report, &parts);
 }

@@ -8,7 +8,8 @@ use outage_schedule::{
     FrameName, GoNote, Item, Note, Report, ReportTable, RequestReport, Served, ShownCall,
     Transcript,
 };
-use report_text::report_of;
+use report_text::report_bytes;
+use serde_json::Value;
 use std::alloc::Global;
 use std::process::Abort;
 use svc_values::{Answer, Answers, Call, Entry, Listed, Piece, Settings};
@@ -175,14 +176,14 @@ fn plain(rt: &impl Abort, alloc: Global) -> Report {
 #[test]
 fn an_insert_a_read_and_a_commit(rt: HostRuntime) {
     let alloc = rt.alloc();
-    reads(&rt, alloc, plain(&rt, alloc), &PLAIN);
+    reads(&rt, alloc, &plain(&rt, alloc), &PLAIN);
 }
 
 #[test]
 fn no_clients(rt: HostRuntime) {
     let text =
         r#"{"alerts":[],"blocked":[],"clients":[],"entries":[],"notes":[],"served":[],"tables":[]}"#;
-    reads(&rt, rt.alloc(), empty(rt.alloc()), &[text]);
+    reads(&rt, rt.alloc(), &empty(rt.alloc()), &[text]);
 }
 
 #[test]
@@ -193,7 +194,7 @@ fn members_that_are_not_always_there(rt: HostRuntime) {
     report.image = Some(listed(&rt, alloc, [84, 71, 83, 84, 79, 82, 69, 49, 1, 0]));
     let text =
         r#"{"alerts":[],"blocked":[],"clients":[],"entries":[],"forgotten":2,"image":"544753544f5245310100","notes":[],"served":[],"tables":[]}"#;
-    reads(&rt, alloc, report, &[text]);
+    reads(&rt, alloc, &report, &[text]);
 }
 
 #[test]
@@ -206,12 +207,14 @@ fn alerts_and_blocked_identifiers(rt: HostRuntime) {
     report.blocked = listed(&rt, alloc, [ltxid(1, 2), ltxid(9, 0)]);
     let text =
         r#"{"alerts":["flush","again"],"blocked":[[1,1,2],[1,9,0]],"clients":[],"entries":[],"notes":[],"served":[],"tables":[]}"#;
-    reads(&rt, alloc, report, &[text]);
+    reads(&rt, alloc, &report, &[text]);
 }
 
 #[test]
 fn a_report_as_a_value(rt: HostRuntime) {
-    let value = report_of(rt.alloc(), empty(rt.alloc())).expect(&rt, "memory");
+    let alloc = rt.alloc();
+    let bytes = report_bytes(alloc, &empty(alloc)).expect(&rt, "memory");
+    let value = Value::from_slice(alloc, bytes.as_slice()).expect(&rt, "JSON");
     assert!(rt; value.get("notes").is_some());
     assert!(rt; value.get("image").is_none());
     assert!(rt; value.get("forgotten").is_none());

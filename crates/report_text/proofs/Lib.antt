@@ -1,8 +1,8 @@
 mod CallsBack
 mod EntriesBack
 mod ItemsBack
-mod Members
 mod NotesBack
+mod PartsWritten
 mod Places
 mod ReportBack
 mod TextBack

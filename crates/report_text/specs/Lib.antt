@@ -10,4 +10,5 @@ pub mod Octets
 pub mod Parts
 pub mod Report
 pub mod Requests
+pub mod Tokens
 pub mod Values

@@ -1,13 +1,16 @@
 //! Answers and draws.
-ghost use Rattle.std.specs.Prelude.{◌≡◌, IfOk};
-ghost use Rattle.serde_json.specs.View.{view};
+ghost use Rattle.std.specs.Prelude.{◌≡◌, ◌++◌, OnOk, codes};
+ghost use Rattle.json_form.specs.Tokens.{tokens_of};
+ghost use Rattle.json_form.specs.Writing.{integer as integer_def, list_by};
+ghost use Rattle.report_text.specs.Parts.{one as one_def};
+ghost use Rattle.report_text.specs.Values.{row_value};
 ghost use Rattle.report_text.specs.Answers.{refusal_code as refusal_code_def, answer_value, draw_value, answers_value, draws_value};
 
-use crate::part::{headed, one};
-use crate::value::RowMover;
-use json_form::{Mover, Written};
+use crate::part::{begin_one, begin_word, numbered, one_whole};
+use crate::value::RowWriter;
+use json_form::{TextWriter, Writer};
 use std::alloc::{AllocError, Global};
-use svc_values::{Answer, Answers, Draw, Draws, StatementFault};
+use svc_values::{Answer, Answers, Draw, Draws, Rows, StatementFault};
 
 fn refusal_code(fault: StatementFault) -> u8
     ensures { result ≡ refusal_code_def fault }
@@ -15,61 +18,82 @@ fn refusal_code(fault: StatementFault) -> u8
     fault as u8
 }
 
-struct AnswerMover;
+fn number_written(number: i64, out: &mut TextWriter) -> Result<(), AllocError>
+    ensures { OnOk result (out.new ≡ out.old ++ tokens_of (one_def (codes "number") (integer_def number))) }
+{
+    begin_one(out, "number")?;
+    out.integer(number)?;
+    out.end_object()
+}
 
-impl Mover<Answer> for AnswerMover {
+fn rows_written(alloc: Global, rows: &Rows, out: &mut TextWriter) -> Result<(), AllocError>
+    ensures { OnOk result (out.new ≡ out.old ++ tokens_of (one_def (codes "rows") (list_by row_value rows.now))) }
+{
+    begin_one(out, "rows")?;
+    out.array_of(alloc, rows.as_slice(), &RowWriter)?;
+    out.end_object()
+}
+
+struct AnswerWriter;
+
+impl Writer<Answer> for AnswerWriter {
     ghost writes = { λ s. answer_value };
 
     #[tactic(auto, unfolding(crate::specs::Answers::answer_value))]
-    fn write(&self, alloc: Global, item: Answer) -> Result<Written, AllocError> {
+    fn write(&self, alloc: Global, item: &Answer, out: &mut TextWriter) -> Result<(), AllocError> {
         match item {
-            Answer::Done(count) => one(alloc, "done", Written::whole(count)),
-            Answer::Rows(rows) => {
-                let rows = Written::array_from(alloc, rows.into_vec(), &RowMover)?;
-                one(alloc, "rows", rows)
-            }
-            Answer::Number(number) => one(alloc, "number", Written::integer(number)),
-            Answer::Committed => Written::text(alloc, "committed"),
-            Answer::Conflict => Written::text(alloc, "conflict"),
-            Answer::RolledBack => Written::text(alloc, "rolledback"),
-            Answer::CommitInReplay => Written::text(alloc, "commitinreplay"),
-            Answer::Refused(fault) => {
-                let code = Written::whole(u64::from(refusal_code(fault)));
-                one(alloc, "refused", code)
-            }
+            Answer::Done(count) => one_whole(out, "done", *count),
+            Answer::Rows(rows) => rows_written(alloc, rows, out),
+            Answer::Number(number) => number_written(*number, out),
+            Answer::Committed => out.text("committed"),
+            Answer::Conflict => out.text("conflict"),
+            Answer::RolledBack => out.text("rolledback"),
+            Answer::CommitInReplay => out.text("commitinreplay"),
+            Answer::Refused(fault) => one_whole(out, "refused", u64::from(refusal_code(*fault))),
         }
     }
 }
 
-struct DrawMover;
+struct DrawWriter;
 
-impl Mover<Draw> for DrawMover {
+impl Writer<Draw> for DrawWriter {
     ghost writes = { λ s. draw_value };
 
     #[tactic(auto, unfolding(crate::specs::Answers::draw_value))]
-    fn write(&self, alloc: Global, item: Draw) -> Result<Written, AllocError> {
+    fn write(&self, alloc: Global, item: &Draw, out: &mut TextWriter) -> Result<(), AllocError> {
         match item {
             Draw::Seq { name, value } => {
-                let name = Written::moved(name.into_string());
-                headed(alloc, "seq", [name, Written::integer(value)])
+                begin_word(out, "seq")?;
+                out.text(name.as_str())?;
+                out.integer(*value)?;
+                out.end_array()
             }
-            Draw::Clock { tick } => headed(alloc, "clock", [Written::whole(tick)]),
+            Draw::Clock { tick } => numbered(out, "clock", *tick),
             Draw::Id { id } => {
-                let digits = Written::octets(alloc, &id[..])?;
-                headed(alloc, "id", [digits])
+                begin_word(out, "id")?;
+                out.octets(alloc, &id[..])?;
+                out.end_array()
             }
         }
     }
 }
 
-pub(crate) fn answers_written(alloc: Global, answers: Answers) -> Result<Written, AllocError>
-    ensures { IfOk result (λ w. view w.value ≡ answers_value answers) }
+pub(crate) fn answers_written(
+    alloc: Global,
+    answers: &Answers,
+    out: &mut TextWriter,
+) -> Result<(), AllocError>
+    ensures { OnOk result (out.new ≡ out.old ++ tokens_of (answers_value answers.now)) }
 {
-    Written::array_from(alloc, answers.into_vec(), &AnswerMover)
+    out.array_of(alloc, answers.as_slice(), &AnswerWriter)
 }
 
-pub(crate) fn draws_written(alloc: Global, draws: Draws) -> Result<Written, AllocError>
-    ensures { IfOk result (λ w. view w.value ≡ draws_value draws) }
+pub(crate) fn draws_written(
+    alloc: Global,
+    draws: &Draws,
+    out: &mut TextWriter,
+) -> Result<(), AllocError>
+    ensures { OnOk result (out.new ≡ out.old ++ tokens_of (draws_value draws.now)) }
 {
-    Written::array_from(alloc, draws.into_vec(), &DrawMover)
+    out.array_of(alloc, draws.as_slice(), &DrawWriter)
 }

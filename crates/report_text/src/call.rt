@@ -1,66 +1,96 @@
 //! Calls, in the document's form.
-ghost use Rattle.std.specs.Prelude.{◌≡◌, IfOk, ◌∷◌, []};
-ghost use Rattle.serde_json.specs.View.{view};
+ghost use Rattle.std.specs.Prelude.{◌≡◌, ◌++◌, ◌∷◌, [], OnOk};
+ghost use Rattle.json_form.specs.Tokens.{tokens_of};
 ghost use Rattle.json_form.specs.Writing.{list};
-ghost use Rattle.report_text.specs.Calls.{call_value};
+ghost use Rattle.report_text.specs.Parts.{lone as lone_def};
+ghost use Rattle.report_text.specs.Calls.{commit_values, call_value};
+ghost use Rattle.report_text.specs.Tokens.{ending};
 
-use crate::part::{headed, lone};
-use crate::statement::StatementMover;
-use crate::value::ValueMover;
-use json_form::{ArrayWriter, Mover, Written};
+use crate::part::{begin_word, lone};
+use crate::statement::StatementWriter;
+use crate::value::ValueWriter;
+use json_form::{TextWriter, Writer};
 use std::alloc::{AllocError, Global};
-use svc_values::{Call, Statements};
+use svc_values::{Call, Name, Statement, Text, Value};
+
+// The commit, if the call has one, and the bracket behind it.
+fn work_ended(out: &mut TextWriter, commit: bool) -> Result<(), AllocError>
+    ensures { OnOk result (out.new ≡ out.old ++ ending (commit_values commit)) }
+{
+    if !commit {
+        return out.end_array();
+    }
+    lone(out, "commit")?;
+    out.end_array()
+}
 
 // The statements, and last the commit.
 #[tactic(auto, unfolding(crate::specs::Calls::call_value))]
-fn work_written(alloc: Global, statements: Statements, commit: bool) -> Result<Written, AllocError>
-    ensures { IfOk result (λ w. view w.value ≡ call_value (Call.Work statements commit)) }
+fn work_written(
+    alloc: Global,
+    statements: &[Statement],
+    commit: bool,
+    out: &mut TextWriter,
+) -> Result<(), AllocError>
+    ensures { OnOk result (out.new ≡ out.old ++ tokens_of (call_value (Call.Work statements.now commit))) }
 {
-    let mut items = ArrayWriter::new(alloc);
-    for statement in statements.into_vec() {
-        items.push(StatementMover.write(alloc, statement)?)?;
-    }
-    if commit {
-        items.push(lone(alloc, "commit")?)?;
-    }
-    Ok(items.written())
+    out.begin_array()?;
+    out.each(alloc, statements, &StatementWriter)?;
+    work_ended(out, commit)
 }
 
-// A call of one item.
-fn only(alloc: Global, item: Written) -> Result<Written, AllocError>
-    ensures { IfOk result (λ w. view w.value ≡ list (view item.value ∷ [])) }
+#[tactic(auto, unfolding(crate::specs::Calls::call_value))]
+fn set_written(
+    alloc: Global,
+    name: &Name,
+    value: &Value,
+    out: &mut TextWriter,
+) -> Result<(), AllocError>
+    ensures { OnOk result (out.new ≡ out.old ++ tokens_of (call_value (Call.Set name.now value.now))) }
 {
-    Written::array(alloc, [item])
+    out.begin_array()?;
+    begin_word(out, "set")?;
+    out.text(name.as_str())?;
+    ValueWriter.write(alloc, value, out)?;
+    out.end_array()?;
+    out.end_array()
 }
 
-pub(crate) struct CallMover;
+#[tactic(auto, unfolding(crate::specs::Calls::call_value))]
+fn alter_written(line: &Text, out: &mut TextWriter) -> Result<(), AllocError>
+    ensures { OnOk result (out.new ≡ out.old ++ tokens_of (call_value (Call.Alter line.now))) }
+{
+    out.begin_array()?;
+    begin_word(out, "alter")?;
+    out.text(line.as_str())?;
+    out.end_array()?;
+    out.end_array()
+}
 
-impl Mover<Call> for CallMover {
+// A call of one item that is one word.
+fn word_written(out: &mut TextWriter, word: &str) -> Result<(), AllocError>
+    ensures { OnOk result (out.new ≡ out.old ++ tokens_of (list (lone_def word.now ∷ []))) }
+{
+    out.begin_array()?;
+    lone(out, word)?;
+    out.end_array()
+}
+
+pub(crate) struct CallWriter;
+
+impl Writer<Call> for CallWriter {
     ghost writes = { λ s. call_value };
 
     #[tactic(auto, unfolding(crate::specs::Calls::call_value))]
-    fn write(&self, alloc: Global, item: Call) -> Result<Written, AllocError> {
+    fn write(&self, alloc: Global, item: &Call, out: &mut TextWriter) -> Result<(), AllocError> {
         match item {
-            Call::Work { statements, commit } => work_written(alloc, statements, commit),
-            Call::Set { name, value } => {
-                let name = Written::moved(name.into_string());
-                let value = ValueMover.write(alloc, value)?;
-                let item = headed(alloc, "set", [name, value])?;
-                only(alloc, item)
+            Call::Work { statements, commit } => {
+                work_written(alloc, statements.as_slice(), *commit, out)
             }
-            Call::Alter { line } => {
-                let line = Written::moved(line.into_string());
-                let item = headed(alloc, "alter", [line])?;
-                only(alloc, item)
-            }
-            Call::Disable => {
-                let item = lone(alloc, "disable")?;
-                only(alloc, item)
-            }
-            Call::Rollback => {
-                let item = lone(alloc, "rollback")?;
-                only(alloc, item)
-            }
+            Call::Set { name, value } => set_written(alloc, name, value, out),
+            Call::Alter { line } => alter_written(line, out),
+            Call::Disable => word_written(out, "disable"),
+            Call::Rollback => word_written(out, "rollback"),
         }
     }
 }

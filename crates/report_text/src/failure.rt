@@ -1,73 +1,114 @@
 //! The errors that requests show.
-ghost use Rattle.std.specs.Prelude.{◌≡◌, IfOk};
-ghost use Rattle.serde_json.specs.View.{view};
+ghost use Rattle.std.specs.Prelude.{◌≡◌, ◌++◌, ◌∷◌, [], OnOk};
+ghost use Rattle.json_form.specs.Tokens.{tokens_of};
+ghost use Rattle.json_form.specs.Writing.{whole};
+ghost use Rattle.report_text.specs.Parts.{headed};
+ghost use Rattle.report_text.specs.Values.{identifier_value};
 ghost use Rattle.report_text.specs.Failures.{reason_value, failure_value, failed_value};
 
-use crate::identifier::LtxidMover;
-use crate::part::{headed, lone};
-use json_form::{Mover, Written};
+use crate::identifier::LtxidWriter;
+use crate::part::{begin_word, lone, numbered};
+use json_form::{TextWriter, Writer};
 use outage_schedule::{Failure, Reason};
 use std::alloc::{AllocError, Global};
+use svc_values::Ltxid;
 
 #[tactic(auto, unfolding(crate::specs::Failures::reason_value))]
-fn reason_written(alloc: Global, why: Reason) -> Result<Written, AllocError>
-    ensures { IfOk result (λ w. view w.value ≡ reason_value why) }
+fn reason_written(why: Reason, out: &mut TextWriter) -> Result<(), AllocError>
+    ensures { OnOk result (out.new ≡ out.old ++ tokens_of (reason_value why)) }
 {
     match why {
-        Reason::Off => lone(alloc, "off"),
-        Reason::AfterCommit => lone(alloc, "aftercommit"),
-        Reason::Restricted(call) => headed(alloc, "restricted", [Written::whole(call)]),
-        Reason::Settings(call) => headed(alloc, "settings", [Written::whole(call)]),
-        Reason::Asked(call) => headed(alloc, "asked", [Written::whole(call)]),
-        Reason::Full(limit) => headed(alloc, "full", [Written::whole(limit)]),
-        Reason::StateLost(call) => headed(alloc, "statelost", [Written::whole(call)]),
+        Reason::Off => lone(out, "off"),
+        Reason::AfterCommit => lone(out, "aftercommit"),
+        Reason::Restricted(call) => numbered(out, "restricted", call),
+        Reason::Settings(call) => numbered(out, "settings", call),
+        Reason::Asked(call) => numbered(out, "asked", call),
+        Reason::Full(limit) => numbered(out, "full", limit),
+        Reason::StateLost(call) => numbered(out, "statelost", call),
     }
 }
 
 #[tactic(auto, unfolding(crate::specs::Failures::failure_value))]
-fn failure_written(alloc: Global, failure: Failure) -> Result<Written, AllocError>
-    ensures { IfOk result (λ w. view w.value ≡ failure_value failure) }
+fn disabled_written(why: Reason, event: u64, out: &mut TextWriter) -> Result<(), AllocError>
+    ensures { OnOk result (out.new ≡ out.old ++ tokens_of (failure_value (Failure.Disabled why event))) }
+{
+    begin_word(out, "disabled")?;
+    reason_written(why, out)?;
+    out.whole(event)?;
+    out.end_array()
+}
+
+#[tactic(auto, unfolding(crate::specs::Failures::failure_value))]
+fn mismatch_written(
+    alloc: Global,
+    call: u64,
+    seen: &[u8],
+    now: &[u8],
+    out: &mut TextWriter,
+) -> Result<(), AllocError>
+    ensures { OnOk result (out.new ≡ out.old ++ tokens_of (failure_value (Failure.Mismatch call seen.now now.now))) }
+{
+    begin_word(out, "mismatch")?;
+    out.whole(call)?;
+    out.octets(alloc, seen)?;
+    out.octets(alloc, now)?;
+    out.end_array()
+}
+
+// An error that is about an identifier.
+fn of_ltxid(
+    alloc: Global,
+    word: &str,
+    ltxid: &Ltxid,
+    out: &mut TextWriter,
+) -> Result<(), AllocError>
+    ensures { OnOk result (out.new ≡ out.old ++ tokens_of (headed word.now (identifier_value ltxid.now ∷ []))) }
+{
+    begin_word(out, word)?;
+    LtxidWriter.write(alloc, ltxid, out)?;
+    out.end_array()
+}
+
+// An error with two numbers.
+fn two_numbers(out: &mut TextWriter, word: &str, first: u64, second: u64) -> Result<(), AllocError>
+    ensures { OnOk result (out.new ≡ out.old ++ tokens_of (headed word.now (whole first ∷ whole second ∷ []))) }
+{
+    begin_word(out, word)?;
+    out.whole(first)?;
+    out.whole(second)?;
+    out.end_array()
+}
+
+#[tactic(auto, unfolding(crate::specs::Failures::failure_value))]
+fn failure_written(alloc: Global, failure: &Failure, out: &mut TextWriter) -> Result<(), AllocError>
+    ensures { OnOk result (out.new ≡ out.old ++ tokens_of (failure_value failure.now)) }
 {
     match failure {
-        Failure::Disabled { why, event } => {
-            let why = reason_written(alloc, why)?;
-            headed(alloc, "disabled", [why, Written::whole(event)])
-        }
+        Failure::Disabled { why, event } => disabled_written(*why, *event, out),
         Failure::Mismatch { call, seen, now } => {
-            let seen = Written::octets(alloc, &seen[..])?;
-            let now = Written::octets(alloc, &now[..])?;
-            headed(alloc, "mismatch", [Written::whole(call), seen, now])
+            mismatch_written(alloc, *call, &seen[..], &now[..], out)
         }
-        Failure::Incomplete { ltxid } => {
-            let ltxid = LtxidMover.write(alloc, ltxid)?;
-            headed(alloc, "incomplete", [ltxid])
-        }
-        Failure::Retries { tries } => headed(alloc, "retries", [Written::whole(tries)]),
+        Failure::Incomplete { ltxid } => of_ltxid(alloc, "incomplete", ltxid, out),
+        Failure::Retries { tries } => numbered(out, "retries", *tries),
         Failure::ReplayTimeout { first, ready } => {
-            let ticks = [Written::whole(first), Written::whole(ready)];
-            headed(alloc, "replaytimeout", ticks)
+            two_numbers(out, "replaytimeout", *first, *ready)
         }
-        Failure::Replays { limit, event } => {
-            let parts = [Written::whole(limit), Written::whole(event)];
-            headed(alloc, "replays", parts)
-        }
-        Failure::PoolWait { first, now } => {
-            let ticks = [Written::whole(first), Written::whole(now)];
-            headed(alloc, "poolwait", ticks)
-        }
-        Failure::Unknown { ltxid } => {
-            let ltxid = LtxidMover.write(alloc, ltxid)?;
-            headed(alloc, "unknown", [ltxid])
-        }
+        Failure::Replays { limit, event } => two_numbers(out, "replays", *limit, *event),
+        Failure::PoolWait { first, now } => two_numbers(out, "poolwait", *first, *now),
+        Failure::Unknown { ltxid } => of_ltxid(alloc, "unknown", ltxid, out),
     }
 }
 
 // Null where the request reached its last reply.
-pub(crate) fn failed_written(alloc: Global, failed: Option<Failure>) -> Result<Written, AllocError>
-    ensures { IfOk result (λ w. view w.value ≡ failed_value failed) }
+pub(crate) fn failed_written(
+    alloc: Global,
+    failed: &Option<Failure>,
+    out: &mut TextWriter,
+) -> Result<(), AllocError>
+    ensures { OnOk result (out.new ≡ out.old ++ tokens_of (failed_value failed.now)) }
 {
     match failed {
-        None => Ok(Written::null()),
-        Some(failure) => failure_written(alloc, failure),
+        None => out.null(),
+        Some(failure) => failure_written(alloc, failure, out),
     }
 }

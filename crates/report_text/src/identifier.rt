@@ -1,65 +1,91 @@
 //! Identifiers, sessions and settings.
-ghost use Rattle.std.specs.Prelude.{◌≡◌, IfOk};
-ghost use Rattle.serde_json.specs.View.{view};
+ghost use Rattle.std.specs.Prelude.{◌≡◌, ◌++◌, OnOk};
+ghost use Rattle.std.specs.List.{flat_map};
+ghost use Rattle.json_form.specs.Tokens.{tokens_of};
 ghost use Rattle.json_form.specs.Writing.{list_by};
 ghost use Rattle.report_text.specs.Values.{identifier_value, session_value, setting_value, settings_value};
 
-use crate::value::ValueMover;
-use json_form::{ArrayWriter, Mover, Written};
+use crate::value::ValueWriter;
+use json_form::{TextWriter, Writer};
 use outage_schedule::Ltxids;
 use std::alloc::{AllocError, Global};
 use svc_values::{Ltxid, Name, SessionId, Settings, Value};
 
-pub(crate) struct LtxidMover;
+pub(crate) struct LtxidWriter;
 
-impl Mover<Ltxid> for LtxidMover {
+impl Writer<Ltxid> for LtxidWriter {
     ghost writes = { λ s. identifier_value };
 
-    fn write(&self, alloc: Global, item: Ltxid) -> Result<Written, AllocError> {
-        let incarnation = Written::whole(item.incarnation);
-        let session = Written::whole(item.session);
-        let number = Written::whole(item.number);
-        Written::array(alloc, [incarnation, session, number])
+    fn write(&self, _alloc: Global, item: &Ltxid, out: &mut TextWriter) -> Result<(), AllocError> {
+        out.begin_array()?;
+        out.whole(item.incarnation)?;
+        out.whole(item.session)?;
+        out.whole(item.number)?;
+        out.end_array()
     }
 }
 
-pub(crate) struct LtxidsMover;
+pub(crate) struct LtxidsWriter;
 
-impl Mover<Ltxids> for LtxidsMover {
+impl Writer<Ltxids> for LtxidsWriter {
     ghost writes = { λ s. list_by identifier_value };
 
-    fn write(&self, alloc: Global, item: Ltxids) -> Result<Written, AllocError> {
-        Written::array_from(alloc, item.into_vec(), &LtxidMover)
+    fn write(&self, alloc: Global, item: &Ltxids, out: &mut TextWriter) -> Result<(), AllocError> {
+        out.array_of(alloc, item.as_slice(), &LtxidWriter)
     }
 }
 
-pub(crate) struct SessionMover;
+pub(crate) struct SessionWriter;
 
-impl Mover<SessionId> for SessionMover {
+impl Writer<SessionId> for SessionWriter {
     ghost writes = { λ s. session_value };
 
-    fn write(&self, alloc: Global, item: SessionId) -> Result<Written, AllocError> {
-        let incarnation = Written::whole(item.incarnation);
-        let session = Written::whole(item.session);
-        Written::array(alloc, [incarnation, session])
+    fn write(
+        &self,
+        _alloc: Global,
+        item: &SessionId,
+        out: &mut TextWriter,
+    ) -> Result<(), AllocError> {
+        out.begin_array()?;
+        out.whole(item.incarnation)?;
+        out.whole(item.session)?;
+        out.end_array()
     }
 }
 
-fn setting_written(alloc: Global, name: Name, value: Value) -> Result<Written, AllocError>
-    ensures { IfOk result (λ w. view w.value ≡ setting_value (name, value)) }
+fn setting_written(
+    alloc: Global,
+    name: &Name,
+    value: &Value,
+    out: &mut TextWriter,
+) -> Result<(), AllocError>
+    ensures { OnOk result (out.new ≡ out.old ++ tokens_of (setting_value (name.now, value.now))) }
 {
-    let name = Written::moved(name.into_string());
-    let value = ValueMover.write(alloc, value)?;
-    Written::array(alloc, [name, value])
+    out.begin_array()?;
+    out.text(name.as_str())?;
+    ValueWriter.write(alloc, value, out)?;
+    out.end_array()
+}
+
+// Each setting, with no bracket around them.
+fn each_setting(alloc: Global, settings: &Settings, out: &mut TextWriter) -> Result<(), AllocError>
+    ensures { OnOk result (out.new ≡ out.old ++ flat_map (λ pair. tokens_of (setting_value pair)) settings.now) }
+{
+    for (name, value) in settings.as_map() {
+        setting_written(alloc, name, value, out)?;
+    }
+    Ok(())
 }
 
 // In order of name.
-pub(crate) fn settings_written(alloc: Global, settings: Settings) -> Result<Written, AllocError>
-    ensures { IfOk result (λ w. view w.value ≡ settings_value settings) }
+pub(crate) fn settings_written(
+    alloc: Global,
+    settings: &Settings,
+    out: &mut TextWriter,
+) -> Result<(), AllocError>
+    ensures { OnOk result (out.new ≡ out.old ++ tokens_of (settings_value settings.now)) }
 {
-    let mut pairs = ArrayWriter::new(alloc);
-    for (name, value) in settings.into_map() {
-        pairs.push(setting_written(alloc, name, value)?)?;
-    }
-    Ok(pairs.written())
+    out.begin_array()?;
+    each_setting(alloc, settings, out)?;
+    out.end_array()
 }

@@ -1,119 +1,190 @@
 //! What sessions served.
-ghost use Rattle.std.specs.Prelude.{◌≡◌, IfOk};
-ghost use Rattle.serde_json.specs.View.{view};
+ghost use Rattle.std.specs.Prelude.{◌≡◌, ◌++◌, ◌∷◌, [], OnOk};
+ghost use Rattle.json.specs.Token.{begin_array, string};
+ghost use Rattle.json_form.specs.Tokens.{tokens_of};
+ghost use Rattle.json_form.specs.Writing.{whole};
+ghost use Rattle.report_text.specs.Parts.{headed};
+ghost use Rattle.report_text.specs.Values.{session_value};
 ghost use Rattle.report_text.specs.Items.{item_value, served_value};
 
 use crate::answer::{answers_written, draws_written};
-use crate::call::CallMover;
-use crate::identifier::{LtxidMover, SessionMover, settings_written};
-use crate::note::told_written;
-use crate::part::{begun, headed};
-use json_form::{Mover, Written};
+use crate::call::CallWriter;
+use crate::identifier::{LtxidWriter, SessionWriter, settings_written};
+use crate::note::told_ended;
+use crate::part::begin_word;
+use json_form::{TextWriter, Writer};
 use outage_schedule::{AskResult, Item, Served};
 use std::alloc::{AllocError, Global};
-use svc_values::{Answers, Call, Draws, Ltxid};
+use svc_values::{Answers, Call, Draws, Ltxid, Settings};
+
+// Begins an item with its word, the event at which it was served, and its session.
+fn begin_item(
+    alloc: Global,
+    word: &str,
+    served: &Served,
+    out: &mut TextWriter,
+) -> Result<(), AllocError>
+    ensures { OnOk result (out.new ≡ out.old ++ begin_array ∷ string word.now
+        ∷ (tokens_of (whole served.now.event) ++ tokens_of (session_value served.now.session))) }
+{
+    begin_word(out, word)?;
+    out.whole(served.event)?;
+    SessionWriter.write(alloc, &served.session, out)
+}
+
+// An item with nothing behind its session.
+fn bare_written(
+    alloc: Global,
+    word: &str,
+    served: &Served,
+    out: &mut TextWriter,
+) -> Result<(), AllocError>
+    ensures { OnOk result (out.new ≡ out.old
+        ++ tokens_of (headed word.now (whole served.now.event ∷ session_value served.now.session ∷ []))) }
+{
+    begin_item(alloc, word, served, out)?;
+    out.end_array()
+}
+
+#[tactic(auto, unfolding(crate::specs::Items::item_value))]
+fn begin_written(
+    alloc: Global,
+    served: &Served,
+    settings: &Settings,
+    out: &mut TextWriter,
+) -> Result<(), AllocError>
+    ensures { OnOk result (out.new ≡ out.old
+        ++ tokens_of (item_value (whole served.now.event) (session_value served.now.session) (Item.Begin settings.now))) }
+{
+    begin_item(alloc, "begin", served, out)?;
+    settings_written(alloc, settings, out)?;
+    out.end_array()
+}
 
 #[tactic(auto, unfolding(crate::specs::Items::item_value))]
 fn call_written(
     alloc: Global,
-    event: Written,
-    session: Written,
+    served: &Served,
     replay: bool,
-    call: Call,
-    answers: Answers,
-    draws: Draws,
-) -> Result<Written, AllocError>
-    ensures { IfOk result (λ w. view w.value
-        ≡ item_value (view event.value) (view session.value) (Item.Call replay call answers draws)) }
+    call: &Call,
+    answers: &Answers,
+    draws: &Draws,
+    out: &mut TextWriter,
+) -> Result<(), AllocError>
+    ensures { OnOk result (out.new ≡ out.old
+        ++ tokens_of (item_value (whole served.now.event) (session_value served.now.session) (Item.Call replay call.now answers.now draws.now))) }
 {
-    let replay = Written::flag(replay);
-    let call = CallMover.write(alloc, call)?;
-    let answers = answers_written(alloc, answers)?;
-    let draws = draws_written(alloc, draws)?;
-    headed(
-        alloc,
-        "call",
-        [event, session, replay, call, answers, draws],
-    )
+    begin_item(alloc, "call", served, out)?;
+    out.flag(replay)?;
+    CallWriter.write(alloc, call, out)?;
+    answers_written(alloc, answers, out)?;
+    draws_written(alloc, draws, out)?;
+    out.end_array()
+}
+
+#[tactic(auto, unfolding(crate::specs::Items::item_value))]
+fn blocked_written(
+    alloc: Global,
+    served: &Served,
+    call: &Call,
+    out: &mut TextWriter,
+) -> Result<(), AllocError>
+    ensures { OnOk result (out.new ≡ out.old
+        ++ tokens_of (item_value (whole served.now.event) (session_value served.now.session) (Item.Blocked call.now))) }
+{
+    begin_item(alloc, "blocked", served, out)?;
+    CallWriter.write(alloc, call, out)?;
+    out.end_array()
 }
 
 #[tactic(auto, unfolding(crate::specs::Items::item_value))]
 fn outcome_written(
     alloc: Global,
-    event: Written,
-    session: Written,
-    ltxid: Ltxid,
+    served: &Served,
+    ltxid: &Ltxid,
     told: AskResult,
-) -> Result<Written, AllocError>
-    ensures { IfOk result (λ w. view w.value
-        ≡ item_value (view event.value) (view session.value) (Item.Outcome ltxid told)) }
+    out: &mut TextWriter,
+) -> Result<(), AllocError>
+    ensures { OnOk result (out.new ≡ out.old
+        ++ tokens_of (item_value (whole served.now.event) (session_value served.now.session) (Item.Outcome ltxid.now told))) }
 {
-    let mut array = begun(alloc, "outcome")?;
-    array.push(event)?;
-    array.push(session)?;
-    array.push(LtxidMover.write(alloc, ltxid)?)?;
-    told_written(alloc, array, told)
+    begin_item(alloc, "outcome", served, out)?;
+    LtxidWriter.write(alloc, ltxid, out)?;
+    told_ended(told, out)
 }
 
 #[tactic(auto, unfolding(crate::specs::Items::item_value))]
-fn item_written(
+fn refused_written(
     alloc: Global,
-    event: Written,
-    session: Written,
-    item: Item,
-) -> Result<Written, AllocError>
-    ensures { IfOk result (λ w. view w.value ≡ item_value (view event.value) (view session.value) item) }
+    served: &Served,
+    cause: u8,
+    out: &mut TextWriter,
+) -> Result<(), AllocError>
+    ensures { OnOk result (out.new ≡ out.old
+        ++ tokens_of (item_value (whole served.now.event) (session_value served.now.session) (Item.Refused cause))) }
 {
-    match item {
-        Item::Connect => headed(alloc, "connect", [event, session]),
-        Item::Begin { settings } => {
-            let settings = settings_written(alloc, settings)?;
-            headed(alloc, "begin", [event, session, settings])
-        }
-        Item::Call {
-            replay,
-            call,
-            answers,
-            draws,
-        } => call_written(alloc, event, session, replay, call, answers, draws),
-        Item::Blocked { call } => {
-            let call = CallMover.write(alloc, call)?;
-            headed(alloc, "blocked", [event, session, call])
-        }
-        Item::Outcome { ltxid, result } => outcome_written(alloc, event, session, ltxid, result),
-        Item::End => headed(alloc, "end", [event, session]),
-        Item::Close => headed(alloc, "close", [event, session]),
-        Item::Refused { cause } => {
-            let cause = Written::whole(u64::from(cause));
-            headed(alloc, "refused", [event, session, cause])
-        }
-        Item::CrashedCall { replay, call } => {
-            let call = CallMover.write(alloc, call)?;
-            headed(
-                alloc,
-                "crashed",
-                [event, session, Written::flag(replay), call],
-            )
-        }
-        Item::CrashedOutcome { ltxid } => {
-            let ltxid = LtxidMover.write(alloc, ltxid)?;
-            headed(alloc, "crashed", [event, session, ltxid])
-        }
-    }
+    begin_item(alloc, "refused", served, out)?;
+    out.whole(u64::from(cause))?;
+    out.end_array()
 }
 
-pub(crate) struct ServedMover;
+#[tactic(auto, unfolding(crate::specs::Items::item_value))]
+fn crashed_call_written(
+    alloc: Global,
+    served: &Served,
+    replay: bool,
+    call: &Call,
+    out: &mut TextWriter,
+) -> Result<(), AllocError>
+    ensures { OnOk result (out.new ≡ out.old
+        ++ tokens_of (item_value (whole served.now.event) (session_value served.now.session) (Item.CrashedCall replay call.now))) }
+{
+    begin_item(alloc, "crashed", served, out)?;
+    out.flag(replay)?;
+    CallWriter.write(alloc, call, out)?;
+    out.end_array()
+}
 
-impl Mover<Served> for ServedMover {
+#[tactic(auto, unfolding(crate::specs::Items::item_value))]
+fn crashed_outcome_written(
+    alloc: Global,
+    served: &Served,
+    ltxid: &Ltxid,
+    out: &mut TextWriter,
+) -> Result<(), AllocError>
+    ensures { OnOk result (out.new ≡ out.old
+        ++ tokens_of (item_value (whole served.now.event) (session_value served.now.session) (Item.CrashedOutcome ltxid.now))) }
+{
+    begin_item(alloc, "crashed", served, out)?;
+    LtxidWriter.write(alloc, ltxid, out)?;
+    out.end_array()
+}
+
+pub(crate) struct ServedWriter;
+
+impl Writer<Served> for ServedWriter {
     ghost writes = { λ s. served_value };
 
-    fn write(&self, alloc: Global, item: Served) -> Result<Written, AllocError> {
-        let Served {
-            event,
-            session,
-            item,
-        } = item;
-        let session = SessionMover.write(alloc, session)?;
-        item_written(alloc, Written::whole(event), session, item)
+    #[tactic(auto, unfolding(crate::specs::Items::item_value))]
+    fn write(&self, alloc: Global, item: &Served, out: &mut TextWriter) -> Result<(), AllocError> {
+        match &item.item {
+            Item::Connect => bare_written(alloc, "connect", item, out),
+            Item::Begin { settings } => begin_written(alloc, item, settings, out),
+            Item::Call {
+                replay,
+                call,
+                answers,
+                draws,
+            } => call_written(alloc, item, *replay, call, answers, draws, out),
+            Item::Blocked { call } => blocked_written(alloc, item, call, out),
+            Item::Outcome { ltxid, result } => outcome_written(alloc, item, ltxid, *result, out),
+            Item::End => bare_written(alloc, "end", item, out),
+            Item::Close => bare_written(alloc, "close", item, out),
+            Item::Refused { cause } => refused_written(alloc, item, *cause, out),
+            Item::CrashedCall { replay, call } => {
+                crashed_call_written(alloc, item, *replay, call, out)
+            }
+            Item::CrashedOutcome { ltxid } => crashed_outcome_written(alloc, item, ltxid, out),
+        }
     }
 }

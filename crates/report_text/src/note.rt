@@ -1,66 +1,83 @@
 //! Notes: what each event did.
-ghost use Rattle.std.specs.Prelude.{◌≡◌, IfOk, ◌++◌, ◌∷◌, [], map, codes};
-ghost use Rattle.serde_json.specs.View.{view};
-ghost use Rattle.json_form.specs.Writing.{list, text as text_def, whole};
+ghost use Rattle.std.specs.Prelude.{◌≡◌, ◌++◌, ◌∷◌, [], OnOk, codes};
+ghost use Rattle.json_form.specs.Tokens.{tokens_of};
+ghost use Rattle.json_form.specs.Writing.{text as text_def, flag as flag_def, whole as whole_def};
 ghost use Rattle.report_text.specs.Parts.{headed as headed_def};
-ghost use Rattle.report_text.specs.Notes.{frame_word as frame_word_def, served_word as served_word_def, told_values, run_value, note_value};
+ghost use Rattle.report_text.specs.Notes.{frame_word as frame_word_def, served_word as served_word_def, told_values, asked_values, run_value, note_value};
+ghost use Rattle.report_text.specs.Tokens.{ending};
 
 use crate::answer::{answers_written, draws_written};
-use crate::identifier::LtxidMover;
-use crate::part::{begun, headed, lone};
-use json_form::{ArrayWriter, Mover, Written};
+use crate::identifier::LtxidWriter;
+use crate::part::{begin_word, lone, numbered};
+use json_form::{TextWriter, Writer};
 use outage_schedule::{AskResult, FrameName, GoNote, Note, NoteRun, OutsideNote, Reached};
 use std::alloc::{AllocError, Global};
 use svc_values::Ltxid;
 
-// A note that ends with a word.
-fn with_word(alloc: Global, kind: &str, of: Written, word: &str) -> Result<Written, AllocError>
-    ensures { IfOk result (λ w. view w.value
-        ≡ headed_def kind.now (view of.value ∷ text_def word.now ∷ [])) }
+// A note of a number and a word.
+fn with_word(out: &mut TextWriter, kind: &str, of: u64, word: &str) -> Result<(), AllocError>
+    ensures { OnOk result (out.new
+        ≡ out.old ++ tokens_of (headed_def kind.now (whole_def of ∷ text_def word.now ∷ []))) }
 {
-    let word = Written::text(alloc, word)?;
-    headed(alloc, kind, [of, word])
+    begin_word(out, kind)?;
+    out.whole(of)?;
+    out.text(word)?;
+    out.end_array()
+}
+
+// A note of a word alone.
+fn of_word(out: &mut TextWriter, kind: &str, word: &str) -> Result<(), AllocError>
+    ensures { OnOk result (out.new ≡ out.old ++ tokens_of (headed_def kind.now (text_def word.now ∷ []))) }
+{
+    begin_word(out, kind)?;
+    out.text(word)?;
+    out.end_array()
 }
 
 // A step of a client on a connection.
 fn on_connection(
-    alloc: Global,
-    client: Written,
+    out: &mut TextWriter,
+    client: u64,
     word: &str,
     connection: u64,
     sent: u64,
-) -> Result<Written, AllocError>
-    ensures { IfOk result (λ w. view w.value
-        ≡ headed_def (codes "go") (view client.value ∷ text_def word.now ∷ whole connection ∷ whole sent ∷ [])) }
+) -> Result<(), AllocError>
+    ensures { OnOk result (out.new ≡ out.old ++ tokens_of (headed_def (codes "go")
+        (whole_def client ∷ text_def word.now ∷ whole_def connection ∷ whole_def sent ∷ []))) }
 {
-    let word = Written::text(alloc, word)?;
-    let parts = [
-        client,
-        word,
-        Written::whole(connection),
-        Written::whole(sent),
-    ];
-    headed(alloc, "go", parts)
+    begin_word(out, "go")?;
+    out.whole(client)?;
+    out.text(word)?;
+    out.whole(connection)?;
+    out.whole(sent)?;
+    out.end_array()
 }
 
 #[tactic(auto, unfolding(crate::specs::Notes::note_value))]
-fn go_written(alloc: Global, client: u64, did: GoNote) -> Result<Written, AllocError>
-    ensures { IfOk result (λ w. view w.value ≡ note_value (Note.Go client did)) }
+fn lost_written(client: u64, connection: u64, out: &mut TextWriter) -> Result<(), AllocError>
+    ensures { OnOk result (out.new ≡ out.old ++ tokens_of (note_value (Note.Go client (GoNote.Lost connection)))) }
 {
-    let client = Written::whole(client);
+    begin_word(out, "go")?;
+    out.whole(client)?;
+    out.text("lost")?;
+    out.whole(connection)?;
+    out.end_array()
+}
+
+#[tactic(auto, unfolding(crate::specs::Notes::note_value))]
+fn go_written(client: u64, did: GoNote, out: &mut TextWriter) -> Result<(), AllocError>
+    ensures { OnOk result (out.new ≡ out.old ++ tokens_of (note_value (Note.Go client did))) }
+{
     match did {
-        GoNote::Idle => with_word(alloc, "go", client, "idle"),
-        GoNote::Wait => with_word(alloc, "go", client, "wait"),
-        GoNote::NoFrame => with_word(alloc, "go", client, "none"),
-        GoNote::Early => with_word(alloc, "go", client, "early"),
-        GoNote::Down => with_word(alloc, "go", client, "down"),
-        GoNote::Open { connection } => on_connection(alloc, client, "open", connection, 1),
-        GoNote::Lent { connection } => on_connection(alloc, client, "lent", connection, 2),
-        GoNote::Took { connection, sent } => on_connection(alloc, client, "took", connection, sent),
-        GoNote::Lost { connection } => {
-            let word = Written::text(alloc, "lost")?;
-            headed(alloc, "go", [client, word, Written::whole(connection)])
-        }
+        GoNote::Idle => with_word(out, "go", client, "idle"),
+        GoNote::Wait => with_word(out, "go", client, "wait"),
+        GoNote::NoFrame => with_word(out, "go", client, "none"),
+        GoNote::Early => with_word(out, "go", client, "early"),
+        GoNote::Down => with_word(out, "go", client, "down"),
+        GoNote::Open { connection } => on_connection(out, client, "open", connection, 1),
+        GoNote::Lent { connection } => on_connection(out, client, "lent", connection, 2),
+        GoNote::Took { connection, sent } => on_connection(out, client, "took", connection, sent),
+        GoNote::Lost { connection } => lost_written(client, connection, out),
     }
 }
 
@@ -87,192 +104,198 @@ fn served_word(frame: Option<FrameName>) -> &'static str
 }
 
 #[tactic(auto, unfolding(crate::specs::Notes::note_value))]
+fn reached_written(
+    connection: u64,
+    reached: Reached,
+    out: &mut TextWriter,
+) -> Result<(), AllocError>
+    ensures { OnOk result (out.new ≡ out.old ++ tokens_of (note_value (Note.Cut connection (Some reached)))) }
+{
+    begin_word(out, "cut")?;
+    out.whole(connection)?;
+    out.whole(reached.up)?;
+    out.whole(reached.down)?;
+    out.end_array()
+}
+
+#[tactic(auto, unfolding(crate::specs::Notes::note_value))]
 fn cut_written(
-    alloc: Global,
     connection: u64,
     reached: Option<Reached>,
-) -> Result<Written, AllocError>
-    ensures { IfOk result (λ w. view w.value ≡ note_value (Note.Cut connection reached)) }
+    out: &mut TextWriter,
+) -> Result<(), AllocError>
+    ensures { OnOk result (out.new ≡ out.old ++ tokens_of (note_value (Note.Cut connection reached))) }
 {
-    let connection = Written::whole(connection);
     match reached {
-        None => with_word(alloc, "cut", connection, "none"),
-        Some(Reached { up, down }) => {
-            let parts = [connection, Written::whole(up), Written::whole(down)];
-            headed(alloc, "cut", parts)
-        }
+        None => with_word(out, "cut", connection, "none"),
+        Some(reached) => reached_written(connection, reached, out),
     }
 }
 
 #[tactic(auto, unfolding(crate::specs::Notes::note_value))]
-fn reap_written(alloc: Global, connection: u64, reaped: bool) -> Result<Written, AllocError>
-    ensures { IfOk result (λ w. view w.value ≡ note_value (Note.Reap connection reaped)) }
+fn reap_written(connection: u64, reaped: bool, out: &mut TextWriter) -> Result<(), AllocError>
+    ensures { OnOk result (out.new ≡ out.old ++ tokens_of (note_value (Note.Reap connection reaped))) }
 {
-    let connection = Written::whole(connection);
     if reaped {
-        return headed(alloc, "reap", [connection]);
+        return numbered(out, "reap", connection);
     }
-    with_word(alloc, "reap", connection, "none")
+    with_word(out, "reap", connection, "none")
 }
 
 #[tactic(auto, unfolding(crate::specs::Notes::note_value))]
-fn crash_written(alloc: Global, connection: u64, down: bool) -> Result<Written, AllocError>
-    ensures { IfOk result (λ w. view w.value ≡ note_value (Note.Crash connection down)) }
+fn crash_written(connection: u64, down: bool, out: &mut TextWriter) -> Result<(), AllocError>
+    ensures { OnOk result (out.new ≡ out.old ++ tokens_of (note_value (Note.Crash connection down))) }
 {
-    let connection = Written::whole(connection);
     if down {
-        return with_word(alloc, "crash", connection, "down");
+        return with_word(out, "crash", connection, "down");
     }
-    headed(alloc, "crash", [connection])
+    numbered(out, "crash", connection)
 }
 
 #[tactic(auto, unfolding(crate::specs::Notes::note_value))]
-fn up_written(alloc: Global, incarnation: Option<u64>) -> Result<Written, AllocError>
-    ensures { IfOk result (λ w. view w.value ≡ note_value (Note.Up incarnation)) }
+fn up_written(incarnation: Option<u64>, out: &mut TextWriter) -> Result<(), AllocError>
+    ensures { OnOk result (out.new ≡ out.old ++ tokens_of (note_value (Note.Up incarnation))) }
 {
     match incarnation {
-        None => {
-            let word = Written::text(alloc, "none")?;
-            headed(alloc, "up", [word])
-        }
-        Some(incarnation) => headed(alloc, "up", [Written::whole(incarnation)]),
+        None => of_word(out, "up", "none"),
+        Some(incarnation) => numbered(out, "up", incarnation),
     }
 }
 
 #[tactic(auto, unfolding(crate::specs::Notes::note_value))]
-fn upcrash_written(alloc: Global, made: bool) -> Result<Written, AllocError>
-    ensures { IfOk result (λ w. view w.value ≡ note_value (Note.UpCrash made)) }
+fn upcrash_written(made: bool, out: &mut TextWriter) -> Result<(), AllocError>
+    ensures { OnOk result (out.new ≡ out.old ++ tokens_of (note_value (Note.UpCrash made))) }
 {
     if made {
-        return lone(alloc, "upcrash");
+        return lone(out, "upcrash");
     }
-    let word = Written::text(alloc, "none")?;
-    headed(alloc, "upcrash", [word])
+    of_word(out, "upcrash", "none")
 }
 
-struct RunMover;
+struct RunWriter;
 
-impl Mover<NoteRun> for RunMover {
+impl Writer<NoteRun> for RunWriter {
     ghost writes = { λ s. run_value };
 
     #[tactic(auto, unfolding(crate::specs::Notes::run_value))]
-    fn write(&self, alloc: Global, item: NoteRun) -> Result<Written, AllocError> {
-        let NoteRun { answers, draws } = item;
-        let answers = answers_written(alloc, answers)?;
-        let draws = draws_written(alloc, draws)?;
-        Written::array(alloc, [answers, draws])
+    fn write(&self, alloc: Global, item: &NoteRun, out: &mut TextWriter) -> Result<(), AllocError> {
+        out.begin_array()?;
+        answers_written(alloc, &item.answers, out)?;
+        draws_written(alloc, &item.draws, out)?;
+        out.end_array()
     }
 }
 
 #[tactic(auto, unfolding(crate::specs::Notes::note_value))]
-fn outside_written(alloc: Global, ran: Option<OutsideNote>) -> Result<Written, AllocError>
-    ensures { IfOk result (λ w. view w.value ≡ note_value (Note.Outside ran)) }
+fn ran_written(alloc: Global, ran: &OutsideNote, out: &mut TextWriter) -> Result<(), AllocError>
+    ensures { OnOk result (out.new ≡ out.old ++ tokens_of (note_value (Note.Outside (Some ran.now)))) }
+{
+    begin_word(out, "outside")?;
+    LtxidWriter.write(alloc, &ran.ltxid, out)?;
+    out.array_of(alloc, ran.runs.as_slice(), &RunWriter)?;
+    out.end_array()
+}
+
+#[tactic(auto, unfolding(crate::specs::Notes::note_value))]
+fn outside_written(
+    alloc: Global,
+    ran: &Option<OutsideNote>,
+    out: &mut TextWriter,
+) -> Result<(), AllocError>
+    ensures { OnOk result (out.new ≡ out.old ++ tokens_of (note_value (Note.Outside ran.now))) }
 {
     match ran {
-        None => {
-            let word = Written::text(alloc, "down")?;
-            headed(alloc, "outside", [word])
-        }
-        Some(OutsideNote { ltxid, runs }) => {
-            let ltxid = LtxidMover.write(alloc, ltxid)?;
-            let runs = Written::array_from(alloc, runs.into_vec(), &RunMover)?;
-            headed(alloc, "outside", [ltxid, runs])
-        }
+        None => of_word(out, "outside", "down"),
+        Some(ran) => ran_written(alloc, ran, out),
     }
 }
 
-// The array with a word and a value put last.
-fn ending_with(
-    alloc: Global,
-    array: ArrayWriter,
-    word: &str,
-    last: Written,
-) -> Result<Written, AllocError>
-    ensures { IfOk result (λ w. view w.value
-        ≡ list (map view array.items.items ++ text_def word.now ∷ view last.value ∷ [])) }
+// A word and a number, and the bracket behind them.
+fn number_ended(out: &mut TextWriter, word: &str, number: u64) -> Result<(), AllocError>
+    ensures { OnOk result (out.new ≡ out.old ++ ending (text_def word.now ∷ whole_def number ∷ [])) }
 {
-    let mut array = array;
-    array.push(Written::text(alloc, word)?)?;
-    array.push(last)?;
-    Ok(array.written())
+    out.text(word)?;
+    out.whole(number)?;
+    out.end_array()
 }
 
-// The array with a word put last.
-fn ending(alloc: Global, array: ArrayWriter, word: &str) -> Result<Written, AllocError>
-    ensures { IfOk result (λ w. view w.value
-        ≡ list (map view array.items.items ++ text_def word.now ∷ [])) }
+// A word and a flag, and the bracket behind them.
+fn flag_ended(out: &mut TextWriter, word: &str, flag: bool) -> Result<(), AllocError>
+    ensures { OnOk result (out.new ≡ out.old ++ ending (text_def word.now ∷ flag_def flag ∷ [])) }
 {
-    let mut array = array;
-    array.push(Written::text(alloc, word)?)?;
-    Ok(array.written())
+    out.text(word)?;
+    out.flag(flag)?;
+    out.end_array()
 }
 
-// The array with what an outcome is told to be put last.
-pub(crate) fn told_written(
-    alloc: Global,
-    array: ArrayWriter,
-    told: AskResult,
-) -> Result<Written, AllocError>
-    ensures { IfOk result (λ w. view w.value ≡ list (map view array.items.items ++ told_values told)) }
+// A word, and the bracket behind it.
+fn word_ended(out: &mut TextWriter, word: &str) -> Result<(), AllocError>
+    ensures { OnOk result (out.new ≡ out.old ++ ending (text_def word.now ∷ [])) }
+{
+    out.text(word)?;
+    out.end_array()
+}
+
+// What an outcome is told to be, and the bracket behind it.
+pub(crate) fn told_ended(told: AskResult, out: &mut TextWriter) -> Result<(), AllocError>
+    ensures { OnOk result (out.new ≡ out.old ++ ending (told_values told)) }
 {
     match told {
-        AskResult::Committed { completed } => {
-            ending_with(alloc, array, "committed", Written::flag(completed))
-        }
-        AskResult::Uncommitted => ending(alloc, array, "uncommitted"),
-        AskResult::ServerAhead { next } => {
-            ending_with(alloc, array, "serverahead", Written::whole(next))
-        }
-        AskResult::ClientAhead { next } => {
-            ending_with(alloc, array, "clientahead", Written::whole(next))
-        }
-        AskResult::Forgotten { horizon } => {
-            ending_with(alloc, array, "forgotten", Written::whole(horizon))
-        }
+        AskResult::Committed { completed } => flag_ended(out, "committed", completed),
+        AskResult::Uncommitted => word_ended(out, "uncommitted"),
+        AskResult::ServerAhead { next } => number_ended(out, "serverahead", next),
+        AskResult::ClientAhead { next } => number_ended(out, "clientahead", next),
+        AskResult::Forgotten { horizon } => number_ended(out, "forgotten", horizon),
+    }
+}
+
+fn asked_ended(told: Option<AskResult>, out: &mut TextWriter) -> Result<(), AllocError>
+    ensures { OnOk result (out.new ≡ out.old ++ ending (asked_values told)) }
+{
+    match told {
+        None => word_ended(out, "down"),
+        Some(told) => told_ended(told, out),
     }
 }
 
 #[tactic(auto, unfolding(crate::specs::Notes::note_value))]
-fn ask_written(alloc: Global, ltxid: Ltxid, told: Option<AskResult>) -> Result<Written, AllocError>
-    ensures { IfOk result (λ w. view w.value ≡ note_value (Note.Ask ltxid told)) }
+fn ask_written(
+    alloc: Global,
+    ltxid: &Ltxid,
+    told: Option<AskResult>,
+    out: &mut TextWriter,
+) -> Result<(), AllocError>
+    ensures { OnOk result (out.new ≡ out.old ++ tokens_of (note_value (Note.Ask ltxid.now told))) }
 {
-    let mut array = begun(alloc, "ask")?;
-    array.push(LtxidMover.write(alloc, ltxid)?)?;
-    match told {
-        None => ending(alloc, array, "down"),
-        Some(told) => told_written(alloc, array, told),
-    }
+    begin_word(out, "ask")?;
+    LtxidWriter.write(alloc, ltxid, out)?;
+    asked_ended(told, out)
 }
 
-pub(crate) struct NoteMover;
+pub(crate) struct NoteWriter;
 
-impl Mover<Note> for NoteMover {
+impl Writer<Note> for NoteWriter {
     ghost writes = { λ s. note_value };
 
     #[tactic(auto, unfolding(crate::specs::Notes::note_value))]
-    fn write(&self, alloc: Global, item: Note) -> Result<Written, AllocError> {
+    fn write(&self, alloc: Global, item: &Note, out: &mut TextWriter) -> Result<(), AllocError> {
         match item {
-            Note::Go { client, did } => go_written(alloc, client, did),
+            Note::Go { client, did } => go_written(*client, *did, out),
             Note::Serve { connection, frame } => {
-                with_word(
-                    alloc,
-                    "serve",
-                    Written::whole(connection),
-                    served_word(frame),
-                )
+                with_word(out, "serve", *connection, served_word(*frame))
             }
             Note::Cut {
                 connection,
                 reached,
-            } => cut_written(alloc, connection, reached),
-            Note::Reap { connection, reaped } => reap_written(alloc, connection, reaped),
-            Note::Crash { connection, down } => crash_written(alloc, connection, down),
-            Note::Up { incarnation } => up_written(alloc, incarnation),
-            Note::UpCrash { made } => upcrash_written(alloc, made),
-            Note::Tick => lone(alloc, "tick"),
-            Note::Outside { ran } => outside_written(alloc, ran),
-            Note::Ask { ltxid, told } => ask_written(alloc, ltxid, told),
-            Note::Drain { closed } => headed(alloc, "drain", [Written::whole(closed)]),
+            } => cut_written(*connection, *reached, out),
+            Note::Reap { connection, reaped } => reap_written(*connection, *reaped, out),
+            Note::Crash { connection, down } => crash_written(*connection, *down, out),
+            Note::Up { incarnation } => up_written(*incarnation, out),
+            Note::UpCrash { made } => upcrash_written(*made, out),
+            Note::Tick => lone(out, "tick"),
+            Note::Outside { ran } => outside_written(alloc, ran, out),
+            Note::Ask { ltxid, told } => ask_written(alloc, ltxid, *told, out),
+            Note::Drain { closed } => numbered(out, "drain", *closed),
         }
     }
 }

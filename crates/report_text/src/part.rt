@@ -1,50 +1,76 @@
-//! Objects with one member, and arrays that begin with a word.
-ghost use Rattle.std.specs.Prelude.{◌≡◌, IfOk, ◌∷◌, ◌++◌, [], map};
-ghost use Rattle.serde_json.specs.View.{view};
-ghost use Rattle.json_form.specs.Writing.{text as text_def};
+//! Members of objects, and arrays that begin with a word.
+ghost use Rattle.std.specs.Prelude.{◌≡◌, ◌++◌, ◌∷◌, [], OnOk};
+ghost use Rattle.json.specs.Token.{begin_array, begin_object, key, string};
+ghost use Rattle.json_form.specs.Tokens.{tokens_of};
+ghost use Rattle.json_form.specs.Writing.{text as text_def, whole as whole_def, list_by};
 ghost use Rattle.report_text.specs.Parts.{one as one_def, headed as headed_def, lone as lone_def};
 
-use json_form::{ArrayWriter, ObjectWriter, Written};
+use json_form::{TextWriter, Writer};
 use std::alloc::{AllocError, Global};
+use svc_values::Listed;
 
-// An object with one member.
-pub(crate) fn one(alloc: Global, name: &str, member: Written) -> Result<Written, AllocError>
-    ensures { IfOk result (λ w. view w.value ≡ one_def name.now (view member.value)) }
+// Begins an object of one member.
+pub(crate) fn begin_one(out: &mut TextWriter, name: &str) -> Result<(), AllocError>
+    ensures { OnOk result (out.new ≡ out.old ++ begin_object ∷ key name.now ∷ []) }
 {
-    let mut object = ObjectWriter::new(alloc);
-    object.put(alloc, name, member)?;
-    Ok(object.written())
+    out.begin_object()?;
+    out.name(name)
 }
 
-// An array that begins with a word and goes on with these values.
-pub(crate) fn headed<const N: usize>(
-    alloc: Global,
-    word: &str,
-    parts: [Written; N],
-) -> Result<Written, AllocError>
-    ensures { IfOk result (λ w. view w.value
-        ≡ headed_def word.now (map (λ part. view part.value) parts.entry)) }
+// Begins an array whose first item is this word.
+pub(crate) fn begin_word(out: &mut TextWriter, word: &str) -> Result<(), AllocError>
+    ensures { OnOk result (out.new ≡ out.old ++ begin_array ∷ string word.now ∷ []) }
 {
-    let mut array = begun(alloc, word)?;
-    for part in Vec::from_array(alloc, parts)? {
-        array.push(part)?;
-    }
-    Ok(array.written())
+    out.begin_array()?;
+    out.text(word)
+}
+
+// A member that is the array of what each item is written as.
+pub(crate) fn list_member<T: Drop, W: Writer<T>>(
+    alloc: Global,
+    name: &str,
+    items: &Listed<T>,
+    writer: &W,
+    out: &mut TextWriter,
+) -> Result<(), AllocError>
+    ensures { OnOk result (out.new
+        ≡ out.old ++ key name.now ∷ tokens_of (list_by (W.Writer.writes writer.now) items.now)) }
+{
+    out.name(name)?;
+    out.array_of(alloc, items.as_slice(), writer)
 }
 
 // An array that is one word.
-pub(crate) fn lone(alloc: Global, word: &str) -> Result<Written, AllocError>
-    ensures { IfOk result (λ w. view w.value ≡ lone_def word.now) }
+pub(crate) fn lone(out: &mut TextWriter, word: &str) -> Result<(), AllocError>
+    ensures { OnOk result (out.new ≡ out.old ++ tokens_of (lone_def word.now)) }
 {
-    let array = begun(alloc, word)?;
-    Ok(array.written())
+    begin_word(out, word)?;
+    out.end_array()
 }
 
-// An array that is being written and begins with a word.
-pub(crate) fn begun(alloc: Global, word: &str) -> Result<ArrayWriter, AllocError>
-    ensures { IfOk result (λ array. map view array.items.items ≡ text_def word.now ∷ []) }
+// An array of a word and a number.
+pub(crate) fn numbered(out: &mut TextWriter, word: &str, number: u64) -> Result<(), AllocError>
+    ensures { OnOk result (out.new ≡ out.old ++ tokens_of (headed_def word.now (whole_def number ∷ []))) }
 {
-    let mut array = ArrayWriter::new(alloc);
-    array.push(Written::text(alloc, word)?)?;
-    Ok(array)
+    begin_word(out, word)?;
+    out.whole(number)?;
+    out.end_array()
+}
+
+// An object with one text.
+pub(crate) fn one_text(out: &mut TextWriter, name: &str, text: &str) -> Result<(), AllocError>
+    ensures { OnOk result (out.new ≡ out.old ++ tokens_of (one_def name.now (text_def text.now))) }
+{
+    begin_one(out, name)?;
+    out.text(text)?;
+    out.end_object()
+}
+
+// An object with one whole number.
+pub(crate) fn one_whole(out: &mut TextWriter, name: &str, number: u64) -> Result<(), AllocError>
+    ensures { OnOk result (out.new ≡ out.old ++ tokens_of (one_def name.now (whole_def number))) }
+{
+    begin_one(out, name)?;
+    out.whole(number)?;
+    out.end_object()
 }

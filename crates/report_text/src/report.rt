@@ -1,104 +1,88 @@
 //! The whole report as JSON.
-ghost use Rattle.std.specs.Prelude.{◌≡◌, IfOk, OnOk};
-ghost use Rattle.serde_json.specs.View.{view, members_view};
+ghost use Rattle.std.specs.Prelude.{◌≡◌, ◌++◌, ◌∷◌, IfOk, OnOk, codes};
+ghost use Rattle.json.specs.Token.{key};
 ghost use Rattle.serde_json.specs.Written.{compact_text};
-ghost use Rattle.json_form.specs.Writing.{text, with_all};
+ghost use Rattle.json_form.specs.Tokens.{tokens_of};
+ghost use Rattle.json_form.specs.Writing.{text};
+ghost use Rattle.report_text.specs.Values.{digits};
 ghost use Rattle.report_text.specs.Report.{forgotten_member, image_member, report_value};
+ghost use Rattle.report_text.specs.Tokens.{named};
 
-use crate::entry::EntryMover;
-use crate::identifier::LtxidMover;
-use crate::item::ServedMover;
-use crate::note::NoteMover;
-use crate::request::TranscriptMover;
-use crate::table::TableMover;
-use json_form::{Mover, ObjectWriter, Written};
+use crate::entry::EntryWriter;
+use crate::identifier::LtxidWriter;
+use crate::item::ServedWriter;
+use crate::note::NoteWriter;
+use crate::part::list_member;
+use crate::request::TranscriptWriter;
+use crate::table::TableWriter;
+use json_form::{TextWriter, Writer};
 use outage_schedule::{Image, Report};
-use serde_json::Value;
 use std::alloc::{AllocError, Global};
 use svc_values::{NoMemory, Text};
 
-struct AlertMover;
+struct AlertWriter;
 
-impl Mover<Text> for AlertMover {
+impl Writer<Text> for AlertWriter {
     ghost writes = { λ s. text };
 
-    fn write(&self, _alloc: Global, item: Text) -> Result<Written, AllocError> {
-        Ok(Written::moved(item.into_string()))
+    fn write(&self, _alloc: Global, item: &Text, out: &mut TextWriter) -> Result<(), AllocError> {
+        out.text(item.as_str())
     }
 }
 
 // A horizon of 0 is none.
-fn put_forgotten(object: &mut ObjectWriter, alloc: Global, horizon: u64) -> Result<(), AllocError>
-    ensures { OnOk result (members_view object.new.map.entries
-        ≡ with_all (members_view object.old.map.entries) (forgotten_member horizon)) }
+fn forgotten_written(horizon: u64, out: &mut TextWriter) -> Result<(), AllocError>
+    ensures { OnOk result (out.new ≡ out.old ++ named (forgotten_member horizon)) }
 {
     if horizon == 0 {
         return Ok(());
     }
-    object.put(alloc, "forgotten", Written::whole(horizon))
+    out.name("forgotten")?;
+    out.whole(horizon)
 }
 
-fn put_image(
-    object: &mut ObjectWriter,
+fn bytes_written(alloc: Global, bytes: &Image, out: &mut TextWriter) -> Result<(), AllocError>
+    ensures { OnOk result (out.new ≡ out.old ++ key (codes "image") ∷ tokens_of (digits bytes.now)) }
+{
+    out.name("image")?;
+    out.octets(alloc, bytes.as_slice())
+}
+
+fn image_written(
     alloc: Global,
-    image: Option<Image>,
+    image: &Option<Image>,
+    out: &mut TextWriter,
 ) -> Result<(), AllocError>
-    ensures { OnOk result (members_view object.new.map.entries
-        ≡ with_all (members_view object.old.map.entries) (image_member image)) }
+    ensures { OnOk result (out.new ≡ out.old ++ named (image_member image.now)) }
 {
     match image {
         None => Ok(()),
-        Some(bytes) => object.put(alloc, "image", Written::octets(alloc, bytes.as_slice())?),
+        Some(bytes) => bytes_written(alloc, bytes, out),
     }
 }
 
-fn report_written(alloc: Global, report: Report) -> Result<Written, AllocError>
-    ensures { IfOk result (λ w. view w.value ≡ report_value report) }
+fn report_written(alloc: Global, report: &Report, out: &mut TextWriter) -> Result<(), AllocError>
+    ensures { OnOk result (out.new ≡ out.old ++ tokens_of (report_value report.now)) }
 {
-    let Report {
-        alerts,
-        blocked,
-        clients,
-        entries,
-        forgotten,
-        image,
-        notes,
-        served,
-        tables,
-    } = report;
-    let mut object = ObjectWriter::new(alloc);
-    let alerts = Written::array_from(alloc, alerts.into_vec(), &AlertMover)?;
-    object.put(alloc, "alerts", alerts)?;
-    let blocked = Written::array_from(alloc, blocked.into_vec(), &LtxidMover)?;
-    object.put(alloc, "blocked", blocked)?;
-    let clients = Written::array_from(alloc, clients.into_vec(), &TranscriptMover)?;
-    object.put(alloc, "clients", clients)?;
-    let entries = Written::array_from(alloc, entries.into_vec(), &EntryMover)?;
-    object.put(alloc, "entries", entries)?;
-    put_forgotten(&mut object, alloc, forgotten)?;
-    put_image(&mut object, alloc, image)?;
-    let notes = Written::array_from(alloc, notes.into_vec(), &NoteMover)?;
-    object.put(alloc, "notes", notes)?;
-    let served = Written::array_from(alloc, served.into_vec(), &ServedMover)?;
-    object.put(alloc, "served", served)?;
-    let tables = Written::array_from(alloc, tables.into_vec(), &TableMover)?;
-    object.put(alloc, "tables", tables)?;
-    Ok(object.written())
+    out.begin_object()?;
+    list_member(alloc, "alerts", &report.alerts, &AlertWriter, out)?;
+    list_member(alloc, "blocked", &report.blocked, &LtxidWriter, out)?;
+    list_member(alloc, "clients", &report.clients, &TranscriptWriter, out)?;
+    list_member(alloc, "entries", &report.entries, &EntryWriter, out)?;
+    forgotten_written(report.forgotten, out)?;
+    image_written(alloc, &report.image, out)?;
+    list_member(alloc, "notes", &report.notes, &NoteWriter, out)?;
+    list_member(alloc, "served", &report.served, &ServedWriter, out)?;
+    list_member(alloc, "tables", &report.tables, &TableWriter, out)?;
+    out.end_object()
 }
 
-/// The report as a JSON value. Each part of the report is given up once it is written, and its texts are
-/// moved. The cost is linear in its size.
-pub fn report_of(alloc: Global, report: Report) -> Result<Value, NoMemory>
-    ensures { IfOk result (λ value. view value ≡ report_value report) }
+/// The report as compact JSON (RFC 8259), without a line end, written from the report as it stands: no
+/// JSON value of it is made, and nothing of it is copied. The cost is linear in its length.
+pub fn report_bytes(alloc: Global, report: &Report) -> Result<Vec<u8>, NoMemory>
+    ensures { IfOk result (λ bytes. bytes.items ≡ compact_text (report_value report.now)) }
 {
-    let Written { value } = report_written(alloc, report)?;
-    Ok(value)
-}
-
-/// The report as compact JSON (RFC 8259), without a line end. The cost is linear in its length.
-pub fn report_bytes(alloc: Global, report: Report) -> Result<Vec<u8>, NoMemory>
-    ensures { IfOk result (λ bytes. bytes.items ≡ compact_text (report_value report)) }
-{
-    let written = report_written(alloc, report)?;
-    Ok(written.to_bytes(alloc)?)
+    let mut out = TextWriter::new(alloc);
+    report_written(alloc, report, &mut out)?;
+    Ok(out.into_bytes())
 }

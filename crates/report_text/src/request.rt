@@ -1,82 +1,98 @@
 //! What the requests of clients were shown.
+ghost use Rattle.std.specs.Prelude.{◌≡◌, ◌++◌, ◌∷◌, OnOk, codes};
+ghost use Rattle.json.specs.Token.{key};
+ghost use Rattle.json_form.specs.Tokens.{tokens_of};
 ghost use Rattle.json_form.specs.Writing.{list_by};
+ghost use Rattle.report_text.specs.Failures.{failed_value};
 ghost use Rattle.report_text.specs.Requests.{shown_value, outcome_value, request_value};
 
 use crate::answer::{answers_written, draws_written};
 use crate::failure::failed_written;
-use crate::identifier::{LtxidMover, LtxidsMover, SessionMover};
-use json_form::{Mover, ObjectWriter, Written};
-use outage_schedule::{Outcome, RequestReport, ShownCall, Transcript};
+use crate::identifier::{LtxidWriter, LtxidsWriter, SessionWriter};
+use crate::part::list_member;
+use json_form::{TextWriter, Writer};
+use outage_schedule::{Failure, Outcome, RequestReport, ShownCall, Transcript};
 use std::alloc::{AllocError, Global};
 
-struct ShownMover;
+struct ShownWriter;
 
-impl Mover<ShownCall> for ShownMover {
+impl Writer<ShownCall> for ShownWriter {
     ghost writes = { λ s. shown_value };
 
     #[tactic(auto, unfolding(crate::specs::Requests::shown_value))]
-    fn write(&self, alloc: Global, item: ShownCall) -> Result<Written, AllocError> {
-        let ShownCall {
-            answers,
-            draws,
-            ltxid,
-        } = item;
-        let answers = answers_written(alloc, answers)?;
-        let draws = draws_written(alloc, draws)?;
-        let ltxid = LtxidMover.write(alloc, ltxid)?;
-        Written::array(alloc, [answers, draws, ltxid])
+    fn write(
+        &self,
+        alloc: Global,
+        item: &ShownCall,
+        out: &mut TextWriter,
+    ) -> Result<(), AllocError> {
+        out.begin_array()?;
+        answers_written(alloc, &item.answers, out)?;
+        draws_written(alloc, &item.draws, out)?;
+        LtxidWriter.write(alloc, &item.ltxid, out)?;
+        out.end_array()
     }
 }
 
-struct OutcomeMover;
+struct OutcomeWriter;
 
-impl Mover<Outcome> for OutcomeMover {
+impl Writer<Outcome> for OutcomeWriter {
     ghost writes = { λ s. outcome_value };
 
     #[tactic(auto, unfolding(crate::specs::Requests::outcome_value))]
-    fn write(&self, alloc: Global, item: Outcome) -> Result<Written, AllocError> {
-        let ltxid = LtxidMover.write(alloc, item.ltxid)?;
-        let committed = Written::flag(item.committed);
-        let completed = Written::flag(item.completed);
-        Written::array(alloc, [ltxid, committed, completed])
+    fn write(&self, alloc: Global, item: &Outcome, out: &mut TextWriter) -> Result<(), AllocError> {
+        out.begin_array()?;
+        LtxidWriter.write(alloc, &item.ltxid, out)?;
+        out.flag(item.committed)?;
+        out.flag(item.completed)?;
+        out.end_array()
     }
 }
 
-struct RequestMover;
+fn failed_member(
+    alloc: Global,
+    failed: &Option<Failure>,
+    out: &mut TextWriter,
+) -> Result<(), AllocError>
+    ensures { OnOk result (out.new ≡ out.old ++ key (codes "failed") ∷ tokens_of (failed_value failed.now)) }
+{
+    out.name("failed")?;
+    failed_written(alloc, failed, out)
+}
 
-impl Mover<RequestReport> for RequestMover {
+struct RequestWriter;
+
+impl Writer<RequestReport> for RequestWriter {
     ghost writes = { λ s. request_value };
 
     #[tactic(auto, unfolding(crate::specs::Requests::request_value))]
-    fn write(&self, alloc: Global, item: RequestReport) -> Result<Written, AllocError> {
-        let RequestReport {
-            calls,
-            failed,
-            outcomes,
-            sessions,
-            tried,
-        } = item;
-        let calls = Written::array_from(alloc, calls.into_vec(), &ShownMover)?;
-        let failed = failed_written(alloc, failed)?;
-        let outcomes = Written::array_from(alloc, outcomes.into_vec(), &OutcomeMover)?;
-        let sessions = Written::array_from(alloc, sessions.into_vec(), &SessionMover)?;
-        let tried = Written::array_from(alloc, tried.into_vec(), &LtxidsMover)?;
-        let mut object = ObjectWriter::new(alloc);
-        object.put(alloc, "calls", calls)?;
-        object.put(alloc, "failed", failed)?;
-        object.put(alloc, "outcomes", outcomes)?;
-        object.put(alloc, "sessions", sessions)?;
-        object.put(alloc, "tried", tried)?;
-        Ok(object.written())
+    fn write(
+        &self,
+        alloc: Global,
+        item: &RequestReport,
+        out: &mut TextWriter,
+    ) -> Result<(), AllocError> {
+        out.begin_object()?;
+        list_member(alloc, "calls", &item.calls, &ShownWriter, out)?;
+        failed_member(alloc, &item.failed, out)?;
+        list_member(alloc, "outcomes", &item.outcomes, &OutcomeWriter, out)?;
+        list_member(alloc, "sessions", &item.sessions, &SessionWriter, out)?;
+        list_member(alloc, "tried", &item.tried, &LtxidsWriter, out)?;
+        out.end_object()
     }
 }
 
-pub(crate) struct TranscriptMover;
+pub(crate) struct TranscriptWriter;
 
-impl Mover<Transcript> for TranscriptMover {
+impl Writer<Transcript> for TranscriptWriter {
     ghost writes = { λ s. list_by request_value };
 
-    fn write(&self, alloc: Global, item: Transcript) -> Result<Written, AllocError> {
-        Written::array_from(alloc, item.into_vec(), &RequestMover)
+    fn write(
+        &self,
+        alloc: Global,
+        item: &Transcript,
+        out: &mut TextWriter,
+    ) -> Result<(), AllocError> {
+        out.array_of(alloc, item.as_slice(), &RequestWriter)
     }
 }

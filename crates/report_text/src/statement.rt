@@ -1,13 +1,16 @@
 //! Statements, in the document's form.
-ghost use Rattle.std.specs.Prelude.{◌≡◌, IfOk};
-ghost use Rattle.serde_json.specs.View.{view};
-ghost use Rattle.report_text.specs.Calls.{test_word as test_word_def, change_word as change_word_def, changing as changing_def, statement_value};
+ghost use Rattle.std.specs.Prelude.{◌≡◌, ◌++◌, ◌∷◌, [], OnOk};
+ghost use Rattle.json.specs.Token.{begin_array, string};
+ghost use Rattle.json_form.specs.Tokens.{tokens_of};
+ghost use Rattle.json_form.specs.Writing.{text};
+ghost use Rattle.report_text.specs.Parts.{headed};
+ghost use Rattle.report_text.specs.Calls.{operand_value, test_word as test_word_def, change_word as change_word_def, changing as changing_def, statement_value};
 
-use crate::operand::OperandMover;
-use crate::part::headed;
-use json_form::{Mover, Written};
+use crate::operand::OperandWriter;
+use crate::part::begin_word;
+use json_form::{TextWriter, Writer};
 use std::alloc::{AllocError, Global};
-use svc_values::{Change, Name, Operand, Statement, Test};
+use svc_values::{Change, Name, Operand, Operands, Statement, Test};
 
 fn test_word(test: Test) -> &'static str
     ensures { result.now ≡ test_word_def test }
@@ -28,97 +31,148 @@ fn change_word(change: &Change) -> &'static str
     }
 }
 
-fn changing(change: Change) -> Operand
-    ensures { result ≡ changing_def change }
+fn changing(change: &Change) -> &Operand
+    ensures { result.now ≡ changing_def change.now }
 {
     match change {
         Change::To(operand) | Change::Plus(operand) => operand,
     }
 }
 
+// Begins an array of a statement's word and the table that it names.
+fn begin_statement(out: &mut TextWriter, word: &str, table: &Name) -> Result<(), AllocError>
+    ensures { OnOk result (out.new ≡ out.old ++ begin_array ∷ string word.now ∷ string table.now ∷ []) }
+{
+    begin_word(out, word)?;
+    out.text(table.as_str())
+}
+
+#[tactic(auto, unfolding(crate::specs::Calls::statement_value))]
+fn insert_written(
+    alloc: Global,
+    table: &Name,
+    values: &Operands,
+    out: &mut TextWriter,
+) -> Result<(), AllocError>
+    ensures { OnOk result (out.new ≡ out.old ++ tokens_of (statement_value (Statement.Insert table.now values.now))) }
+{
+    begin_statement(out, "insert", table)?;
+    out.array_of(alloc, values.as_slice(), &OperandWriter)?;
+    out.end_array()
+}
+
 #[tactic(auto, unfolding(crate::specs::Calls::statement_value))]
 fn update_written(
     alloc: Global,
-    table: Name,
-    key: Operand,
-    column: Name,
-    change: Change,
-) -> Result<Written, AllocError>
-    ensures { IfOk result (λ w. view w.value ≡ statement_value (Statement.Update table key column change)) }
+    table: &Name,
+    key: &Operand,
+    column: &Name,
+    change: &Change,
+    out: &mut TextWriter,
+) -> Result<(), AllocError>
+    ensures { OnOk result (out.new
+        ≡ out.old ++ tokens_of (statement_value (Statement.Update table.now key.now column.now change.now))) }
 {
-    let table = Written::moved(table.into_string());
-    let key = OperandMover.write(alloc, key)?;
-    let column = Written::moved(column.into_string());
-    let changes = Written::text(alloc, change_word(&change))?;
-    let operand = OperandMover.write(alloc, changing(change))?;
-    headed(alloc, "update", [table, key, column, changes, operand])
+    begin_statement(out, "update", table)?;
+    OperandWriter.write(alloc, key, out)?;
+    out.text(column.as_str())?;
+    out.text(change_word(change))?;
+    OperandWriter.write(alloc, changing(change), out)?;
+    out.end_array()
 }
 
 #[tactic(auto, unfolding(crate::specs::Calls::statement_value))]
 fn select_written(
     alloc: Global,
-    table: Name,
-    column: Name,
+    table: &Name,
+    column: &Name,
     test: Test,
-    operand: Operand,
-) -> Result<Written, AllocError>
-    ensures { IfOk result (λ w. view w.value ≡ statement_value (Statement.Select table column test operand)) }
+    operand: &Operand,
+    out: &mut TextWriter,
+) -> Result<(), AllocError>
+    ensures { OnOk result (out.new
+        ≡ out.old ++ tokens_of (statement_value (Statement.Select table.now column.now test operand.now))) }
 {
-    let table = Written::moved(table.into_string());
-    let column = Written::moved(column.into_string());
-    let compared = Written::text(alloc, test_word(test))?;
-    let operand = OperandMover.write(alloc, operand)?;
-    headed(alloc, "select", [table, column, compared, operand])
+    begin_statement(out, "select", table)?;
+    out.text(column.as_str())?;
+    out.text(test_word(test))?;
+    OperandWriter.write(alloc, operand, out)?;
+    out.end_array()
 }
 
-pub(crate) struct StatementMover;
+// A statement on the row of a key.
+fn keyed_written(
+    alloc: Global,
+    word: &str,
+    table: &Name,
+    key: &Operand,
+    out: &mut TextWriter,
+) -> Result<(), AllocError>
+    ensures { OnOk result (out.new
+        ≡ out.old ++ tokens_of (headed word.now (text table.now ∷ operand_value key.now ∷ []))) }
+{
+    begin_statement(out, word, table)?;
+    OperandWriter.write(alloc, key, out)?;
+    out.end_array()
+}
 
-impl Mover<Statement> for StatementMover {
+#[tactic(auto, unfolding(crate::specs::Calls::statement_value))]
+fn count_written(table: &Name, out: &mut TextWriter) -> Result<(), AllocError>
+    ensures { OnOk result (out.new ≡ out.old ++ tokens_of (statement_value (Statement.Count table.now))) }
+{
+    begin_statement(out, "count", table)?;
+    out.end_array()
+}
+
+#[tactic(auto, unfolding(crate::specs::Calls::statement_value))]
+fn sum_written(table: &Name, column: &Name, out: &mut TextWriter) -> Result<(), AllocError>
+    ensures { OnOk result (out.new ≡ out.old ++ tokens_of (statement_value (Statement.Sum table.now column.now))) }
+{
+    begin_statement(out, "sum", table)?;
+    out.text(column.as_str())?;
+    out.end_array()
+}
+
+#[tactic(auto, unfolding(crate::specs::Calls::statement_value))]
+fn show_written(alloc: Global, operand: &Operand, out: &mut TextWriter) -> Result<(), AllocError>
+    ensures { OnOk result (out.new ≡ out.old ++ tokens_of (statement_value (Statement.Show operand.now))) }
+{
+    begin_word(out, "show")?;
+    OperandWriter.write(alloc, operand, out)?;
+    out.end_array()
+}
+
+pub(crate) struct StatementWriter;
+
+impl Writer<Statement> for StatementWriter {
     ghost writes = { λ s. statement_value };
 
     #[tactic(auto, unfolding(crate::specs::Calls::statement_value))]
-    fn write(&self, alloc: Global, item: Statement) -> Result<Written, AllocError> {
+    fn write(
+        &self,
+        alloc: Global,
+        item: &Statement,
+        out: &mut TextWriter,
+    ) -> Result<(), AllocError> {
         match item {
-            Statement::Insert { table, values } => {
-                let table = Written::moved(table.into_string());
-                let values = Written::array_from(alloc, values.into_vec(), &OperandMover)?;
-                headed(alloc, "insert", [table, values])
-            }
+            Statement::Insert { table, values } => insert_written(alloc, table, values, out),
             Statement::Update {
                 table,
                 key,
                 column,
                 change,
-            } => update_written(alloc, table, key, column, change),
-            Statement::Delete { table, key } => {
-                let table = Written::moved(table.into_string());
-                let key = OperandMover.write(alloc, key)?;
-                headed(alloc, "delete", [table, key])
-            }
-            Statement::Get { table, key } => {
-                let table = Written::moved(table.into_string());
-                let key = OperandMover.write(alloc, key)?;
-                headed(alloc, "get", [table, key])
-            }
+            } => update_written(alloc, table, key, column, change, out),
+            Statement::Delete { table, key } => keyed_written(alloc, "delete", table, key, out),
+            Statement::Get { table, key } => keyed_written(alloc, "get", table, key, out),
             Statement::Select {
                 table,
                 column,
                 test,
                 operand,
-            } => select_written(alloc, table, column, test, operand),
-            Statement::Count { table } => {
-                let table = Written::moved(table.into_string());
-                headed(alloc, "count", [table])
-            }
-            Statement::Sum { table, column } => {
-                let table = Written::moved(table.into_string());
-                let column = Written::moved(column.into_string());
-                headed(alloc, "sum", [table, column])
-            }
-            Statement::Show { operand } => {
-                let operand = OperandMover.write(alloc, operand)?;
-                headed(alloc, "show", [operand])
-            }
+            } => select_written(alloc, table, column, *test, operand, out),
+            Statement::Count { table } => count_written(table, out),
+            Statement::Sum { table, column } => sum_written(table, column, out),
+            Statement::Show { operand } => show_written(alloc, operand, out),
         }
     }
 }

@@ -1,21 +1,26 @@
 //! Tables with their rows.
 ghost use Rattle.report_text.specs.Entries.{table_value};
 
-use crate::value::RowMover;
-use json_form::{Mover, Written};
+use crate::value::RowWriter;
+use json_form::{TextWriter, Writer};
 use outage_schedule::ReportTable;
 use std::alloc::{AllocError, Global};
 
-pub(crate) struct TableMover;
+pub(crate) struct TableWriter;
 
-impl Mover<ReportTable> for TableMover {
+impl Writer<ReportTable> for TableWriter {
     ghost writes = { λ s. table_value };
 
     #[tactic(auto, unfolding(crate::specs::Entries::table_value))]
-    fn write(&self, alloc: Global, item: ReportTable) -> Result<Written, AllocError> {
-        let ReportTable { name, rows } = item;
-        let name = Written::moved(name.into_string());
-        let rows = Written::array_from(alloc, rows.into_vec(), &RowMover)?;
-        Written::array(alloc, [name, rows])
+    fn write(
+        &self,
+        alloc: Global,
+        item: &ReportTable,
+        out: &mut TextWriter,
+    ) -> Result<(), AllocError> {
+        out.begin_array()?;
+        out.text(item.name.as_str())?;
+        out.array_of(alloc, item.rows.as_slice(), &RowWriter)?;
+        out.end_array()
     }
 }
