@@ -62,7 +62,8 @@ class Request:
 
 def shown_labels(place, answers):
     brief = words.brief_answers(answers)
-    return f"{place}: {brief}", f"{place}: {SHORT.get(brief, brief)}", str(place)
+    short = "refused" if "refused" in brief else SHORT.get(brief, brief)
+    return f"{place}: {brief}", f"{place}: {short}", str(place)
 
 
 class Client:

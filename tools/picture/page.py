@@ -43,11 +43,17 @@ def page(document, report, first=1, last=None):
 <header><h1>{clean(title)}</h1>{told(stories)}
 <p class="note">{note} Time goes down. Point at a mark, or tab to it, for its details. A window of events:
 <code>#100-180</code> after this page's address.</p>
-<details open="open"><summary>Legend</summary><ul class="legend">{legend(sheets.drawing.seen)}</ul></details></header>
+{explained(sheets.drawing.seen)}</header>
 <main>{sheets.head("top")}{"".join(sheets.all())}</main>
 <aside id="details" aria-live="polite" hidden="hidden"></aside>
 <script>{script}</script></body></html>
 """
+
+
+def explained(seen):
+    """The legend, where there is a mark to explain."""
+    return (f'<details open="open"><summary>Legend</summary><ul class="legend">{legend(seen)}</ul></details>'
+            if seen else "")
 
 
 def part(name):

@@ -98,6 +98,15 @@ class Page(unittest.TestCase):
             with self.subTest(run=name):
                 self.assertIn(said, words_of(drawn(RUNS[name])[1]))
 
+    def test_a_refused_answer_says_so_beside_its_mark(self):
+        labels = [text.text for text in drawn(RUNS["a refused call that the replay does not refuse"])[1].iter("text")]
+        self.assertIn("0: refused", labels)
+
+    def test_a_legend_stands_where_there_is_a_mark(self):
+        for name, there in (("no clients", False), ("three calls without an outage", True)):
+            with self.subTest(run=name):
+                self.assertEqual("Legend" in words_of(drawn(RUNS[name])[1]), there)
+
     @of_each_run
     def test_no_picture_is_wider_than_a_screen(self, run):
         _, rows, columns = arranged(run)
