@@ -38,12 +38,12 @@ fn report_tables(alloc: Global, tables: Tables) -> Result<ReportTables, NoMemory
     Ok(Listed::from_vec(all))
 }
 
-/// What the store holds.
-fn journal_of<S: Service>(alloc: Global, service: &mut S) -> Result<Journal, NoMemory>
-    requires { MayBeRead (S.sees service.old) 1 }
-    ensures { IfOk result (λ journal. journal_def (S.bytes service.old) ≡ Ok journal) }
+/// What the store holds. The service goes first.
+fn journal_of<S: Service>(alloc: Global, service: S) -> Result<Journal, NoMemory>
+    requires { MayBeRead (S.sees service) 1 }
+    ensures { IfOk result (λ journal. journal_def (S.bytes service) ≡ Ok journal) }
 {
-    match service.journal(alloc) {
+    match service.into_journal(alloc) {
         Ok(journal) => Ok(journal),
         Err(ServeFault::NoMemory) => Err(NoMemory),
         Err(ServeFault::Stopped) => unreachable!(),
@@ -96,8 +96,7 @@ pub(crate) fn report_of<S: Service + Drop>(
         blocked,
         alerts,
         ..
-    } = journal_of(alloc, &mut service)?;
-    drop(service);
+    } = journal_of(alloc, service)?;
     let tables = tables_of(alloc, base, entries.as_slice())?;
     Ok(Report {
         alerts: behind(alloc, alerts.into_vec(), before.alerts)?,

@@ -1,5 +1,5 @@
 //! The calls of a service.
-ghost use Rattle.std.specs.Prelude.{◌≡◌, ◌<◌, ◌^◌, true, false, None, IfOk, IfSome, Ok};
+ghost use Rattle.std.specs.Prelude.{◌≡◌, ◌≢◌, ◌<◌, ◌^◌, true, false, None, IfOk, IfSome, IsErrOf, Ok};
 ghost use Rattle.std.specs.List.{AllByRecursion};
 ghost use Rattle.svc_values.specs.Calls.{IsMade};
 ghost use Rattle.svc_values.specs.Identifiers.{IsLtxid};
@@ -140,6 +140,15 @@ pub trait Service {
         ensures told { IfOk result (λ journal. journal_of (bytes self.new) ≡ Ok journal) }
         ensures unwritten { NotMemory result (bytes self.new ≡ bytes self.old) }
         ensures looked { Ends result (λ journal. Goes (sees self.old) (sees self.new) Looked) (Goes (sees self.old) (sees self.new) StoppedLook) };
+
+    /// What the store holds, at the end of the service: what it has in memory goes first, and then
+    /// the whole store is read.
+    fn into_journal(self, alloc: Global) -> Result<Journal, ServeFault>
+        requires live { (state self).is_spent ≡ false }
+        ensures told { IfOk result (λ journal. journal_of (bytes self) ≡ Ok journal) }
+
+        // In a quiet service only a stop that was set stops it.
+        ensures cause { IsErrOf result ServeFault.Stopped → (state self).is_quiet ≡ true → (state self).stop ≢ None };
 
     /// The bytes of the store. It writes nothing.
     fn image(&mut self, alloc: Global) -> Result<Vec<u8>, ServeFault>

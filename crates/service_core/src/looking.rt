@@ -1,5 +1,5 @@
 //! What the store of a service holds.
-ghost use Rattle.std.specs.Prelude.{◌≡◌, ◌<◌, ◌^◌, false, IfOk, IsErrOf, Ok};
+ghost use Rattle.std.specs.Prelude.{◌≡◌, ◌≢◌, ◌<◌, ◌^◌, true, false, None, IfOk, IsErrOf, Ok};
 ghost use Rattle.disk_model.specs.Disk.{OnlyReads};
 ghost use Rattle.commit_log.specs.Journals.{journal_of};
 ghost use Rattle.server_model.specs.ServiceCalls.{Looked, StoppedLook};
@@ -12,6 +12,31 @@ use commit_log::{Journal, Log, LogFault};
 use disk_model::{Disk, StopDisk};
 use server_model::ServeFault;
 use std::alloc::Global;
+
+impl<D: StopDisk + Drop> OneService<D> {
+    /// What the store holds. What the service has in memory goes first, so that the store is read
+    /// into the room of the tables.
+    pub(crate) fn read_at_end(self, alloc: Global) -> Result<Journal, ServeFault>
+        requires live { self.notes.is_spent ≡ false }
+        ensures told { IfOk result (λ journal. journal_of (bytes_in self) ≡ Ok journal) }
+        ensures cause { IsErrOf result ServeFault.Stopped → self.disk.quiet ≡ true → self.disk.stop ≢ None }
+    {
+        let OneService {
+            mut disk,
+            core,
+            held,
+            ..
+        } = self;
+        drop(core);
+        drop(held);
+        match Log::read(alloc, &mut disk) {
+            Ok(journal) => Ok(journal),
+            Err(LogFault::Stopped) => Err(ServeFault::Stopped),
+            Err(LogFault::NoMemory) => Err(ServeFault::NoMemory),
+            Err(LogFault::Damaged(_)) => unreachable!(),
+        }
+    }
+}
 
 impl<D: StopDisk> OneService<D> {
     /// What the store holds. It writes nothing, and reads the whole store.

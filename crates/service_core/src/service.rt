@@ -10,7 +10,7 @@ use service_calls::{Outside, Service};
 use std::alloc::Global;
 use svc_values::{Call, Down, Ltxid, NoMemory, Up};
 
-impl<D: StopDisk> Service for OneService<D> {
+impl<D: StopDisk + Drop> Service for OneService<D> {
     ghost use Rattle.service_core.specs.Seeing.{LeavesIn, SeesIn, bytes_in, state_in};
     ghost use Rattle.service_core.specs.InnerHonest.{honest};
 
@@ -72,6 +72,10 @@ impl<D: StopDisk> Service for OneService<D> {
 
     fn journal(&mut self, alloc: Global) -> Result<Journal, ServeFault> {
         self.read_journal(alloc)
+    }
+
+    fn into_journal(self, alloc: Global) -> Result<Journal, ServeFault> {
+        self.read_at_end(alloc)
     }
 
     fn image(&mut self, alloc: Global) -> Result<Vec<u8>, ServeFault> {

@@ -256,6 +256,15 @@ impl<S: Service + Drop> Bench<S> {
             Err(fault) => panic!(rt; "{fault}"),
         }
     }
+
+    /// The same, told by the service at its end.
+    pub fn ends_with(self, rt: &impl Abort) -> String {
+        assert!(rt; self.known.may_call());
+        match self.service.into_journal(self.alloc) {
+            Ok(journal) => of_journal(rt, self.alloc, &journal),
+            Err(fault) => panic!(rt; "{fault}"),
+        }
+    }
 }
 
 /// A frame on a connection, and what is told of it.

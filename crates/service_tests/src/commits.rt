@@ -145,4 +145,8 @@ fn what_a_request_leaves_to_the_next_one(rt: HostRuntime) {
         bench.holds(&rt).as_str(),
         "opened 1, horizon 0, entry 1.1.0 completed false"
     );
+    assert_eq!(rt;
+        bench.ends_with(&rt).as_str(),
+        "opened 1, horizon 0, entry 1.1.0 completed false"
+    );
 }
