@@ -1,11 +1,14 @@
 pub mod Counts
 pub mod DistinctKeys
 pub mod Failures
+pub mod FormsBack
 pub mod Keys
 pub mod Known
 pub mod Offered
 pub mod Readings
 pub mod Runs
+pub mod Shapes
+pub mod ShortNumbers
 pub mod TakenOut
 pub mod Utf8
 pub mod WrittenTokens

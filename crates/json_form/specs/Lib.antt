@@ -1,6 +1,8 @@
 pub mod Arrays
 pub mod Codes
 pub mod Faults
+pub mod Forms
+pub mod Numbers
 pub mod Objects
 pub mod Pointers
 pub mod Texts

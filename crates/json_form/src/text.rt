@@ -1,5 +1,5 @@
 //! Compact texts that are written piece by piece, so that no value of what is written is held.
-ghost use Rattle.std.specs.Prelude.{◌≡◌, ◌++◌, ◌∷◌, [], List, OnOk};
+ghost use Rattle.std.specs.Prelude.{◌≡◌, ◌++◌, ◌∷◌, [], List, Some, OnOk, IsUtf8};
 ghost use Rattle.std.specs.List.{flat_map};
 ghost use Rattle.json.specs.Token.{begin_array, end_array, begin_object, end_object, key as key_token};
 ghost use Rattle.json_form.specs.Tokens.{tokens_of};
@@ -7,7 +7,8 @@ ghost use Rattle.json_form.specs.Tokens.{tokens_of};
 use std::alloc::{AllocError, Global};
 use std::marker::Model;
 
-/// A JSON text that is being written. Clauses see its tokens.
+/// A JSON text that is being written. Clauses see its tokens. Its numbers are of 64 bits, since no other
+/// can be written.
 #[derive(Drop)]
 pub struct TextWriter {
     writer: json::Writer,
@@ -16,12 +17,13 @@ pub struct TextWriter {
 impl Model for TextWriter {
     ghost use Rattle.std.specs.Prelude.{◌≡◌, List, []};
     ghost use Rattle.json.specs.Token.{Token};
+    ghost use Rattle.json_form.specs.Numbers.{AreShort};
 
     ghost Value = { List Token };
 
     ghost view = { λ a. a.writer.tokens };
 
-    ghost invariant = { λ a. a.writer.before ≡ [] };
+    ghost invariant = { λ a. (a.writer.before ≡ []) × AreShort a.writer.tokens };
 }
 
 /// Writes a `T` as a JSON value, at the end of a text. The writer is a unit struct, or holds a setting.
@@ -38,7 +40,9 @@ pub trait Writer<T> {
 impl TextWriter {
     ghost use Rattle.hex.specs.Hex.{encode_lower};
     ghost use Rattle.serde_json.specs.Data.{Data};
+    ghost use Rattle.serde_json.specs.Read.{max_depth, read};
     ghost use Rattle.serde_json.specs.Written.{compact_text};
+    ghost use Rattle.json_form.specs.Forms.{IsForm};
     ghost use Rattle.json_form.specs.Writing.{text as text_def, whole as whole_def, integer as integer_def, flag as flag_def, null as null_def, list_by};
 
     /// A text of nothing. It takes no memory before the first token.
@@ -158,9 +162,12 @@ impl TextWriter {
     }
 
     /// The bytes of the text: of a value whose tokens these are, its compact text (RFC 8259), with no white
-    /// space. It takes no memory.
+    /// space, from which a value of the form is read back. It takes no memory.
     pub fn into_bytes(self) -> Vec<u8>
-        ensures { (d : Data) → self ≡ tokens_of d → result.items ≡ compact_text d }
+        ensures text { (d : Data) → self ≡ tokens_of d → result.items ≡ compact_text d }
+        ensures reads { (d : Data) → IsForm max_depth d → self ≡ tokens_of d
+            → read result.items ≡ Some d }
+        ensures utf8 { IsUtf8 result.items }
     {
         let TextWriter { writer } = self;
         writer.into_inner()

@@ -1,4 +1,4 @@
-//! Tests of a report's text: each form with a text of its own, and whole reports.
+//! Tests of a report's text and value: each form with a text of its own, and whole reports.
 #![tactic(auto)]
 
 #[cfg(test)]
@@ -13,5 +13,7 @@ mod notes;
 mod requests;
 #[cfg(test)]
 mod served;
+#[cfg(test)]
+mod values;
 #[cfg(test)]
 mod wholes;

@@ -4,7 +4,7 @@ use outage_schedule::{
     Alerts, Item, Note, Notes, Report, ReportEntries, ReportTables, RequestReport, Served,
     ServedItems, Transcript, Transcripts,
 };
-use report_text::report_bytes;
+use report_text::{report_bytes, report_of};
 use std::alloc::Global;
 use std::process::Abort;
 use svc_values::{
@@ -122,7 +122,7 @@ pub fn empty(alloc: Global) -> Report {
     }
 }
 
-/// The report is written as these texts, one behind the other.
+/// The report is written as these texts, one behind the other, and so is its value.
 pub fn reads(rt: &impl Abort, alloc: Global, report: &Report, parts: &[&str]) {
     let bytes = report_bytes(alloc, report).expect(rt, "memory");
     let mut rest = bytes.as_slice();
@@ -134,6 +134,9 @@ pub fn reads(rt: &impl Abort, alloc: Global, report: &Report, parts: &[&str]) {
         rest = back;
     }
     assert_eq!(rt; rest.len(), 0);
+    let value = report_of(alloc, report).expect(rt, "memory");
+    let again = value.to_string(alloc).expect(rt, "memory");
+    assert_eq!(rt; again.as_bytes(), bytes.as_slice());
 }
 
 /// The note is written as this text.

@@ -8,8 +8,6 @@ use outage_schedule::{
     FrameName, GoNote, Item, Note, Report, ReportTable, RequestReport, Served, ShownCall,
     Transcript,
 };
-use report_text::report_bytes;
-use serde_json::Value;
 use std::alloc::Global;
 use std::process::Abort;
 use svc_values::{Answer, Answers, Call, Entry, Listed, Piece, Settings};
@@ -208,14 +206,4 @@ fn alerts_and_blocked_identifiers(rt: HostRuntime) {
     let text =
         r#"{"alerts":["flush","again"],"blocked":[[1,1,2],[1,9,0]],"clients":[],"entries":[],"notes":[],"served":[],"tables":[]}"#;
     reads(&rt, alloc, &report, &[text]);
-}
-
-#[test]
-fn a_report_as_a_value(rt: HostRuntime) {
-    let alloc = rt.alloc();
-    let bytes = report_bytes(alloc, &empty(alloc)).expect(&rt, "memory");
-    let value = Value::from_slice(alloc, bytes.as_slice()).expect(&rt, "JSON");
-    assert!(rt; value.get("notes").is_some());
-    assert!(rt; value.get("image").is_none());
-    assert!(rt; value.get("forgotten").is_none());
 }

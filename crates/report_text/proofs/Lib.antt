@@ -1,9 +1,11 @@
 mod CallsBack
 mod EntriesBack
+mod Forms
 mod ItemsBack
 mod NotesBack
 mod PartsWritten
 mod Places
 mod ReportBack
+mod ReportForm
 mod TextBack
 mod ValuesBack

@@ -38,7 +38,7 @@ report_in d = record {
 }
 
 -- the members of a report
-abbrev whole_of : Data → Data → Data → Data → ℕ → Option (List ℕ) → Data → Data → Data → Data
+abbrev pub whole_of : Data → Data → Data → Data → ℕ → Option (List ℕ) → Data → Data → Data → Data
 whole_of alerts blocked clients entries horizon image notes served tables = members (
     (codes "alerts", alerts)
     ∷ (codes "blocked", blocked)
@@ -64,7 +64,7 @@ read_of alerts blocked clients entries horizon image notes served tables = recor
   tables = list_in table_in tables;
 }
 
-not_zero : (n : ℕ) → (suc n == 0) ≡ false
+pub not_zero : (n : ℕ) → (suc n == 0) ≡ false
 not_zero n = grind arith
 
 whole_back : (alerts blocked clients entries : Data) (horizon : ℕ) (image : Option (List ℕ)) (notes served tables : Data) → ImageOfBytes image

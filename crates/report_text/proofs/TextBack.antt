@@ -11,9 +11,10 @@ use Rattle.json.proofs.Printed.Trees.{value-json_tokens, ArePrintable-json_token
 use Rattle.serde_json.specs.Data.{Num, unsigned, negative, float, Data, null, boolean, number, string, array, object, Items, no_items, item, Members, no_members, member}
 use Rattle.serde_json.specs.Read.{number_of}
 use Rattle.serde_json.specs.Written.{number_text, outline, items_outline, members_outline, compact_text}
-use Rattle.serde_json.proofs.Numbers.{number_of-decimal, number_of-negative}
 use Rattle.serde_json.proofs.Texts.{print-outline}
-use Rattle.report_text.specs.Numbers.{IsOf64Bits, HasShortNumbers, ItemsHaveShortNumbers, MembersHaveShortNumbers}
+use Rattle.json_form.specs.Numbers.{IsOf64Bits}
+use Rattle.json_form.proofs.ShortNumbers.{number_back}
+use Rattle.report_text.specs.Numbers.{HasShortNumbers, ItemsHaveShortNumbers, MembersHaveShortNumbers}
 use Rattle.report_text.specs.Laws.{IsTextOfOneReport}
 use Rattle.report_text.specs.Report.{report_value}
 use Rattle.report_text.proofs.ReportBack.{one_report}
@@ -62,17 +63,11 @@ abbrev mutual
   members_in json.no_members = no_members
   members_in (json.member k j ms) = member k (data_in j) (members_in ms)
 
-number_back : (n : Num) → IsOf64Bits n → number_or_zero (number_of (number_text n)) ≡ n
-number_back (unsigned n) short = ap number_or_zero (number_of-decimal n short)
-number_back (negative (pos n)) short = elim short [ ]
-number_back (negative (negsuc n)) short = ap number_or_zero (number_of-negative n short)
-number_back (float x) short = elim short [ ]
-
 mutual
   data_back : (d : Data) → HasShortNumbers d → data_in (outline d) ≡ d
   data_back null short = refl
   data_back (boolean b) short = refl
-  data_back (number n) short = ap number (number_back n short)
+  data_back (number n) short = ap (λ read. number (number_or_zero read)) (number_back n short)
   data_back (string s) short = refl
   data_back (array ds) short = ap array (items_back ds short)
   data_back (object ms) short = ap object (members_back ms short)

@@ -1,12 +1,6 @@
 -- JSON values whose numbers are whole and of 64 bits, as each number of a report is.
-use Rattle.std.specs.Prelude.{◌^◌, ◌<◌, pos, negsuc}
-use Rattle.serde_json.specs.Data.{Num, unsigned, negative, float, Data, null, boolean, number, string, array, object, Items, no_items, item, Members, no_members, member}
-
-abbrev pub IsOf64Bits : Num → Type 0
-IsOf64Bits (unsigned n) = n < 2 ^ 64
-IsOf64Bits (negative (pos n)) = ⊥
-IsOf64Bits (negative (negsuc n)) = n < 2 ^ 63
-IsOf64Bits (float x) = ⊥
+use Rattle.serde_json.specs.Data.{Data, null, boolean, number, string, array, object, Items, no_items, item, Members, no_members, member}
+use Rattle.json_form.specs.Numbers.{IsOf64Bits}
 
 abbrev mutual
   pub HasShortNumbers : Data → Type 0

@@ -17,4 +17,4 @@ mod statement;
 mod table;
 mod value;
 
-pub use report::report_bytes;
+pub use report::{report_bytes, report_of};

@@ -1,6 +1,8 @@
-//! The whole report as JSON.
-ghost use Rattle.std.specs.Prelude.{◌≡◌, ◌++◌, ◌∷◌, IfOk, OnOk, codes};
+//! The whole report as JSON: its text, and the value that is read from it.
+ghost use Rattle.std.specs.Prelude.{◌≡◌, ◌++◌, ◌∷◌, Some, IfOk, OnOk, IsUtf8, codes};
 ghost use Rattle.json.specs.Token.{key};
+ghost use Rattle.serde_json.specs.Read.{read};
+ghost use Rattle.serde_json.specs.View.{view};
 ghost use Rattle.serde_json.specs.Written.{compact_text};
 ghost use Rattle.json_form.specs.Tokens.{tokens_of};
 ghost use Rattle.json_form.specs.Writing.{text};
@@ -17,6 +19,7 @@ use crate::request::TranscriptWriter;
 use crate::table::TableWriter;
 use json_form::{TextWriter, Writer};
 use outage_schedule::{Image, Report};
+use serde_json::Value;
 use std::alloc::{AllocError, Global};
 use svc_values::{NoMemory, Text};
 
@@ -78,11 +81,31 @@ fn report_written(alloc: Global, report: &Report, out: &mut TextWriter) -> Resul
 }
 
 /// The report as compact JSON (RFC 8259), without a line end, written from the report as it stands: no
-/// JSON value of it is made, and nothing of it is copied. The cost is linear in its length.
+/// JSON value of it is made, and nothing of it is copied. A reader of JSON gets the report's value from it.
+/// The cost is linear in its length.
+#[tactic(auto, using(crate::proofs::ReportForm::report_form))]
 pub fn report_bytes(alloc: Global, report: &Report) -> Result<Vec<u8>, NoMemory>
-    ensures { IfOk result (λ bytes. bytes.items ≡ compact_text (report_value report.now)) }
+    ensures text { IfOk result (λ bytes. bytes.items ≡ compact_text (report_value report.now)) }
+    ensures reads { IfOk result (λ bytes. read bytes.items ≡ Some (report_value report.now)) }
+    ensures utf8 { IfOk result (λ bytes. IsUtf8 bytes.items) }
 {
     let mut out = TextWriter::new(alloc);
     report_written(alloc, report, &mut out)?;
     Ok(out.into_bytes())
+}
+
+/// The report as a JSON value, read from its text, so that there is one writer of the form. Text and value
+/// are held at once while it is read; `report_bytes` makes no value. The cost is linear in the text's length.
+pub fn report_of(alloc: Global, report: &Report) -> Result<Value, NoMemory>
+    ensures { IfOk result (λ value. view value ≡ report_value report.now) }
+{
+    let bytes = report_bytes(alloc, report)?;
+    match Value::from_slice(alloc, bytes.as_slice()) {
+        Ok(value) => Ok(value),
+        Err(error) => if error.is_memory() {
+            Err(NoMemory)
+        } else {
+            unreachable!()
+        },
+    }
 }
