@@ -8,3 +8,4 @@ mod ReadOff
 mod Schedule
 mod StartBase
 mod StartRoom
+mod WordFaults

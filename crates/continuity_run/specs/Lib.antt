@@ -1,6 +1,7 @@
 pub mod Causes
 pub mod Clauses
 pub mod Headline
+pub mod InnerWords
 pub mod Memory
 pub mod Reading
 pub mod Reads

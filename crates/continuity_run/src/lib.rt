@@ -8,6 +8,7 @@ mod run;
 mod store;
 mod top;
 mod whole;
+mod words;
 
 pub use memory::{MemSink, MemSource};
 pub use outside::{Failed, Sink, Source};

@@ -1,5 +1,5 @@
 //! The top call: from the words and the bytes in to the bytes out.
-ghost use Rattle.std.specs.Prelude.{◌≡◌, ◌↔◌, false, Err, IfOk, IfErr, IsErrOf, IsTrue, OnErr};
+ghost use Rattle.std.specs.Prelude.{◌≡◌, ◌⊎◌, false, Err, IfOk, IfErr, IsErrOf, IsTrue, OnErr};
 ghost use Rattle.json_form.specs.Faults.{Fails, Gives};
 ghost use Rattle.continuity_run.specs.Causes.{Rose};
 ghost use Rattle.doc_reader.specs.Keeping.{IsDocument};
@@ -9,6 +9,7 @@ ghost use Rattle.continuity_run.specs.Clauses.{is_command as is_command_def, IsA
 use crate::outside::{Sink, Source};
 use crate::run::run_document;
 use crate::whole::{ReadError, read_to_limit, write_whole};
+use crate::words::is_command;
 use doc_reader::{DOCUMENT_LIMIT, read_document};
 use json_form::{DocCode, DocFault, Pointer};
 use outage_schedule::Document;
@@ -48,16 +49,6 @@ impl Status {
             Status::Write => 4,
             Status::Document { .. } => 5,
         }
-    }
-}
-
-/// Whether the words are the one command, `run`.
-fn is_command(words: &[String]) -> bool
-    ensures { result ≡ is_command_def words.now }
-{
-    match words {
-        [word] => word.as_str() == "run",
-        _ => false,
     }
 }
 
@@ -111,8 +102,8 @@ fn respond<K: Sink>(alloc: Global, bytes: Vec<u8>, sink: &mut K) -> Status
 }
 
 /// Carries out a command. `run` reads a document from the source, runs its clients' scripts under its schedule, and
-/// writes the report to the sink as compact JSON. The words are looked at first; then the source is
-/// read, to one byte past the limit of 8,388,608 bytes at most; then the document is judged. Memory
+/// writes the report to the sink as compact JSON. The words are looked at first, which wants memory;
+/// then the source is read, to one byte past the limit of 8,388,608 bytes at most; then the document is judged. Memory
 /// is proportional to the input, and the cost of reading, judging and writing is n log n in it.
 pub fn continuity<S: Source, K: Sink>(
     alloc: Global,
@@ -120,9 +111,10 @@ pub fn continuity<S: Source, K: Sink>(
     source: &mut S,
     sink: &mut K,
 ) -> Status
-    // The words are those of no command, and then the source is unread.
-    ensures words { (result ≡ Status.Words) ↔ (is_command_def words.now ≡ false) }
-    ensures unread { result ≡ Status.Words → source.new ≡ source.old }
+    // The words are those of no command, which want of memory may hide, and then the source is unread.
+    ensures words { result ≡ Status.Words → is_command_def words.now ≡ false }
+    ensures commands { is_command_def words.now ≡ false → (result ≡ Status.Words) ⊎ (result ≡ Status.NoMemory) }
+    ensures unread { is_command_def words.now ≡ false → source.new ≡ source.old }
 
     // The source or the sink failed.
     ensures read { result ≡ Status.Read → Rose (S.faults source.old) (S.faults source.new) }
@@ -138,7 +130,11 @@ pub fn continuity<S: Source, K: Sink>(
     // Else nothing was written.
     ensures untouched { IsBefore result → sink.new ≡ sink.old }
 {
-    if !is_command(words) {
+    let known = match is_command(alloc, words) {
+        Ok(known) => known,
+        Err(NoMemory) => return Status::NoMemory,
+    };
+    if !known {
         return Status::Words;
     }
     let bytes = match read_input(alloc, source) {

@@ -43,3 +43,36 @@ fn words_reads_and_writes_that_fail_have_their_status(rt: HostRuntime) -> Result
     }
     Ok(())
 }
+
+/// A source whose first read fails tells of a read, so with status 2 nothing was read.
+#[test]
+fn words_beside_a_command_are_refused_unread(rt: HostRuntime) -> Result<(), Fail> {
+    for words in [
+        ["", "run"].as_slice(),
+        ["help", "run"].as_slice(),
+        ["run", ""].as_slice(),
+        ["run", "now"].as_slice(),
+        ["run", "run"].as_slice(),
+        ["run", "help"].as_slice(),
+    ] {
+        assert_eq!(rt; ends(rt.alloc(), words, [1, 0, 0])?, (2, 0));
+    }
+    Ok(())
+}
+
+#[test]
+fn words_with_a_hyphen_are_refused_unread(rt: HostRuntime) -> Result<(), Fail> {
+    for words in [
+        ["-"].as_slice(),
+        ["-h"].as_slice(),
+        ["--help"].as_slice(),
+        ["-V"].as_slice(),
+        ["--version"].as_slice(),
+        ["--", "run"].as_slice(),
+        ["run", "--"].as_slice(),
+        ["run", "--help"].as_slice(),
+    ] {
+        assert_eq!(rt; ends(rt.alloc(), words, [1, 0, 0])?, (2, 0));
+    }
+    Ok(())
+}

@@ -1,0 +1,18 @@
+-- What `clap` is told of the program's words.
+use Rattle.std.specs.Prelude.{◌==◌, Bool, String, codes, slice_index, string_bytes, true}
+use Rattle.std.specs.declared.alloc.Global.{Global}
+use Rattle.clap.specs.Simple.{App, new_app, new_shape, on_top, with_subcommand}
+
+-- its first byte is `-`
+abbrev pub begins_with_hyphen : String Global → Bool
+begins_with_hyphen word = slice_index (string_bytes word) 0 == 45
+
+-- the one command `run`, which has to be there, with no help and no version of clap's own
+abbrev pub program : App
+program = with_subcommand (on_top (λ s. record s {
+  no_binary_name = true;
+  disable_help_flag = true;
+  disable_help_subcommand = true;
+  disable_version_flag = true;
+  subcommand_required = true;
+}) (new_app (codes "continuity"))) (new_shape (codes "run"))
