@@ -5,6 +5,7 @@ pub mod Forms
 pub mod Numbers
 pub mod Objects
 pub mod Pointers
+pub mod Streams
 pub mod Texts
 pub mod Tokens
 pub mod Values
