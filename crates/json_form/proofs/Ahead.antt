@@ -1,15 +1,20 @@
 -- Values, items and members one after the other, under the conversion to data.
-use Rattle.std.proofs.Common.{◌≡◌, ℕ, ◌-◌, ◌<◌, ◌≤◌, List, [], ◌∷◌, ◌++◌, length, Option, Some, None, option_map, option_and_then, Result, Ok, refl, sym, ap, ◌∙◌}
+use Rattle.std.proofs.Common.{◌≡◌, ℕ, ◌-◌, ◌<◌, ◌≤◌, List, [], ◌∷◌, ◌++◌, length, nat_le, true, Option, Some, None, option_map, option_and_then, Result, Ok, refl, sym, ap, ◌∙◌, arith}
+use Rattle.std.proofs.lemmas.Bool.{le-leb}
 use Rattle.json.specs.Token.{Token}
 use Rattle.json.specs.Json as json
 use Rattle.json.specs.Json.{Parse, parse_map, after_end_array, read_key, items, members, value, if_last}
 use Rattle.json.specs.Lex.{tokens}
 use Rattle.json.proofs.Grammar.{items_end, items_more, members_end, members_more, value_is, value-begin_array, value-begin_object}
 use Rattle.serde_json.specs.Data.{Data, array, object, Items, no_items, item, Members, no_members, put}
-use Rattle.serde_json.specs.Read.{of_json, of_items, of_members, converted, read, max_depth}
+use Rattle.serde_json.specs.Events.{items_len}
+use Rattle.serde_json.specs.Read.{of_json, of_items, of_members, converted, read as read_text, max_depth}
 use Rattle.serde_json.specs.View.{view, items_view}
 use Rattle.serde_json.specs.declared.value.Value.{Value}
+use Rattle.json_form.specs.Faults.{Fault, ◌>>=◌, within_item}
+use Rattle.json_form.specs.Arrays.{each_after, array_of}
 use Rattle.json_form.specs.Streams.{value_ahead}
+use Rattle.json_form.proofs.Readings.{each_long}
 
 abbrev or_else : {A : Type 0} → A → Option A → A
 or_else x None = x
@@ -95,10 +100,41 @@ pub none_before : (r : Option (Items × List Token)) → r ≡ parse_map (λ a. 
 none_before None = refl
 none_before (Some p) = refl
 
+-- ---- each item read as soon as it was passed
+
+module _ {A : Type 0} (read : List A → Data → Result A Fault) (found : List A) where
+  with_one : (d : Data) (x : A) → within_item (length found) (read found d) ≡ Ok x → (o : Option (Items × List Token)) → parse_map (each_after read found) (parse_map (item d) o) ≡ parse_map (each_after read (found ++ x ∷ [])) o
+  with_one d x e None = refl
+  with_one d x e (Some p) = ap (λ (r : Result A Fault). Some (r >>= λ y. each_after read (found ++ y ∷ []) p.0, p.1)) e
+
+  -- one more item was passed and read
+  pub one_read : (p : Parse json.Json) (n : ℕ) (ts r : List Token) (d : Data) (x : A) → 0 < n → after_end_array ts ≡ None → converted of_json (p ts) ≡ Some (d, r) → within_item (length found) (read found d) ≡ Ok x
+      → parse_map (each_after read found) (converted of_items (items p n ts)) ≡ parse_map (each_after read (found ++ x ∷ [])) (converted of_items (items p (n - 1) r))
+  one_read p n ts r d x some going e one = ap (parse_map (each_after read found)) (item_turn p n ts r d some going e) ∙ with_one d x one (converted of_items (items p (n - 1) r))
+
+  -- the bracket behind them was passed
+  pub none_left : (p : Parse json.Json) (n : ℕ) (ts r : List Token) → length ts ≤ n → after_end_array ts ≡ Some r → parse_map (each_after read found) (converted of_items (items p n ts)) ≡ Some (Ok found, r)
+  none_left p n ts r enough e = ap (parse_map (each_after read found)) (items_over p n ts r enough e)
+
+few_read : {A : Type 0} (read : List A → Data → Result A Fault) (high : ℕ) (ds : Items) (xs : List A) → length xs ≤ high → each_after read [] ds ≡ Ok xs → array_of 0 high (each_after read []) (array ds) ≡ Ok xs
+few_read read high ds xs few e =
+    let long = each_long read [] ds xs e in
+    let some : nat_le 0 (items_len ds) ≡ true = le-leb 0 (items_len ds) (omega arith) in
+    let fits : nat_le (items_len ds) high ≡ true = le-leb (items_len ds) high (omega (arith, long)) in
+    rw (some, fits) e
+
+-- at most so many items were read, behind the bracket that begins their array
+pub array_read : {A : Type 0} (read : List A → Data → Result A Fault) (high : ℕ) (o : Option (Items × List Token)) (xs : List A) (r : List Token) → length xs ≤ high → parse_map (each_after read []) o ≡ Some (Ok xs, r)
+    → parse_map (array_of 0 high (each_after read [])) (parse_map array o) ≡ Some (Ok xs, r)
+array_read read high None xs r few e = absurd (cc)
+array_read read high (Some p) xs r few e =
+    let same = ap (or_else (each_after read [] p.0, p.1)) e in
+    ap (λ q. Some (q, p.1)) (few_read read high p.0 xs few (ap (λ q. q.0) same)) ∙ ap (λ s. Some (Ok xs, s)) (ap (λ q. q.1) same)
+
 -- ---- the whole text
 
 -- a value with no token behind it is what the text spells
-pub whole_read : (text : List ℕ) (d : Data) → value_ahead max_depth (tokens text) ≡ Some (d, []) → read text ≡ Some d
+pub whole_read : (text : List ℕ) (d : Data) → value_ahead max_depth (tokens text) ≡ Some (d, []) → read_text text ≡ Some d
 whole_read text d e =
     let j = parsed of_json (value max_depth (tokens text)) d [] e in
     ap (λ o. option_and_then of_json (option_and_then (λ p. if_last p.0 p.1) o)) j.1 ∙ j.2

@@ -1,13 +1,15 @@
 //! Arrays whose items are read each by itself.
-ghost use Rattle.std.specs.Prelude.{◌≡◌, ◌≤◌, Result, List, length, IfOk};
+ghost use Rattle.std.specs.Prelude.{◌≡◌, ◌≤◌, ◌<◌, Result, List, length, IfOk, IfSome};
 ghost use Rattle.serde_json.specs.View.{view, items_view};
 ghost use Rattle.json_form.specs.Faults.{Fault, GivesBy, within};
 ghost use Rattle.json_form.specs.Values.{items_of};
 ghost use Rattle.json_form.specs.Arrays.{each_of, counted_of, exact_of, array_of, list_of};
+ghost use Rattle.json_form.specs.Streams.{Begins};
 
 use crate::fault::{DocCode, DocFault};
 use crate::reader::Reader;
 use crate::step::within_item;
+use crate::stream::{array_begins, value_from};
 use serde_json::Value;
 use std::alloc::Global;
 
@@ -139,4 +141,32 @@ pub fn list_at<T: Drop, R: Reader<T>>(
         (within name.now (list_of (each_of (R.Reader.reads reader.now)) (view member))) }
 {
     list_within(alloc, name, list_from(alloc, member, reader))
+}
+
+/// The items of an array of at most `high`, in order, each read as soon as its tokens are passed, so that no
+/// more than one of them is held as a JSON value. There are none where `value_from` gives none, where there
+/// are too many, and where one has a fault: `array_from` tells which.
+pub fn array_ahead<T: Drop, R: Reader<T>>(
+    alloc: Global,
+    tokens: &mut json::Reader<'_>,
+    depth: usize,
+    high: usize,
+    reader: &R,
+) -> Option<Vec<T>>
+    ensures read { IfSome result (λ v. Begins
+        (array_of 0 high (each_of (R.Reader.reads reader.now))) depth tokens.old v.items tokens.new) }
+    ensures count { IfSome result (λ v. length v.items ≤ high) }
+    ensures shorter { IfSome result (λ _. length tokens.new < length tokens.old) }
+{
+    let inside = array_begins(tokens, depth)?;
+    let mut found = Vec::new(alloc);
+    'items: while !tokens.take_end_array() {
+        if found.len() >= high {
+            return None;
+        }
+        let value = value_from(alloc, tokens, inside)?;
+        let item = reader.read(alloc, value).ok()?;
+        found.push(item).ok()?;
+    }
+    Some(found)
 }

@@ -1,14 +1,16 @@
 //! Arrays whose items have different keys.
-ghost use Rattle.std.specs.Prelude.{◌≡◌, map, ◌≤◌, Result, List, length, IfOk, IfErr, OnOk, OnErr, [], ◌∷◌, ◌++◌, ◌||◌, ◌↔◌, IsTrue, false};
+ghost use Rattle.std.specs.Prelude.{◌≡◌, map, ◌≤◌, ◌<◌, IfSome, Result, List, length, IfOk, IfErr, OnOk, OnErr, [], ◌∷◌, ◌++◌, ◌||◌, ◌↔◌, IsTrue, false};
 ghost use Rattle.std.specs.List.Sorted.{IsStrictlySortedBy};
 ghost use Rattle.std.specs.Ordering.{is_lt};
 ghost use Rattle.serde_json.specs.View.{view, items_view};
 ghost use Rattle.json_form.specs.Faults.{Fault, Gives, GivesBy, within, within_item as within_item_def};
 ghost use Rattle.json_form.specs.Arrays.{distinct, array_of, list_of, is_key};
+ghost use Rattle.json_form.specs.Streams.{Begins};
 
 use crate::array::{counted, items_from, list_within};
 use crate::fault::{DocCode, DocFault};
 use crate::step::within_item;
+use crate::stream::{array_begins, value_from};
 use serde_json::Value;
 use std::alloc::{AllocError, Global};
 use std::collections::BTreeSet;
@@ -208,4 +210,35 @@ pub fn distinct_list<T: Drop, R: KeyedReader<T>>(
 {
     let values = items_from(alloc, value)?;
     each_distinct(alloc, values, reader)
+}
+
+/// The items of an array of at most `high`, in order, with different keys, each read as soon as its tokens
+/// are passed, as `array_ahead` does it: `distinct_from` tells what is at fault where there are none.
+pub fn distinct_ahead<T: Drop, R: KeyedReader<T>>(
+    alloc: Global,
+    tokens: &mut json::Reader<'_>,
+    depth: usize,
+    high: usize,
+    reader: &R,
+) -> Option<Vec<T>>
+    ensures read { IfSome result (λ v. Begins
+        (array_of 0 high (distinct R.Key.eq R.KeyedReader.key_of (R.KeyedReader.reads reader.now)))
+        depth tokens.old v.items tokens.new) }
+    ensures count { IfSome result (λ v. length v.items ≤ high) }
+    ensures shorter { IfSome result (λ _. length tokens.new < length tokens.old) }
+{
+    let inside = array_begins(tokens, depth)?;
+    let mut found = Vec::new(alloc);
+    let mut taken = Taken::new(alloc);
+    'items: while !tokens.take_end_array() {
+        if found.len() >= high {
+            return None;
+        }
+        let value = value_from(alloc, tokens, inside)?;
+        let item = next_distinct(alloc, value, reader, found.as_slice(), &taken).ok()?;
+        let key = reader.key(alloc, &item).ok()?;
+        taken.add(key).ok()?;
+        found.push(item).ok()?;
+    }
+    Some(found)
 }

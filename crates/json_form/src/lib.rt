@@ -16,9 +16,11 @@ mod stream;
 mod text;
 mod word;
 
-pub use array::{array_at, array_from, exact_from, list_at, list_from};
+pub use array::{array_ahead, array_at, array_from, exact_from, list_at, list_from};
 pub use bytes::json_from;
-pub use distinct::{KeyedReader, Taken, distinct_at, distinct_from, distinct_list};
+pub use distinct::{
+    KeyedReader, Taken, distinct_ahead, distinct_at, distinct_from, distinct_list,
+};
 pub use fault::{DocCode, DocFault};
 pub use hexadecimal::{octets_from, octets_in};
 pub use object::{Members, object_with};

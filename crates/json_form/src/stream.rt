@@ -1,10 +1,10 @@
 //! Values that are read from the tokens of a text one after the other.
 ghost use Rattle.std.specs.Prelude.{◌≡◌, ◌<◌, length, Some, IfSome};
-ghost use Rattle.json.specs.Json.{items, members, value};
-ghost use Rattle.serde_json.specs.Data.{no_members};
-ghost use Rattle.serde_json.specs.Read.{of_items, of_members, converted};
+ghost use Rattle.json.specs.Json.{members, value, parse_map};
+ghost use Rattle.serde_json.specs.Data.{no_members, array};
+ghost use Rattle.serde_json.specs.Read.{of_members, converted};
 ghost use Rattle.serde_json.specs.View.{view, items_view, members_view};
-ghost use Rattle.json_form.specs.Streams.{value_ahead};
+ghost use Rattle.json_form.specs.Streams.{value_ahead, items_ahead};
 
 use crate::number::integer_in;
 use json::{Reader, Token};
@@ -43,9 +43,7 @@ pub fn value_from(alloc: Global, tokens: &mut Reader<'_>, depth: usize) -> Optio
 
 #[cycle(ahead)]
 fn items_from(alloc: Global, tokens: &mut Reader<'_>, depth: usize) -> Option<Vec<Value>>
-    ensures read { IfSome result
-        (λ v. converted of_items (items (value depth) (length tokens.old) tokens.old)
-        ≡ Some (items_view v.items, tokens.new)) }
+    ensures read { IfSome result (λ v. items_ahead depth tokens.old ≡ Some (items_view v.items, tokens.new)) }
     ensures shorter { IfSome result (λ _. length tokens.new < length tokens.old) }
 {
     let mut found = Vec::new(alloc);
@@ -75,4 +73,19 @@ fn members_from(
         drop(found.insert(key, member).ok()?);
     }
     Some(found)
+}
+
+/// Passes the bracket that begins an array, and gives how deep its items may nest.
+pub(crate) fn array_begins(tokens: &mut Reader<'_>, depth: usize) -> Option<usize>
+    ensures array { IfSome result
+        (λ inside. value_ahead depth tokens.old ≡ parse_map array (items_ahead inside tokens.new)) }
+    ensures shorter { IfSome result (λ _. length tokens.new < length tokens.old) }
+{
+    if depth == 0 {
+        return None;
+    }
+    match tokens.next()? {
+        Token::BeginArray => Some(depth - 1),
+        _ => None,
+    }
 }
