@@ -131,6 +131,11 @@ array_read read high (Some p) xs r few e =
     let same = ap (or_else (each_after read [] p.0, p.1)) e in
     ap (λ q. Some (q, p.1)) (few_read read high p.0 xs few (ap (λ q. q.0) same)) ∙ ap (λ s. Some (Ok xs, s)) (ap (λ q. q.1) same)
 
+-- the value that a reading began with
+pub begun : {A : Type 0} (f : Data → Result A Fault) (o : Option (Data × List Token)) (x : A) (r : List Token) → parse_map f o ≡ Some (Ok x, r) → (d : Data) × (o ≡ Some (d, r)) × (f d ≡ Ok x)
+begun f None x r e = absurd (cc)
+begun f (Some p) x r e = let same = ap (or_else (f p.0, p.1)) e in (p.0, ap (λ s. Some (p.0, s)) (ap (λ q. q.1) same), ap (λ q. q.0) same)
+
 -- ---- the whole text
 
 -- a value with no token behind it is what the text spells

@@ -6,6 +6,7 @@ pub mod FormsBack
 pub mod Keys
 pub mod Known
 pub mod Offered
+pub mod PutThere
 pub mod Readings
 pub mod Runs
 pub mod Shapes

@@ -10,6 +10,12 @@ pub use Rattle.json_form.proofs.Readings.{each_keeps, each_long, ReadArray, read
 pub use Rattle.json_form.proofs.DistinctKeys.{distinct_read, distinct_all}
 -- both sides of a conjunction of tests
 pub use Rattle.json_form.proofs.Readings.{first_true, second_true, both_true}
+-- values, items and members that are read one after the other from the tokens of a text
+pub use Rattle.json_form.proofs.Ahead.{member_turn, members_over, begun, whole_read}
+-- what stands in an object once a member was put there
+pub use Rattle.json_form.proofs.PutThere.{named_put, without_put, without_other, known_put}
+-- what bytes spell that are UTF-8
+pub use Rattle.json_form.proofs.Utf8.{is_json}
 
 -- a member or an item that was taken out changes nothing for the others
 pub ruleset others_stay = (has_after, required_after, optional_after, part_after)

@@ -59,3 +59,7 @@ optional name otherwise read ms = read_or name otherwise read (ms name)
 -- the members once the one with this name was taken out
 unfoldable pub without : List ℕ → Named → Named
 without name ms other = if bytes_eq other name then None else ms other
+
+-- the members once this value was put at this name
+unfoldable pub putting : List ℕ → Data → Named → Named
+putting name d ms other = if bytes_eq other name then Some d else ms other

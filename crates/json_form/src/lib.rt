@@ -18,9 +18,7 @@ mod word;
 
 pub use array::{array_ahead, array_at, array_from, exact_from, list_at, list_from};
 pub use bytes::json_from;
-pub use distinct::{
-    KeyedReader, Taken, distinct_ahead, distinct_at, distinct_from, distinct_list,
-};
+pub use distinct::{KeyedReader, Taken, distinct_ahead, distinct_at, distinct_from, distinct_list};
 pub use fault::{DocCode, DocFault};
 pub use hexadecimal::{octets_from, octets_in};
 pub use object::{Members, object_with};
@@ -28,6 +26,6 @@ pub use parts::{Parts, fixed};
 pub use pointer::Pointer;
 pub use reader::{Flag, Integer, Reader, Whole};
 pub use step::{within, within_item};
-pub use stream::value_from;
+pub use stream::{object_begins, value_from};
 pub use text::{TextWriter, Writer};
 pub use word::{chosen, head_from, text_from, word_from};

@@ -1,5 +1,5 @@
 //! Objects: which members stand there, and members that may be missing.
-ghost use Rattle.std.specs.Prelude.{◌≡◌, map};
+ghost use Rattle.std.specs.Prelude.{◌≡◌, map, OnOk, None, string_bytes};
 ghost use Rattle.std.specs.List.{list_any};
 ghost use Rattle.std.specs.Str.{bytes_eq};
 ghost use Rattle.serde_json.specs.View.{view, members_view};
@@ -11,7 +11,7 @@ use crate::fault::{DocCode, DocFault};
 use crate::reader::Reader;
 use crate::step::within;
 use serde_json::{Map, Value};
-use std::alloc::Global;
+use std::alloc::{AllocError, Global};
 
 /// The members of an object, each of which is taken out once. Clauses see what stands at each name.
 #[derive(Drop)]
@@ -61,7 +61,25 @@ pub fn object_with(alloc: Global, value: Value, names: &[&str]) -> Result<Member
 
 impl Members {
     ghost use Rattle.std.specs.Prelude.{option_map};
-    ghost use Rattle.json_form.specs.Objects.{has as has_def, without, required as required_def, optional as optional_def};
+    ghost use Rattle.json_form.specs.Objects.{has as has_def, without, putting, required as required_def, optional as optional_def};
+
+    /// No members.
+    pub fn new(alloc: Global) -> Members
+        ensures { members_at result ≡ (λ name. None) }
+    {
+        Members {
+            map: Map::new(alloc),
+        }
+    }
+
+    /// Puts a member there, in the place of one with the same name. The cost is logarithmic in their number.
+    pub fn put(&mut self, name: String, member: Value) -> Result<(), AllocError>
+        ensures { OnOk result
+            (members_at self.new ≡ putting (string_bytes name) (view member) (members_at self.old)) }
+    {
+        drop(self.map.insert(name, member)?);
+        Ok(())
+    }
 
     /// Whether there is a member with this name.
     #[tactic(auto, unfolding(crate::specs::Objects::has))]

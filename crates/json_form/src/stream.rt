@@ -1,10 +1,9 @@
 //! Values that are read from the tokens of a text one after the other.
-ghost use Rattle.std.specs.Prelude.{◌≡◌, ◌<◌, length, Some, IfSome};
-ghost use Rattle.json.specs.Json.{members, value, parse_map};
-ghost use Rattle.serde_json.specs.Data.{no_members, array};
-ghost use Rattle.serde_json.specs.Read.{of_members, converted};
+ghost use Rattle.std.specs.Prelude.{◌≡◌, ◌+◌, ◌<◌, length, Some, IfSome};
+ghost use Rattle.json.specs.Json.{parse_map};
+ghost use Rattle.serde_json.specs.Data.{array, object};
 ghost use Rattle.serde_json.specs.View.{view, items_view, members_view};
-ghost use Rattle.json_form.specs.Streams.{value_ahead, items_ahead};
+ghost use Rattle.json_form.specs.Streams.{value_ahead, items_ahead, members_ahead};
 
 use crate::number::integer_in;
 use json::{Reader, Token};
@@ -55,15 +54,9 @@ fn items_from(alloc: Global, tokens: &mut Reader<'_>, depth: usize) -> Option<Ve
 }
 
 #[cycle(ahead)]
-fn members_from(
-    alloc: Global,
-    tokens: &mut Reader<'_>,
-    depth: usize,
-) -> Option<Map<String, Value>>
+fn members_from(alloc: Global, tokens: &mut Reader<'_>, depth: usize) -> Option<Map<String, Value>>
     ensures read { IfSome result
-        (λ m. converted (λ ms. of_members ms no_members)
-        (members (value depth) (length tokens.old) tokens.old)
-        ≡ Some (members_view m.entries, tokens.new)) }
+        (λ m. members_ahead depth tokens.old ≡ Some (members_view m.entries, tokens.new)) }
     ensures shorter { IfSome result (λ _. length tokens.new < length tokens.old) }
 {
     let mut found = Map::new(alloc);
@@ -86,6 +79,20 @@ pub(crate) fn array_begins(tokens: &mut Reader<'_>, depth: usize) -> Option<usiz
     }
     match tokens.next()? {
         Token::BeginArray => Some(depth - 1),
+        _ => None,
+    }
+}
+
+/// Passes the bracket that begins an object, and gives how deep its members may nest.
+pub fn object_begins(tokens: &mut Reader<'_>, depth: usize) -> Option<usize>
+    ensures { IfSome result (λ inside. (inside + 1 ≡ depth)
+        × (value_ahead depth tokens.old ≡ parse_map object (members_ahead inside tokens.new))) }
+{
+    if depth == 0 {
+        return None;
+    }
+    match tokens.next()? {
+        Token::BeginObject => Some(depth - 1),
         _ => None,
     }
 }
