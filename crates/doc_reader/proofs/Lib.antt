@@ -1,6 +1,8 @@
 pub mod CallItems
 pub mod Naming
 pub mod Parts
+pub mod OneByOne
+pub mod Joined
 pub mod ReadNumbers
 pub mod ReadTables
 pub mod ReadSequences

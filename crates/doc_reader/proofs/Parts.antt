@@ -57,10 +57,10 @@ fails_first (At c p) r next h = ap (λ (q : Result _ Fault). q >>= next) h
 fails_after : {A B : Type 0} (e : DocFault) (r : Result A Fault) (x : A) (next : A → Result B Fault) → r ≡ Ok x → Fails e (next x) → Fails e (r >>= next)
 fails_after e r x next h f = subst (λ (q : Result _ Fault). Fails e (q >>= next)) (sym h) f
 
-gives_after : {A B : Type 0} (r : Result A Fault) (x : A) (next : A → Result B Fault) (y : B) → r ≡ Ok x → next x ≡ Ok y → (r >>= next) ≡ Ok y
+pub gives_after : {A B : Type 0} (r : Result A Fault) (x : A) (next : A → Result B Fault) (y : B) → r ≡ Ok x → next x ≡ Ok y → (r >>= next) ≡ Ok y
 gives_after r x next y h k = ap (λ (q : Result _ Fault). q >>= next) h ∙ k
 
-optional_apart : {A : Type 0} (name other : List ℕ) (otherwise : A) (read : Data → Result A Fault) (ms : Named) → bytes_eq name other ≡ false → optional name otherwise read (without other ms) ≡ optional name otherwise read ms
+pub optional_apart : {A : Type 0} (name other : List ℕ) (otherwise : A) (read : Data → Result A Fault) (ms : Named) → bytes_eq name other ≡ false → optional name otherwise read (without other ms) ≡ optional name otherwise read ms
 unfolding optional without
 optional_apart name other otherwise read ms apart = rw apart refl
 
@@ -93,7 +93,7 @@ words_fail ms one f e left hf hc =
 
 -- ---- what a run begins with
 
-abbrev print_of : Named → Result Bool Fault
+abbrev pub print_of : Named → Result Bool Fault
 print_of ms = optional (codes "print_image") false bool_of ms
 
 abbrev store_taken : Named → Named
@@ -108,10 +108,10 @@ print_stays ms one two left behind =
     ∙ optional_apart (codes "print_image") (codes "sequences") false bool_of (without (codes "tables") one) refl ∙ optional_apart (codes "print_image") (codes "tables") false bool_of one refl
     ∙ ap print_of left ∙ optional_apart (codes "print_image") (codes "service") false bool_of ms refl
 
-abbrev made_begin : ServiceOf → Store → Bool → Result Begin Fault
+abbrev pub made_begin : ServiceOf → Store → Bool → Result Begin Fault
 made_begin service store print = Ok (record { service = service; store = store; print_image = print })
 
-abbrev served_of : Named → Result ServiceOf Fault
+abbrev pub served_of : Named → Result ServiceOf Fault
 served_of ms = optional (codes "service") usual_service service_of ms
 
 pub begin_given : (ms one two : Named) (s : ServiceOf) (t : Store) (p : Bool) → one ≡ without (codes "service") ms → two ≡ store_taken one → served_of ms ≡ Ok s → store_of one ≡ Ok t → print_of two ≡ Ok p → begin_of ms ≡ made_begin s t p

@@ -1,3 +1,4 @@
+pub mod Ahead
 pub mod Values
 pub mod Items
 pub mod Calls

@@ -1,8 +1,9 @@
 //! Reader of the whole document.
-ghost use Rattle.std.specs.Prelude.{◌≡◌, IfOk, codes, [], option_map};
+ghost use Rattle.std.specs.Prelude.{◌≡◌, ◌<◌, length, IfOk, IfSome, codes, [], option_map};
 ghost use Rattle.serde_json.specs.View.{view};
 ghost use Rattle.json_form.specs.Faults.{Gives};
 ghost use Rattle.json_form.specs.Objects.{members_at, without, read_or};
+ghost use Rattle.json_form.specs.Streams.{Begins};
 ghost use Rattle.doc_reader.specs.Events.{schedule_of};
 ghost use Rattle.doc_reader.specs.Keeping.{IsDocument};
 ghost use Rattle.doc_reader.specs.Documents.{store_of, begin_of, document_with as document_with_def, clients_of, rest_of, document_of, document_at};
@@ -13,8 +14,11 @@ use crate::image::ImageReader;
 use crate::script::ClientReader;
 use crate::sequence::SequencesReader;
 use crate::service::{ServiceReader, usual_service};
+use crate::streamed::streamed;
 use crate::table::TablesReader;
-use json_form::{DocFault, Flag, Members, Reader, array_from, json_from, object_with, within};
+use json_form::{
+    DocFault, Flag, Members, Reader, array_ahead, array_from, json_from, object_with, within,
+};
 use outage_schedule::{Clients, DocSequences, DocTables, Document, Events, Image, ServiceOf};
 use serde_json::Value as Json;
 use std::alloc::Global;
@@ -58,7 +62,7 @@ pub struct Begin {
 
 /// What a run begins with, among the members of the document, which are taken out.
 #[tactic(auto, unfolding(crate::specs::Documents::begin_of), using(json_form::proofs::Offered::others_stay, crate::proofs::Parts::parts_stay))]
-fn begin_from(alloc: Global, members: &mut Members) -> Result<Begin, DocFault>
+pub(crate) fn begin_from(alloc: Global, members: &mut Members) -> Result<Begin, DocFault>
     ensures read { Gives result (begin_of (members_at members.old)) }
     ensures left { IfOk result (λ _. members_at members.new ≡ without (codes "print_image") (without (codes "image") (without (codes "sequences")
         (without (codes "tables") (without (codes "service") (members_at members.old)))))) }
@@ -73,7 +77,7 @@ fn begin_from(alloc: Global, members: &mut Members) -> Result<Begin, DocFault>
     })
 }
 
-fn document_with(begin: Begin, clients: Clients, schedule: Events) -> Document
+pub(crate) fn document_with(begin: Begin, clients: Clients, schedule: Events) -> Document
     ensures { result ≡ document_with_def begin clients schedule }
 {
     let Begin {
@@ -97,12 +101,28 @@ fn document_with(begin: Begin, clients: Clients, schedule: Events) -> Document
     }
 }
 
+/// The greatest number of clients.
+const CLIENT_LIMIT: usize = 64;
+
 /// The clients, at most 64.
 fn clients_from(alloc: Global, value: Json) -> Result<Clients, DocFault>
     ensures { Gives result (clients_of (view value)) }
 {
-    let clients = array_from(alloc, value, 0, 64, &ClientReader)?;
+    let clients = array_from(alloc, value, 0, CLIENT_LIMIT, &ClientReader)?;
     Ok(Listed::from_vec(clients))
+}
+
+/// The clients that `clients_from` reads, each read as soon as its tokens are passed.
+pub(crate) fn clients_ahead(
+    alloc: Global,
+    tokens: &mut json::Reader<'_>,
+    depth: usize,
+) -> Option<Clients>
+    ensures read { IfSome result (λ clients. Begins clients_of depth tokens.old clients tokens.new) }
+    ensures shorter { IfSome result (λ _. length tokens.new < length tokens.old) }
+{
+    let clients = array_ahead(alloc, tokens, depth, CLIENT_LIMIT, &ClientReader)?;
+    Some(Listed::from_vec(clients))
 }
 
 /// The events of a document with so many clients, and with a second store or not.
@@ -161,13 +181,18 @@ fn document_from(alloc: Global, value: Json) -> Result<Document, DocFault>
 }
 
 /// The document that the bytes spell as JSON (RFC 8259), of at most 8 MiB, or the first fault and its
-/// place. The texts of the document are moved out of the JSON value, which goes as it is read. The cost
+/// place. Its tables, clients and events are read one after the other, so that no more than one of them
+/// stands as a JSON value, but where there is a fault, a number that is no integer of 64 bits or is `-0`, or
+/// a schedule before the clients: then the whole value stands there first. The cost
 /// is linear in the number of bytes, but for the n log n comparisons of the keys of a table whose n rows
 /// do not stand in rising order of key, and of the names of a list of n names in no such order.
 pub fn read_document(alloc: Global, bytes: &[u8]) -> Result<Document, DocFault>
     ensures read { Gives result (document_at bytes.now) }
     ensures document { IfOk result IsDocument }
 {
+    if let Some(document) = streamed(alloc, bytes) {
+        return Ok(document);
+    }
     let value = json_from(alloc, bytes, DOCUMENT_LIMIT)?;
     document_from(alloc, value)
 }

@@ -1,12 +1,13 @@
 //! Readers of the events of a schedule: arrays that begin with a word.
-ghost use Rattle.std.specs.Prelude.{◌≡◌, ◌≤◌, IfOk};
+ghost use Rattle.std.specs.Prelude.{◌≡◌, ◌≤◌, ◌<◌, false, length, IfOk, IfSome};
 ghost use Rattle.serde_json.specs.View.{view};
 ghost use Rattle.json_form.specs.Faults.{Gives};
-ghost use Rattle.doc_reader.specs.Events.{count_of, pick_of, lost_pick_of, go_of, serve_of, reap_of, cut_of, crash_of, upcrash_of, bare_of, outside_of, ltxid_of, ask_of, failover_of, event_by as event_by_def, event_of};
+ghost use Rattle.doc_reader.specs.Events.{count_of, pick_of, lost_pick_of, go_of, serve_of, reap_of, cut_of, crash_of, upcrash_of, bare_of, outside_of, ltxid_of, ask_of, failover_of, event_by as event_by_def, event_of, schedule_of};
+ghost use Rattle.json_form.specs.Streams.{Begins};
 
 use crate::built::{LateForm, built};
 use crate::call::CallReader;
-use json_form::{DocCode, DocFault, Reader, Whole, array_from, fixed, head_from};
+use json_form::{DocCode, DocFault, Reader, Whole, array_ahead, array_from, fixed, head_from};
 use outage_schedule::{Calls, Event, Events};
 use serde_json::Value as Json;
 use std::alloc::Global;
@@ -274,6 +275,9 @@ impl Reader<Event> for EventReader {
     }
 }
 
+/// The greatest number of events.
+const EVENT_LIMIT: usize = 100_000;
+
 /// Reads the schedule of a document with so many clients, and with a second store or not.
 #[derive(Drop)]
 pub(crate) struct ScheduleReader {
@@ -282,8 +286,6 @@ pub(crate) struct ScheduleReader {
 }
 
 impl Reader<Events> for ScheduleReader {
-    ghost use Rattle.doc_reader.specs.Events.{schedule_of};
-
     ghost reads = { λ s. schedule_of s.clients s.standby };
 
     fn read(&self, alloc: Global, value: Json) -> Result<Events, DocFault> {
@@ -291,7 +293,27 @@ impl Reader<Events> for ScheduleReader {
             clients: self.clients,
             standby: self.standby,
         };
-        let events = array_from(alloc, value, 0, 100_000, &reader)?;
+        let events = array_from(alloc, value, 0, EVENT_LIMIT, &reader)?;
         Ok(Listed::from_vec(events))
     }
+}
+
+/// The events that `ScheduleReader` reads where there is no second store, each read as soon as its tokens are
+/// passed.
+pub(crate) fn schedule_ahead(
+    alloc: Global,
+    tokens: &mut json::Reader<'_>,
+    depth: usize,
+    clients: u64,
+) -> Option<Events>
+    ensures read { IfSome result
+        (λ events. Begins (schedule_of clients false) depth tokens.old events tokens.new) }
+    ensures shorter { IfSome result (λ _. length tokens.new < length tokens.old) }
+{
+    let reader = EventReader {
+        clients,
+        standby: false,
+    };
+    let events = array_ahead(alloc, tokens, depth, EVENT_LIMIT, &reader)?;
+    Some(Listed::from_vec(events))
 }

@@ -12,6 +12,7 @@ mod script;
 mod sequence;
 mod service;
 mod statement;
+mod streamed;
 mod table;
 mod value;
 

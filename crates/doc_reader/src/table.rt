@@ -1,10 +1,11 @@
 //! Readers of tables: columns, rows that fit them, and the columns by which the rows are indexed.
-ghost use Rattle.std.specs.Prelude.{◌≡◌, ◌≤◌, List, [], length, IfOk, IfErr, string_bytes};
+ghost use Rattle.std.specs.Prelude.{◌≡◌, ◌≤◌, ◌<◌, List, [], length, IfOk, IfErr, IfSome, string_bytes};
 ghost use Rattle.std.specs.Str.{bytes_eq};
 ghost use Rattle.serde_json.specs.View.{view, items_view};
 ghost use Rattle.json_form.specs.Faults.{Gives, GivesBy};
 ghost use Rattle.json_form.specs.Arrays.{is_key, each_after};
 ghost use Rattle.json_form.specs.Texts.{word_of};
+ghost use Rattle.json_form.specs.Streams.{Begins};
 ghost use Rattle.doc_reader.specs.Tables.{column_of, columns_of, kind_words, field_of, fitting, row_of, rows_of, known_column as known_column_def, indexed_of, index_of, table_of, tables_of};
 ghost use Rattle.svc_values.specs.Schemas.{key_of as key_of_row};
 ghost use Rattle.json_form.specs.declared.fault.DocFault.TheVariants.{NoMemory};
@@ -12,8 +13,8 @@ ghost use Rattle.json_form.specs.declared.fault.DocFault.TheVariants.{NoMemory};
 use crate::built::{LateForm, built};
 use crate::value::{NewNameReader, ValueReader, copied};
 use json_form::{
-    DocCode, DocFault, KeyedReader, Reader, Taken, distinct_from, distinct_list, exact_from, fixed,
-    object_with, text_from, within, within_item, word_from,
+    DocCode, DocFault, KeyedReader, Reader, Taken, distinct_ahead, distinct_from, distinct_list,
+    exact_from, fixed, object_with, text_from, within, within_item, word_from,
 };
 use outage_schedule::{DocRows, DocTable, DocTables, IndexColumns};
 use serde_json::Value as Json;
@@ -262,6 +263,9 @@ impl KeyedReader<DocTable> for TableReader {
     }
 }
 
+/// The greatest number of tables.
+const TABLE_LIMIT: usize = 32;
+
 /// Reads at most 32 tables of different names.
 pub(crate) struct TablesReader;
 
@@ -269,7 +273,20 @@ impl Reader<DocTables> for TablesReader {
     ghost reads = { λ s. tables_of };
 
     fn read(&self, alloc: Global, value: Json) -> Result<DocTables, DocFault> {
-        let tables = distinct_from(alloc, value, 0, 32, &TableReader)?;
+        let tables = distinct_from(alloc, value, 0, TABLE_LIMIT, &TableReader)?;
         Ok(Listed::from_vec(tables))
     }
+}
+
+/// The tables that `TablesReader` reads, each read as soon as its tokens are passed.
+pub(crate) fn tables_ahead(
+    alloc: Global,
+    tokens: &mut json::Reader<'_>,
+    depth: usize,
+) -> Option<DocTables>
+    ensures read { IfSome result (λ tables. Begins tables_of depth tokens.old tables tokens.new) }
+    ensures shorter { IfSome result (λ _. length tokens.new < length tokens.old) }
+{
+    let tables = distinct_ahead(alloc, tokens, depth, TABLE_LIMIT, &TableReader)?;
+    Some(Listed::from_vec(tables))
 }

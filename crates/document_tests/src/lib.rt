@@ -17,6 +17,8 @@ mod requests;
 #[cfg(test)]
 mod service;
 #[cfg(test)]
+mod streamed;
+#[cfg(test)]
 mod tables;
 #[cfg(test)]
 mod values;

@@ -1,9 +1,7 @@
 -- What stands in an object once a member was put there.
-use Rattle.std.proofs.Common.{◌≡◌, ℕ, List, Bool, true, false, cond, Option, Some, None, String, Global, string_bytes, string_cmp, bytes_eq, nat_cmp, Ordering, Less, Equal, Greater, Result, Ok, Err, true≢false, refl, sym, ap, subst, ◌∙◌}
-use Rattle.std.specs.Prelude.{⊤}
+use Rattle.std.proofs.Common.{◌≡◌, ℕ, List, Bool, true, false, cond, Option, Some, None, String, Global, string_bytes, string_cmp, bytes_eq, nat_cmp, Ordering, Less, Equal, Greater, Ok, true≢false, refl, sym, ap, ◌∙◌}
 use Rattle.std.proofs.Math.Path.{fun_ext}
 use Rattle.std.proofs.lemmas.Slice.Eq.{bytes_eq-Decides}
-use Rattle.std.proofs.lemmas.Map.Text.{is_eq-slice_cmp}
 use Rattle.std.specs.BTreeMap.{insert_entry}
 use Rattle.std.specs.Cmp.Lexicographic.{slice_cmp}
 use Rattle.std.specs.Ordering.{match_ordering}

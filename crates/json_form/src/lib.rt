@@ -21,7 +21,7 @@ pub use bytes::json_from;
 pub use distinct::{KeyedReader, Taken, distinct_ahead, distinct_at, distinct_from, distinct_list};
 pub use fault::{DocCode, DocFault};
 pub use hexadecimal::{octets_from, octets_in};
-pub use object::{Members, object_with};
+pub use object::{Members, is_among, object_with};
 pub use parts::{Parts, fixed};
 pub use pointer::Pointer;
 pub use reader::{Flag, Integer, Reader, Whole};

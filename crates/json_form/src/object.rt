@@ -30,7 +30,8 @@ fn members_from(alloc: Global, value: Value) -> Result<Map<String, Value>, DocFa
     }
 }
 
-fn is_among(names: &[&str], name: &str) -> bool
+/// The name is one of those named. The cost is their number.
+pub fn is_among(names: &[&str], name: &str) -> bool
     ensures { result ≡ list_any (λ n. bytes_eq n.now name.now) names.now }
 {
     names.iter().any(|known| *known == name)

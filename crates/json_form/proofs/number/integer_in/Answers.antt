@@ -1,6 +1,6 @@
-use Rattle.std.proofs.Common.{◌≡◌, drop, get_or, true, false, ◌==◌, sym, ap, ◌∙◌, arith, take_all, length-drop, Option, Some, None, List, ℕ}
+use Rattle.std.proofs.Common.{◌≡◌, drop, get_or, true, false, ◌==◌, sym, ap, ◌∙◌, arith, take_all, length-drop, Option, Some, None}
 use Rattle.std.specs.Prelude.{IfSome}
-use Rattle.fast_float.specs.Text.{scan, Parts}
+use Rattle.fast_float.specs.Text.{scan}
 use Rattle.serde_json.specs.Data.{Num}
 use Rattle.serde_json.specs.View.{number_view}
 use Rattle.serde_json.specs.declared.number.Number.{Number}

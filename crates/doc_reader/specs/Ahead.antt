@@ -1,0 +1,34 @@
+-- A document whose tables, clients and events are read one after the other.
+use Rattle.std.specs.Prelude.{◌≡◌, ℕ, List, [], ◌∷◌, length, false, Option, Some, None, option_map, Result, Ok, codes}
+use Rattle.json.specs.Token.{Token}
+use Rattle.serde_json.specs.Data.{Data}
+use Rattle.json_form.specs.Objects.{Named, members_at, without, putting}
+use Rattle.json_form.specs.Streams.{value_ahead}
+use Rattle.outage_schedule.specs.declared.document.Client.{Client}
+use Rattle.doc_reader.specs.declared.streamed.Ahead.{Ahead}
+use Rattle.doc_reader.specs.Tables.{tables_of}
+use Rattle.doc_reader.specs.Documents.{clients_of}
+use Rattle.doc_reader.specs.Events.{schedule_of}
+
+-- the members whose values are held until the last member was passed
+abbrev pub held_members : List (List ℕ)
+held_members = codes "service" ∷ codes "sequences" ∷ codes "image" ∷ codes "print_image" ∷ []
+
+abbrev pub held_back : Named → Named
+held_back ms = without (codes "schedule") (without (codes "clients") (without (codes "tables") ms))
+
+-- how many clients were read
+abbrev pub number_in : Option (List Client) → ℕ
+number_in None = 0
+number_in (Some clients) = length clients
+
+-- what was read is what these members are read as, with no second store, and the others are held
+pub record AreRead (ahead : Ahead) (ms : Named) : Type 0 where
+  pub tables : option_map tables_of (ms (codes "tables")) ≡ option_map (λ ts. Ok ts) ahead.tables
+  pub clients : option_map clients_of (ms (codes "clients")) ≡ option_map (λ cs. Ok cs) ahead.clients
+  pub schedule : option_map (schedule_of (number_in ahead.clients) false) (ms (codes "schedule")) ≡ option_map (λ es. Ok es) ahead.schedule
+  pub others : members_at ahead.others ≡ held_back ms
+
+-- the tokens begin with a value, and once it was passed it is read with the members before as the one at this name
+abbrev pub Passes : ℕ → List ℕ → Ahead → List Token → Ahead → List Token → Type 0
+Passes depth name old ts new rest = (d : Data) × (value_ahead depth ts ≡ Some (d, rest)) × ((ms : Named) → AreRead old ms → AreRead new (putting name d ms))
