@@ -82,7 +82,7 @@ pub closable_there : (sees : Seen → Type 0) (traffic : Traffic) → IsSomewher
 closable_there sees traffic there =
     let t = there.1.0 in
     let is = there.1.1 in
-    subst (λ (pool : Slots). AreClosable traffic.connections.all.items pool.idle) is.underway.pool (all_closable traffic.connections.all.items t.machine.links t.machine.pool.idle is.underway.links (idle_open_once t is.orderly))
+    subst (λ (pool : Slots). AreClosable traffic.connections.all.items pool.idle) is.underway.pool (all_closable traffic.connections.all.items t.machine.links t.machine.pool.idle is.underway.links.are (idle_open_once t is.orderly))
 
 -- AT THE SERVICE ----------------------------------------------------------------------------------
 

@@ -13,7 +13,7 @@ first_link link (first ∷ later) front e = ap (λ (f : Option Front). link_or f
     link_or None = link
     link_or (Some f) = f.link
 
-front_link : (link : Link) (living : Bool) (front : Front) → (if living then first_of link link.up else None) ≡ Some front → (living ≡ true) × (front.link ≡ link)
+pub front_link : (link : Link) (living : Bool) (front : Front) → (if living then first_of link link.up else None) ≡ Some front → (living ≡ true) × (front.link ≡ link)
 front_link link true front e = (refl, first_link link link.up front e)
 front_link link false front e = absurd (let nothing : ⊥ = cc in nothing)
 

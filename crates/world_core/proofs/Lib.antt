@@ -1,4 +1,5 @@
 mod Added
+mod Firsts
 mod Answered
 mod Blocking
 mod InLife
@@ -22,6 +23,7 @@ mod Beginning
 pub mod Carrying
 pub mod Forgetting
 pub mod Linking
+pub mod Ages
 pub mod Standing
 pub mod Underway
 pub mod Bases

@@ -84,7 +84,7 @@ known_by (down.Refused cause) held made known = known
 pending_nil : (held : Pending) → held ≡ with_bytes held []
 pending_nil held = ap (λ (b : List ℕ). with_bytes (record { bytes = []; bad = held.bad }) b) (sym (append-nil held.bytes))
 
-none_sent : (sent : List Sent) → up_frames sent ≡ [] → sent ≡ []
+pub none_sent : (sent : List Sent) → up_frames sent ≡ [] → sent ≡ []
 none_sent [] e = refl
 none_sent (one ∷ more) e = absurd (let none : ⊥ = cc in none)
 
@@ -264,10 +264,10 @@ ended_at : (b : Bool) (event : ℕ) (link : Link) → link.is_open ≡ b → (if
 ended_at true event link e = refl
 ended_at false event link e = e
 
-ends_closed : (event : ℕ) (link : Link) → (ends event link).is_open ≡ false
+pub ends_closed : (event : ℕ) (link : Link) → (ends event link).is_open ≡ false
 ends_closed event link = ended_at link.is_open event link refl
 
-ends_same : {A : Type 0} (read : Link → A) (event : ℕ) (link : Link) → read (record link { is_open = false; ended = Some event }) ≡ read link → read (ends event link) ≡ read link
+pub ends_same : {A : Type 0} (read : Link → A) (event : ℕ) (link : Link) → read (record link { is_open = false; ended = Some event }) ≡ read link → read (ends event link) ≡ read link
 ends_same read event link same = elim link.is_open as (λ b. read (if b then record link { is_open = false; ended = Some event } else link) ≡ read link) [ true ↦ same | false ↦ refl ]
 
 ends_by : (b : Bool) (event : ℕ) (link : Link) → b ≡ true → (if b then record link { is_open = false; ended = Some event } else link).ended ≡ Some event

@@ -150,17 +150,17 @@ module _ (R : Type 0) (rules : R → Rules) (script : List Request) (number : �
   pub his_may : (connection : ℕ) (link : Link) (frames : List Up) → Placed → doing.connection ≡ Some connection → IsHis m connection link → link.is_open ≡ true → MaySend (connection_at traffic.connections.all.items (connection_in held.course)) frames
   his_may connection link frames at has his opens =
       subst (λ (n : ℕ). MaySend (connection_at traffic.connections.all.items n) frames) (sym (connection_is connection at has))
-      (open_there traffic.connections.all.items m.links connection link at.underway.links his.found opens frames)
+      (open_there traffic.connections.all.items m.links connection link at.underway.links.are his.found opens frames)
 
   pub known_there : (connection : ℕ) (link : Link) (ltxid : Ltxid) → Placed → IsHis m connection link → link.held ≡ Some ltxid → IsLtxid ltxid
   known_there connection link ltxid at his has =
-      let found = held_at traffic.connections.all.items m.links connection link at.underway.links his.found in
+      let found = held_at traffic.connections.all.items m.links connection link at.underway.links.are his.found in
       subst (λ (one : Option Ltxid). IfSome one IsLtxid) (sym found.2.ltxid ∙ has) found.2.known
 
   -- whether its connection is open
   pub opens_as : (connection : ℕ) (link : Link) → Placed → IsHis m connection link → link.ended ≡ None → link.is_open ≡ true
   opens_as connection link at his unended =
-      let found = held_at traffic.connections.all.items m.links connection link at.underway.links his.found in
+      let found = held_at traffic.connections.all.items m.links connection link at.underway.links.are his.found in
       found.2.is_open ∙ ap (λ (ended : Option ℕ). is_none ended) (sym found.2.ended ∙ unended)
 
   -- anything may be sent on one that is open

@@ -152,7 +152,7 @@ frame_made m number frame before between is gives = by (front_at m.links number)
     by None there gives = no_frame frame (sym gives.0)
     by (Some front) there gives =
         let at = front_there m.links number front there in
-        let link = link_stands before.connections.all.items m.links number front.link is.links at.0 in
+        let link = link_stands before.connections.all.items m.links number front.link is.links.are at.0 in
         subst IsMadeUp (sym (some_frame frame front.first.frame gives.0)) (made_first front.link.up front front.link (front_up m.links number front there) link.1.made)
 
 -- WRITTEN DOWN ------------------------------------------------------------------------------------

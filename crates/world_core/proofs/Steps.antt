@@ -59,7 +59,7 @@ failed_wanted wants.Frame may = absurd (let none : ⊥ = cc in none)
 pub opened_few : (traffic : Traffic) (m : Machine) → IsUnderway traffic m → traffic.pool.opened ≤ length traffic.connections.all.items
 opened_few traffic m is =
     subst (λ (pool : Slots). pool.opened ≤ length traffic.connections.all.items) is.pool
-    (subst (λ (n : ℕ). m.pool.opened ≤ n) (sym (same_length traffic.connections.all.items m.links is.links)) is.opened)
+    (subst (λ (n : ℕ). m.pool.opened ≤ n) (sym (same_length traffic.connections.all.items m.links is.links.are)) is.opened)
 
 module _ (setting : Setting) (m : Machine) (number : ℕ) (doing : Doing) where
   abbrev pub opening : ℕ → Machine
@@ -100,7 +100,7 @@ made_ltxids (down.Refused cause) alive made = tt
 pub first_ltxids : (traffic : Traffic) (m : Machine) (connection : ℕ) (link : Link) (reply : Reply) (left : List Reply) (alive : Bool) → IsUnderway traffic m → link_at m.links connection ≡ Some link → link.down ≡ reply ∷ left
     → HasLtxids (Took reply.frame alive)
 first_ltxids traffic m connection link reply left alive is there first =
-    let found = held_at traffic.connections.all.items m.links connection link is.links there in
+    let found = held_at traffic.connections.all.items m.links connection link is.links.are there in
     let told : AllByRecursion IsMadeDown (down_frames (reply ∷ left)) = subst (λ (replies : List Reply). AllByRecursion IsMadeDown (down_frames replies)) first found.2.told in
     made_ltxids reply.frame alive told.0
 
@@ -136,7 +136,7 @@ module _ (R : Type 0) (rules : R → Rules) (script : List Request) (number : �
 
   ended_as : (connection : ℕ) (link : Link) → IsPlaced R rules script number wants.Frame false traffic held setting m client doing → IsHis m connection link → link.is_open ≡ is_none link.ended
   ended_as connection link at his =
-      let found = held_at traffic.connections.all.items m.links connection link at.underway.links his.found in
+      let found = held_at traffic.connections.all.items m.links connection link at.underway.links.are his.found in
       found.2.is_open ∙ ap (λ (ended : Option ℕ). is_none ended) (sym found.2.ended)
 
   pub found_open : (connection : ℕ) (link : Link) → IsPlaced R rules script number wants.Frame false traffic held setting m client doing → IsHis m connection link → link.ended ≡ None

@@ -1,6 +1,9 @@
 -- How a connection stands for one of the machine. What the machine remembers beside, as all that was ever sent, no connection holds.
-use Rattle.std.specs.Prelude.{◌≡◌, ◌⊎◌, ◌&&◌, ℕ, zero, suc, Bool, true, List, [], ◌∷◌, map, slice_get, Option, Some, None, IfSome, is_none, is_some}
+use Rattle.std.specs.Prelude.{◌≡◌, ◌⊎◌, ◌&&◌, ℕ, zero, suc, Bool, true, false, List, [], ◌∷◌, map, slice_get, Option, Some, None, IfSome, is_none, is_some}
+use Rattle.std.specs.BTreeSet.{BTreeSet, contains}
 use Rattle.std.specs.List.{AllByRecursion}
+use Rattle.std.specs.Option.{option_map_or}
+use Rattle.std.specs.Ordering.{nat_cmp}
 use Rattle.svc_values.specs.declared.entry.Ltxid.{Ltxid}
 use Rattle.svc_values.specs.Identifiers.{IsLtxid}
 use Rattle.svc_values.specs.declared.frame.Up.{Up}
@@ -11,7 +14,7 @@ use Rattle.client_model.specs.declared.input.Input.TheVariants.{Took}
 use Rattle.frame_wire.specs.Stream.{first_payload}
 use Rattle.world_model.specs.Frames.{Sent, Reply}
 use Rattle.outage_schedule.specs.declared.note.Reached.{Reached}
-use Rattle.world_model.specs.Links.{Link, with_link, told_by, takes}
+use Rattle.world_model.specs.Links.{Link, link_at, with_link, told_by, takes}
 use Rattle.world_model.specs.Serving.{Front}
 use Rattle.world_model.specs.Cutting.{reached_of, cut_link}
 use Rattle.world_core.specs.declared.connection.Connection.{Connection}
@@ -69,13 +72,36 @@ AreLinks _ _ = ⊥
 
 -- ALL CONNECTIONS ---------------------------------------------------------------------------------
 
-abbrev pub Stand : Connections → List Link → Type 0
-Stand held links = AreLinks held.all.items links
+-- A crash ended it: its session lives no more, and of what is on its way only replies that a cut let arrive are left.
+pub record HasFallen (link : Link) : Type 0 where
+  pub closed : link.is_open ≡ false
+  pub dead : link.is_living ≡ false
+  pub unserved : link.up ≡ []
+  pub untold : link.is_cut ≡ false → link.down ≡ []
+
+-- so it is with this many that were opened first
+abbrev pub HaveFallen : ℕ → List Link → Type 0
+HaveFallen zero links = Unit {0}
+HaveFallen (suc many) [] = ⊥
+HaveFallen (suc many) (link ∷ links) = HasFallen link × HaveFallen many links
+
+-- the number of each whose session lives is among these
+abbrev pub HasLiving : BTreeSet ℕ → List Link → Type 0
+HasLiving living links = (number : ℕ) (link : Link) → link_at links number ≡ Some link → link.is_living ≡ true → contains nat_cmp living number ≡ true
+
+pub record Stand (held : Connections) (links : List Link) : Type 0 where
+  pub are : AreLinks held.all.items links
+  pub fallen : HaveFallen held.fallen links
+  pub living : HasLiving held.living links
 
 -- connections are numbered from 1
 abbrev pub connection_at : List Connection → ℕ → Option Connection
 connection_at all zero = None
 connection_at all (suc index) = slice_get all index
+
+-- the connection of this number, if there is one, meets the test
+abbrev pub holds_at : (Connection → Bool) → List Connection → ℕ → Bool
+holds_at test all number = option_map_or test (connection_at all number) false
 
 -- the connection of this number, if there is one, is open where anything is sent on it
 abbrev pub MaySend : Option Connection → List Up → Type 0

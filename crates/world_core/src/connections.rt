@@ -1,7 +1,9 @@
 //! The connections of a run.
-ghost use Rattle.std.specs.Prelude.{◌≡◌, ◌+◌, ◌<◌, ◌⊎◌, ℕ, suc, List, [], ◌∷◌, ◌++◌, length, map, fold, Some, OnOk, IfOk, IfSome, MatchOption, is_none, is_some, option_map, position, if◌then◌else◌};
+ghost use Rattle.std.specs.Prelude.{◌≡◌, ◌+◌, ◌<◌, ◌⊎◌, ℕ, suc, List, [], ◌∷◌, ◌++◌, length, map, fold, Some, OnOk, IfOk, IfSome, MatchOption, is_none, is_some, if◌then◌else◌};
 ghost use Rattle.std.specs.Option.{option_copied};
-ghost use Rattle.std.specs.List.{AllByRecursion};
+ghost use Rattle.std.specs.BTreeSet.{IsOrdered};
+ghost use Rattle.std.specs.List.{AllByRecursion, find};
+ghost use Rattle.std.specs.Ordering.{nat_cmp};
 ghost use Rattle.svc_values.specs.Identifiers.{IsLtxid};
 ghost use Rattle.canon_bytes.specs.UpBytes.{IsMadeUp};
 ghost use Rattle.canon_bytes.specs.DownBytes.{IsMadeDown};
@@ -14,37 +16,28 @@ ghost use Rattle.world_model.specs.Finishing.{first_behind};
 ghost use Rattle.world_model.specs.Cutting.{open_at, has_orphan, reaped_link};
 ghost use Rattle.world_model.specs.Crashing.{fallen_link};
 ghost use Rattle.world_core.specs.CutBytes.{KeepsFirstAt};
-ghost use Rattle.world_core.specs.Linked.{up_frames, lives_on, may_be_served, Stand, connection_at, MaySend, IsOpenAt, IsFound, GivesFrontAt, GivesReplyAt, CutsAt};
+ghost use Rattle.world_core.specs.Linked.{up_frames, lives_on, may_be_served, Stand, connection_at, holds_at, MaySend, IsOpenAt, IsFound, GivesFrontAt, GivesReplyAt, CutsAt};
 
 use crate::connection::Connection;
 use frame_wire::any_cut;
 use outage_schedule::Reached;
 use pool_core::Pool;
 use std::alloc::Global;
+use std::collections::BTreeSet;
 use svc_values::{Down, Ltxid, NoMemory, SessionId, Up};
 
 /// The connections of a run, numbered from 1 in order of opening. Each call finds one by its number
-/// in constant time.
+/// in constant time, and a call that begins or ends a session takes the logarithm of those that live
+/// besides.
+///
+/// `fallen` is how many the last crash found: it ended these for good, so the next one passes over
+/// them. `living` has the number of each whose session lives.
 #[derive(Drop)]
 pub struct Connections {
     alloc: Global,
     all: Vec<Connection>,
-}
-
-/// Where the first orphan stands.
-fn first_orphan_in(all: &[Connection]) -> Option<usize>
-    ensures place { result ≡ position lives_on all.now }
-    ensures within { IfSome result (λ at. at < length all.now) }
-{
-    all.iter().position(|connection| connection.is_orphan())
-}
-
-/// Where the first one stands on which a frame may be served.
-fn first_front_in(all: &[Connection]) -> Option<usize>
-    ensures place { result ≡ position may_be_served all.now }
-    ensures within { IfSome result (λ at. at < length all.now) }
-{
-    all.iter().position(|connection| connection.has_front())
+    fallen: usize,
+    living: BTreeSet<u64>,
 }
 
 impl Connections {
@@ -55,6 +48,8 @@ impl Connections {
         Connections {
             alloc,
             all: Vec::new(alloc),
+            fallen: 0,
+            living: BTreeSet::new(alloc),
         }
     }
 
@@ -109,7 +104,9 @@ impl Connections {
         ensures added { IfOk result (λ number. (links : List Link) → Stand self.old links → (number ≡ length links + 1) × Stand self.new (links ++ new_link ∷ [])) }
     {
         self.all.push(Connection::new(self.alloc))?;
-        Ok(self.all.len() as u64)
+        let opened = self.all.len() as u64;
+        self.living.insert(opened)?;
+        Ok(opened)
     }
 
     /// Sends frames to the server on one that is open. A Close among them ends it. Linear in their
@@ -152,7 +149,15 @@ impl Connections {
         let Some(at) = self.place(number) else {
             return Ok(());
         };
-        self.all[at].serve(self.alloc, session, is_last, reply)
+        self.all[at].serve(self.alloc, session, is_last, reply)?;
+        // No clause asks that its session lives and that no crash ended it, so both notes are kept for any.
+        self.fallen = self.fallen.min(at);
+        if is_last {
+            self.living.remove(&number);
+        } else {
+            self.living.insert(number)?;
+        }
+        Ok(())
     }
 
     /// Takes the reply that stands first on one, and the identifier that comes with it. Linear in the
@@ -200,43 +205,87 @@ impl Connections {
             return false;
         }
         self.all[at].reap();
+        self.living.remove(&number);
         true
     }
 
     /// The server falls: all connections and sessions end, and of what is on its way the replies that
-    /// a cut let arrive are left. Linear in the connections, and takes no memory.
+    /// a cut let arrive are left. Linear in the connections that were opened since the last crash, and
+    /// takes no memory.
     pub fn fall(&mut self, event: u64)
         ensures { (links : List Link) → Stand self.old links → Stand self.new (map (fallen_link event) links) }
     {
-        for connection in self.all.iter_mut() {
-            connection.fall(event);
+        for at in self.fallen..self.all.len() {
+            self.all[at].fall(event);
         }
+        self.fallen = self.all.len();
+        self.living.clear();
     }
 
-    /// Those that are open leave the pool, if they are idle. It costs their number times that of the
-    /// idle ones, and takes no memory.
+    /// Those that are open leave the pool, if they are idle. It costs the number of those that were
+    /// opened since the last crash times that of the idle ones, and takes no memory.
     pub fn leave(&self, pool: &mut Pool)
         ensures { (links : List Link) → Stand self.now links → pool.new ≡ fold after_gone pool.old (open_from 1 links) }
     {
-        for (before, connection) in self.all.iter().enumerate() {
-            connection.leave(before as u64 + 1, pool);
+        for at in self.fallen..self.all.len() {
+            self.all[at].leave(at as u64 + 1, pool);
         }
     }
 
-    /// The first one that was cut and whose session lives on. Linear in the connections.
+    /// Whether the one of this number was cut and its session lives on.
+    fn is_orphan(&self, number: u64) -> bool
+        ensures { result ≡ holds_at lives_on self.now.all.items number }
+    {
+        match self.get(number) {
+            Some(connection) => connection.is_orphan(),
+            None => false,
+        }
+    }
+
+    /// Whether a frame may be served on the one of this number.
+    fn has_front(&self, number: u64) -> bool
+        ensures { result ≡ holds_at may_be_served self.now.all.items number }
+    {
+        match self.get(number) {
+            Some(connection) => connection.has_front(),
+            None => false,
+        }
+    }
+
+    /// The first orphan among those whose session lives.
+    fn find_orphan(&self) -> Option<u64>
+        ensures found { result ≡ find (holds_at lives_on self.now.all.items) self.now.living.keys }
+        ensures rising { IsOrdered nat_cmp self.now.living }
+    {
+        self.living
+            .iter()
+            .copied()
+            .find(|number| self.is_orphan(*number))
+    }
+
+    /// The first one among those whose session lives on which a frame may be served.
+    fn find_front(&self) -> Option<u64>
+        ensures found { result ≡ find (holds_at may_be_served self.now.all.items) self.now.living.keys }
+        ensures rising { IsOrdered nat_cmp self.now.living }
+    {
+        self.living
+            .iter()
+            .copied()
+            .find(|number| self.has_front(*number))
+    }
+
+    /// The first one that was cut and whose session lives on. Linear in those whose session lives.
     pub fn first_orphan(&self) -> Option<u64>
         ensures { (links : List Link) → Stand self.now links → result ≡ first_behind is_orphan_def 0 links }
     {
-        let before = first_orphan_in(&self.all)?;
-        Some(before as u64 + 1)
+        self.find_orphan()
     }
 
-    /// The first one on which a frame may be served. Linear in the connections.
+    /// The first one on which a frame may be served. Linear in those whose session lives.
     pub fn first_front(&self) -> Option<u64>
         ensures { (links : List Link) → Stand self.now links → result ≡ first_behind (λ link. is_some (front_of link)) 0 links }
     {
         any_cut::<Up>();
-        let before = first_front_in(&self.all)?;
-        Some(before as u64 + 1)
+        self.find_front()
     }
 }

@@ -48,14 +48,14 @@ impl<S: Service + Drop> Ground<S> {
         self.service.is_up()
     }
 
-    /// The first connection that was cut and whose session lives on. Linear in the connections.
+    /// The first connection that was cut and whose session lives on. Linear in those whose session lives.
     pub fn first_orphan(&self) -> Option<u64>
         ensures { (m : Machine) → IsUnderway self.now.traffic m → result ≡ first_behind is_orphan 0 m.links }
     {
         self.traffic.connections.first_orphan()
     }
 
-    /// The first connection on which a frame may be served. Linear in the connections.
+    /// The first connection on which a frame may be served. Linear in those whose session lives.
     pub fn first_front(&self) -> Option<u64>
         ensures { (m : Machine) → IsUnderway self.now.traffic m → result ≡ first_behind (λ link. is_some (front_of link)) 0 m.links }
     {

@@ -307,8 +307,8 @@ impl Traffic {
     }
 
     /// All connections and sessions end, and those that were idle leave the pool. Of what is on its
-    /// way the replies that a cut let arrive are left. It costs the connections times those that are
-    /// idle, and takes no memory.
+    /// way the replies that a cut let arrive are left. It costs the connections that were opened since
+    /// the last crash times those that are idle, and takes no memory.
     pub fn fall(&mut self)
         ensures { (m : Machine) → IsUnderway self.old m → IsUnderway self.new (record m { links = map (fallen_link m.event) m.links; pool = fold after_gone m.pool (open_from 1 m.links) }) }
     {

@@ -5,9 +5,9 @@ use Rattle.world_core.proofs.Serving.{some_link}
 use Rattle.world_core.proofs.connections.Connections.held.Goals as goal
 
 pub returns-in_err-at : goal.returns-in_err-at
-returns-in_err-at c = λ links link there are. none_there links c.args.number link (no_link c.args.self.now.all.items links c.args.number c.in_err-at.ensures are) there
+returns-in_err-at c = λ links link there stands. none_there links c.args.number link (no_link c.args.self.now.all.items links c.args.number c.in_err-at.ensures stands.are) there
 
 pub returns : goal.returns
-returns c = λ links link there are.
-    let found = found_at c.args.self.now.all.items c.args.number c.in_ok-at.at c.index.result.now c.in_ok-at.ensures c.index.ensures links are in
+returns c = λ links link there stands.
+    let found = found_at c.args.self.now.all.items c.args.number c.in_ok-at.at c.index.result.now c.in_ok-at.ensures c.index.ensures links stands.are in
     (sym found.2.ltxid ∙ ap (λ (l : Link). l.held) (some_link found.0 link (sym found.1 ∙ there)), found.2.known)

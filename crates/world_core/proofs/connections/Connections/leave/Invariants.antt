@@ -1,8 +1,8 @@
 use Rattle.std.proofs.Common.{◌≡◌, ◌+◌, List, drop, fold}
 use Rattle.pool_core.specs.Slots.{after_gone}
 use Rattle.world_model.specs.Links.{Link, open_from}
-use Rattle.world_core.specs.Linked.{AreLinks}
+use Rattle.world_core.specs.Linked.{Stand}
 use Rattle.world_core.proofs.connections.Connections.leave.Given as goal
 
-abbrev pub invariant-loop-before : goal.invariant-loop-before
-invariant-loop-before l = (links : List Link) → AreLinks l.connection-items links → fold after_gone l.pool (open_from (l.before + 1) (drop l.before links)) ≡ fold after_gone l.initial.pool (open_from 1 links)
+abbrev pub invariant-loop-at : goal.invariant-loop-at
+invariant-loop-at l = (links : List Link) → Stand l.self links → fold after_gone l.pool (open_from (l.at + 1) (drop l.at links)) ≡ fold after_gone l.initial.pool (open_from 1 links)
