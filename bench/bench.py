@@ -2,7 +2,7 @@
 """Times the built programs on large inputs, each at two sizes, so that growth shows.
 
 Usage: bench/bench.py [NAME ..]   with no name, all. Build the programs before, by `rt run` in
-crates/continuity, in crates/wire_bench and in crates/log_bench.
+crates/continuity, in crates/wire_bench and in crates/log_bench. It needs GNU time at /usr/bin/time.
 """
 
 import json
@@ -13,6 +13,7 @@ import subprocess
 import sys
 import tempfile
 import time
+import typing
 
 TOP = os.path.dirname(os.path.dirname(os.path.abspath(__file__)))
 MEGABYTE = 1_000_000
@@ -22,17 +23,32 @@ def program(name):
     return os.path.join(TOP, "crates", name, "out", name)
 
 
+class Cost(typing.NamedTuple):
+    """What one run cost: seconds by the clock and of a processor, and the peak memory in bytes."""
+
+    seconds: float
+    processor: float
+    peak: int
+
+
 def run(command, source=os.devnull):
-    """The seconds and the peak memory in bytes of one run, which has to succeed."""
-    with open(source, "rb") as source, tempfile.TemporaryFile() as sink:
+    """The cost of one run, which has to succeed."""
+    with open(source, "rb") as source, tempfile.TemporaryFile() as sink, tempfile.NamedTemporaryFile() as told:
+        # A child is charged its parent's peak, so that of a small program stands between.
+        timed = ["/usr/bin/time", "--format=%M", f"--output={told.name}", *command]
         began = time.monotonic()
-        child = subprocess.Popen(command, stdin=source, stdout=sink)
+        child = subprocess.Popen(timed, stdin=source, stdout=sink)
         _, status, usage = os.wait4(child.pid, 0)
         seconds = time.monotonic() - began
         child.returncode = os.waitstatus_to_exitcode(status)
         if child.returncode != 0:
             sys.exit(f"{' '.join(command)}: status {child.returncode}")
-        return seconds, usage.ru_maxrss * 1024
+        return Cost(seconds, usage.ru_utime + usage.ru_stime, int(told.read()) * 1024)
+
+
+def least(runs, command, source=os.devnull):
+    """The least of so many runs, which other work on the machine touches least."""
+    return Cost(*map(min, zip(*(run(command, source) for _ in range(runs)))))
 
 
 def compact(value):
@@ -93,22 +109,65 @@ def transfers(clients, calls):
     return [{"requests": [{"calls": [call(client, n)]} for n in range(calls)]} for client in range(clients)]
 
 
+class Traffic:
+    """A schedule over clients that each hold a connection: who holds which, so that its events find something to do."""
+
+    def __init__(self, clients):
+        self.drawn = random.Random(1)
+        self.clients = clients
+        self.opened = clients
+        self.held = list(range(1, clients + 1))
+        self.events = []
+
+    def round(self):
+        """Each client makes a step, and up to two frames are served on its connection."""
+        for place, connection in enumerate(self.held):
+            self.events += [["go", place + 1], ["serve", connection], ["serve", connection]]
+
+    def cut(self):
+        """One connection is cut in the middle of what is on its way, and its session ended. Its client opens another one."""
+        place = self.drawn.randrange(self.clients)
+        connection = self.held[place]
+        self.events += [["cut", connection, self.drawn.randint(0, 60), self.drawn.randint(0, 60)], ["reap", connection], ["tick"]]
+        self.opened += 1
+        self.held[place] = self.opened
+
+    def crash(self):
+        """The server falls while it serves, and comes up. Each client opens another connection."""
+        connection = self.drawn.choice(self.held)
+        self.events += [["crash", connection, self.drawn.randint(0, 4), self.drawn.randint(0, 3)], ["up"]]
+        self.held = [self.opened + 1 + place for place in range(self.clients)]
+        self.opened += self.clients
+
+
+def under_schedule(clients, scripts, schedule):
+    pool = {"pool": {"max": clients}}
+    return compact({"service": pool, "tables": [accounts(64)], "clients": scripts, "schedule": schedule})
+
+
 def events_document(events):
-    """A schedule that goes round 64 clients, with a cut each 16 events and a crash each 256: what an event costs."""
-    drawn = random.Random(1)
-    schedule = []
-    connections = 64
-    while len(schedule) < events:
-        client = drawn.randint(1, 64)
-        connection = drawn.randint(max(1, connections - 128), connections)
-        schedule += [["go", client], ["serve", connection], ["go", client], ["serve", connection]]
-        if len(schedule) % 16 == 0:
-            schedule += [["cut", connection, drawn.randint(0, 200), drawn.randint(0, 200)], ["reap", connection], ["tick"]]
-            connections += 1
-        if len(schedule) % 256 == 0:
-            schedule += [["crash", connection, drawn.randint(0, 4), drawn.randint(0, 3)], ["up"]]
-            connections += 4
-    return compact({"tables": [accounts(64)], "clients": transfers(64, 31), "schedule": schedule[:events]})
+    """A schedule over 64 clients, with a cut behind each round and a crash behind each eighth: what an event costs."""
+    traffic = Traffic(64)
+    while len(traffic.events) < events:
+        for _ in range(8):
+            traffic.round()
+            traffic.cut()
+        traffic.crash()
+    return under_schedule(64, transfers(64, 31), traffic.events[:events])
+
+
+def crashes_document(clients):
+    """So many clients, of 32 calls each but for four of them with 31, and a crash behind each eighth round: what a call costs
+    that has to outlive crashes."""
+    scripts = transfers(clients, 32)
+    for client in scripts[:4]:
+        client["requests"].pop()
+    traffic = Traffic(clients)
+    for _ in range(16):
+        for _ in range(8):
+            traffic.round()
+        traffic.crash()
+    return under_schedule(clients, scripts, traffic.events)
 
 
 def openings_document(openings, rows):
@@ -143,39 +202,50 @@ def written(path, make, sizes):
     maker.join()
 
 
-def document_case(name, make, sizes_list):
+def document_case(name, make, sizes_list, runs=1):
     print(f"{name}")
     for sizes in sizes_list:
         with tempfile.TemporaryDirectory() as folder:
             path = os.path.join(folder, "document.json")
             written(path, make, sizes)
             size = os.path.getsize(path) / MEGABYTE
-            seconds, peak = run([program("continuity"), "run"], path)
+            cost = least(runs, [program("continuity"), "run"], path)
         print(
-            f"  {size:7.2f} MB: {seconds:7.3f} s, {seconds / size:7.3f} s/MB, "
-            f"peak {peak / MEGABYTE:8.1f} MB, {peak / MEGABYTE / size:6.1f} MB/MB"
+            f"  {size:7.2f} MB: {cost.seconds:7.3f} s, {cost.seconds / size:7.3f} s/MB, "
+            f"peak {cost.peak / MEGABYTE:8.1f} MB, {cost.peak / MEGABYTE / size:6.1f} MB/MB"
         )
+
+
+def start_case(runs):
+    """The start of the program, by a document of nothing."""
+    with tempfile.NamedTemporaryFile() as document:
+        document.write(compact({"clients": []}))
+        document.flush()
+        cost = least(runs, [program("continuity"), "run"], document.name)
+    print(f"start of the program: {cost.seconds * 1e3:.1f} ms, peak {cost.peak / MEGABYTE:.1f} MB")
 
 
 def program_case(name, words_list, unit):
     print(f"{name}")
     for words in words_list:
-        seconds, peak = run([program(name), *words])
+        cost = run([program(name), *words])
         count = int(words[-1])
         print(
-            f"  {' '.join(words):>20}: {seconds:7.3f} s, {seconds / count * 1e6:8.3f} us/{unit}, "
-            f"peak {peak / MEGABYTE:8.1f} MB"
+            f"  {' '.join(words):>20}: {cost.seconds:7.3f} s, {cost.seconds / count * 1e6:8.3f} us/{unit}, "
+            f"peak {cost.peak / MEGABYTE:8.1f} MB"
         )
 
 
 CASES = {
+    "start": lambda: start_case(100),
     "long": lambda: document_case("long documents", long_document, [(4_000_000,), (8_000_000,)]),
     "rows": lambda: document_case("32 tables of rows", rows_document, [(32, 2_500), (32, 10_000)]),
     "calls": lambda: document_case("calls of one request", calls_document, [(256, 10_000), (1_024, 10_000)]),
     "updates": lambda: document_case("one transaction of updates", updates_document, [(256,), (1_023,)]),
     "reads": lambda: document_case("reads of a whole table in one transaction", reads_document, [(512, 1_000), (512, 10_000)]),
     "whole": lambda: document_case("a whole-table read, an update and a commit", commits_document, [(512, 1_000), (512, 10_000)]),
-    "events": lambda: document_case("events of a schedule", events_document, [(1_000,), (10_000,), (100_000,)]),
+    "events": lambda: document_case("events of a schedule", events_document, [(1_000,), (10_000,), (100_000,)], 5),
+    "crashes": lambda: document_case("calls of clients under crashes", crashes_document, [(16,), (64,)], 5),
     "openings": lambda: document_case("openings of a store", openings_document, [(200, 5_000), (2_000, 5_000)]),
     "answers": lambda: program_case("wire_bench", [["answers", "100000"], ["answers", "1000000"]], "answer"),
     "stream": lambda: program_case("wire_bench", [["stream", "1000000"], ["stream", "4000000"]], "byte"),

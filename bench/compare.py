@@ -28,19 +28,6 @@ JOBS = {
 }
 
 
-def cost(program, document):
-    """The processor time in seconds and the peak memory in bytes of one run."""
-    with open(document, "rb") as source, tempfile.TemporaryFile() as sink, tempfile.NamedTemporaryFile() as told:
-        # A child is charged its parent's peak, so that of a small program stands between.
-        command = ["/usr/bin/time", "--format=%M", f"--output={told.name}", program, "run"]
-        child = subprocess.Popen(command, stdin=source, stdout=sink)
-        _, status, usage = os.wait4(child.pid, 0)
-        child.returncode = os.waitstatus_to_exitcode(status)
-        if child.returncode != 0:
-            sys.exit(f"{program}: status {child.returncode}")
-        return usage.ru_utime + usage.ru_stime, int(told.read()) * 1024
-
-
 def instructions(program, document):
     """How many instructions one run takes, or None where valgrind is not there."""
     if shutil.which("valgrind") is None:
@@ -54,9 +41,9 @@ def instructions(program, document):
 
 def figures(programs, document, runs):
     """The least time, the least peak and the instructions of each program."""
-    costs = [[cost(program, document) for program in programs] for _ in range(runs)]
+    costs = [[bench.run([program, "run"], document) for program in programs] for _ in range(runs)]
     for place, program in enumerate(programs):
-        times, peaks = zip(*(row[place] for row in costs))
+        _, times, peaks = zip(*(row[place] for row in costs))
         yield min(times), min(peaks), instructions(program, document)
 
 
