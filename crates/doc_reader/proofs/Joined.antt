@@ -1,5 +1,5 @@
 -- A document of which the tables, clients and events were read before its other members.
-use Rattle.std.proofs.Common.{◌≡◌, ℕ, List, [], length, Bool, true, false, Option, Some, None, option_map, Result, Ok, codes, refl, sym, ap, ◌∙◌}
+use Rattle.std.proofs.Common.{◌≡◌, ℕ, List, [], length, Bool, false, Option, Some, None, option_map, Result, Ok, codes, refl, sym, ap, ◌∙◌}
 use Rattle.std.specs.Prelude.{⊤}
 use Rattle.std.specs.Option.{unwrap_or}
 use Rattle.serde_json.specs.Data.{Data, Members, object}
@@ -7,7 +7,6 @@ use Rattle.json_form.specs.Faults.{Fault, ◌>>=◌, within}
 use Rattle.json_form.specs.Values.{bool_of}
 use Rattle.json_form.specs.Objects.{Named, named, known, object_with, has, required, optional, read_or, without}
 use Rattle.outage_schedule.specs.declared.document.Client.{Client}
-use Rattle.outage_schedule.specs.declared.document.ServiceOf.{ServiceOf}
 use Rattle.outage_schedule.specs.declared.document.DocTable.{DocTable}
 use Rattle.outage_schedule.specs.declared.document.DocSequence.{DocSequence}
 use Rattle.outage_schedule.specs.declared.document.Document.{Document}

@@ -21,7 +21,7 @@ use svc_values::Listed;
 /// How deep arrays and objects may nest.
 const DEPTH: usize = 127;
 
-/// The members that are no longer than a few lines, whose values are held until the last member was passed.
+/// The other members. Their values are held until the last member was passed.
 const HELD: [&str; 4] = ["service", "sequences", "image", "print_image"];
 
 /// What was read of a document's members so far.

@@ -12,6 +12,12 @@ pub use Rattle.json_form.proofs.DistinctKeys.{distinct_read, distinct_all}
 pub use Rattle.json_form.proofs.Readings.{first_true, second_true, both_true}
 -- values, items and members that are read one after the other from the tokens of a text
 pub use Rattle.json_form.proofs.Ahead.{member_turn, members_over, begun, whole_read}
+-- a name, and the end of an object, leave fewer tokens
+pub use Rattle.json.proofs.Grammar.{read_key-shorter}
+-- parts of which a value of the form is made, by how deep it nests
+pub use Rattle.json_form.proofs.Shapes.{levels, integer_form, items_form, items_joined}
+-- a number of 64 bits is what its text is read as
+pub use Rattle.json_form.proofs.ShortNumbers.{number_back}
 -- what stands in an object once a member was put there
 pub use Rattle.json_form.proofs.PutThere.{named_put, without_put, without_other, known_put}
 -- what bytes spell that are UTF-8

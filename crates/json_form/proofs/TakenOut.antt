@@ -1,5 +1,5 @@
 -- What is left once a member or an item was taken out.
-use Rattle.std.proofs.Common.{◌≡◌, ℕ, zero, suc, ◌<◌, List, [], ◌∷◌, length, get_or, Bool, true, false, cond, Option, Some, None, option_map, eqb, bytes_eq, nat_cmp, string_bytes, true≢false, refl, sym, ap, ◌∙◌, arith, rules, Result}
+use Rattle.std.proofs.Common.{◌≡◌, ℕ, zero, suc, ◌<◌, List, [], ◌∷◌, length, Bool, true, false, cond, Option, Some, None, option_map, eqb, bytes_eq, nat_cmp, string_bytes, true≢false, refl, sym, ap, ◌∙◌, arith, rules, Result}
 use Rattle.std.proofs.Math.Path.{fun_ext}
 use Rattle.std.proofs.Math.ListN.{set}
 use Rattle.std.proofs.lemmas.Bool.{eqb-true, eq-eqb}

@@ -30,7 +30,7 @@ use Rattle.outage_schedule.specs.declared.report.ReportTable.{ReportTable}
 use Rattle.outage_schedule.specs.declared.report.Report.{Report}
 use Rattle.json_form.specs.Forms.{IsForm, AreItems}
 use Rattle.json_form.specs.Writing.{text, whole, list_by}
-use Rattle.json_form.proofs.Shapes.{levels, items_form}
+use Rattle.json_form.proofs.Offered.{levels, items_form}
 use Rattle.report_text.specs.Values.{row_value, identifier_value, session_value}
 use Rattle.report_text.specs.Entries.{entry_value, table_value}
 use Rattle.report_text.specs.Failures.{reason_value, failure_value, failed_value}

@@ -13,7 +13,7 @@ use Rattle.serde_json.specs.Read.{number_of}
 use Rattle.serde_json.specs.Written.{number_text, outline, items_outline, members_outline, compact_text}
 use Rattle.serde_json.proofs.Texts.{print-outline}
 use Rattle.json_form.specs.Numbers.{IsOf64Bits}
-use Rattle.json_form.proofs.ShortNumbers.{number_back}
+use Rattle.json_form.proofs.Offered.{number_back}
 use Rattle.report_text.specs.Numbers.{HasShortNumbers, ItemsHaveShortNumbers, MembersHaveShortNumbers}
 use Rattle.report_text.specs.Laws.{IsTextOfOneReport}
 use Rattle.report_text.specs.Report.{report_value}

@@ -105,11 +105,6 @@ more_fallen zero links link have = tt
 more_fallen (suc many) [] link have = absurd have
 more_fallen (suc many) (l ∷ links) link have = (have.0, more_fallen many links link have.1)
 
-pub fallen_within : (many : ℕ) (links : List Link) → HaveFallen many links → many ≤ length links
-fallen_within zero links have = omega arith
-fallen_within (suc many) [] have = absurd have
-fallen_within (suc many) (l ∷ links) have = let within : many ≤ length links = fallen_within many links have.1 in omega arith
-
 has_fallen : (event : ℕ) (link : Link) → HasFallen (fallen_link event link)
 has_fallen event link = record {
   closed = ends_closed event link;

@@ -1,4 +1,4 @@
-use Rattle.std.proofs.Common.{◌≡◌, Some, None, option_map, Ok, List, codes, sym, ap, ◌∙◌, rules}
+use Rattle.std.proofs.Common.{◌≡◌, option_map, Ok, List, codes, sym, ap, ◌∙◌, rules}
 use Rattle.json_form.specs.Objects.{has, members_at}
 use Rattle.outage_schedule.specs.declared.document.DocTable.{DocTable}
 use Rattle.doc_reader.specs.Documents.{begin_of}

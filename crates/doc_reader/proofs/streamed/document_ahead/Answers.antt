@@ -1,7 +1,7 @@
-use Rattle.std.proofs.Common.{◌≡◌, [], Some, Ok, option_map, List, Bool, Result, false, codes, length, sym, ap, subst, ◌∙◌, rules}
+use Rattle.std.proofs.Common.{◌≡◌, [], Some, option_map, List, Bool, false, codes, length, sym, ap, subst, ◌∙◌, rules}
 use Rattle.std.specs.Option.{unwrap_or}
 use Rattle.json_form.specs.Faults.{Gives}
-use Rattle.json_form.specs.Objects.{named, read_or}
+use Rattle.json_form.specs.Objects.{named}
 use Rattle.outage_schedule.specs.declared.document.Client.{Client}
 use Rattle.outage_schedule.specs.declared.document.Document.{Document}
 use Rattle.outage_schedule.specs.declared.event.Event.{Event}

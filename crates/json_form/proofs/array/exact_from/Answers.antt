@@ -1,5 +1,4 @@
-use Rattle.std.proofs.Common.{◌≡◌, length, sym, ◌∙◌, arith}
-use Rattle.std.specs.Vec.{vec_len}
+use Rattle.std.proofs.Common.{◌≡◌, length, arith}
 use Rattle.serde_json.specs.View.{view}
 use Rattle.json_form.proofs.Counts.{is_exact, is_not_exact}
 use Rattle.json_form.proofs.array.exact_from.Goals as goal

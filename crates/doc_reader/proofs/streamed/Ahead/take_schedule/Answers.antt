@@ -1,4 +1,4 @@
-use Rattle.std.proofs.Common.{◌≡◌, false, length, Some, sym, ap, ◌∙◌, rules}
+use Rattle.std.proofs.Common.{◌≡◌, false, Some, sym, ap, ◌∙◌, rules}
 use Rattle.json_form.specs.Streams.{value_ahead}
 use Rattle.json_form.proofs.Offered.{begun}
 use Rattle.doc_reader.specs.Events.{schedule_of}

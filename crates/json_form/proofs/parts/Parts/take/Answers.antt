@@ -1,4 +1,4 @@
-use Rattle.std.proofs.Common.{◌≡◌, ◌<◌, Some, length, refl, true, true≢false, sym, ap, ◌∙◌, arith}
+use Rattle.std.proofs.Common.{◌<◌, Some, length, refl, true, true≢false, sym, ap, ◌∙◌, arith}
 use Rattle.serde_json.specs.View.{view, items_view}
 use Rattle.serde_json.specs.declared.value.Value.{Value}
 use Rattle.serde_json.proofs.Views.{get_item_within, get_item_past}
