@@ -20,7 +20,7 @@ use crate::base::Base;
 use crate::journal::Journal;
 use crate::judge::Judge;
 use crate::judging::judge_all;
-use crate::records::{Adding, payload_of};
+use crate::records::{Adding, made_of};
 use disk_model::Disk;
 use redo_store::{Redo, RedoFault as LogFault, Walk};
 use std::alloc::Global;
@@ -71,12 +71,12 @@ impl Log {
         ensures cause { Caused (IsErrOf result LogFault.Stopped) (D.state disk.old) (D.state disk.new) }
         ensures whole { (place : ℕ) → IsErrOf result (LogFault.Damaged place) → ⊥ }
     {
-        let Ok(payload) = payload_of(alloc, Adding::Base(base)) else {
+        let Ok(made) = made_of(alloc, Adding::Base(base)) else {
             return Err(LogFault::NoMemory);
         };
         Redo::create(disk)?;
         let mut redo = Walk::begin(alloc, disk)?.finish();
-        redo.append(disk, &payload)
+        redo.append_made(disk, made)
     }
 
     /// Reads the journal, and changes nothing.
@@ -259,9 +259,9 @@ impl Log {
         ensures stop { Lowers 4 result (D.state disk.old).stop (D.state disk.new).stop }
         ensures cause { Caused (IsErrOf result LogFault.Stopped) (D.state disk.old) (D.state disk.new) }
     {
-        let Ok(payload) = payload_of(self.alloc, adding) else {
+        let Ok(made) = made_of(self.alloc, adding) else {
             return Err(LogFault::NoMemory);
         };
-        self.redo.append(disk, &payload)
+        self.redo.append_made(disk, made)
     }
 }

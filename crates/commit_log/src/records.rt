@@ -1,5 +1,6 @@
 //! The records of a journal, and their bytes.
-ghost use Rattle.std.specs.Prelude.{◌≡◌, ◌++◌, IfOk, IfSome, OnOk};
+ghost use Rattle.std.specs.Prelude.{◌≡◌, ◌≤◌, ◌++◌, length, IfOk, IfSome, OnOk};
+ghost use Rattle.redo_store.specs.Records.{payload_in};
 ghost use Rattle.commit_log.specs.RecordBytes.{spell_reservation, FitsReservation, reservation_at, reservation_again, spell_record, FitsRecord, record_at, record_again, IsMadeRecord};
 ghost use Rattle.commit_log.specs.Journals.{whole_record};
 ghost use Rattle.commit_log.specs.Adding.{record_in};
@@ -159,13 +160,15 @@ fn put_record(adding: Adding, out: &mut Vec<u8>) -> Result<(), NoMemory>
     }
 }
 
-// The bytes of a record.
-pub fn payload_of(alloc: Global, adding: Adding) -> Result<Vec<u8>, NoMemory>
+// The bytes of a record, behind eight in whose place the store writes their number.
+pub fn made_of(alloc: Global, adding: Adding) -> Result<Vec<u8>, NoMemory>
     requires { IsMadeRecord (record_in adding) }
-    ensures bytes { IfOk result (λ payload. payload.items ≡ spell_record (record_in adding.entry)) }
+    ensures payload { IfOk result (λ made. payload_in made.items ≡ spell_record (record_in adding.entry)) }
+    ensures room { IfOk result (λ made. 8 ≤ length made.items) }
     ensures fitting { OnOk result (FitsRecord (record_in adding.entry)) }
 {
-    let mut payload = Vec::new(alloc);
-    put_record(adding, &mut payload)?;
-    Ok(payload)
+    let mut made = Vec::new(alloc);
+    made.extend_from_slice(&[0; 8])?;
+    put_record(adding, &mut made)?;
+    Ok(made)
 }

@@ -23,6 +23,10 @@ is_whole behind = nat_le (9 + length_of (take 8 behind)) (length behind)
 abbrev pub payload_of : List ℕ → List ℕ
 payload_of behind = take (length_of (take 8 behind)) (drop 8 behind)
 
+-- the payload in the memory in which a record is made: it stands behind eight bytes, in whose place its length is written
+abbrev pub payload_in : List ℕ → List ℕ
+payload_in made = drop 8 made
+
 -- a record in front of others that were read
 abbrev pub with_first : List ℕ → Result (List (List ℕ)) ℕ → Result (List (List ℕ)) ℕ
 with_first payload (Ok records) = Ok (payload ∷ records)

@@ -1,7 +1,7 @@
 //! A record's bytes, written and read.
 ghost use Rattle.std.specs.Prelude.{◌≡◌, ◌+◌, ◌≤◌, ◌<◌, ◌^◌, ◌++◌, ◌∷◌, [], ℕ, length, take, drop, OnOk, OnErr, IfOk, IsErrOf, Err, MatchOption};
 ghost use Rattle.disk_model.specs.Disk.{OnlyReads};
-ghost use Rattle.redo_store.specs.Records.{magic, length_bytes, length_of, records_from, whole_from};
+ghost use Rattle.redo_store.specs.Records.{magic, length_bytes, length_of, payload_in, records_from, whole_from};
 ghost use Rattle.redo_store.specs.InnerStore.{HasRecord, HasClosedGate};
 
 use crate::fault::RedoFault;
@@ -20,17 +20,29 @@ pub const CLOSED: u8 = 0;
 /// How many bytes a record has beside its payload: its gate and its length.
 pub const HEAD: u64 = 9;
 
-// What is written behind a closed gate: the length, the payload and the next closed gate.
-#[tactic(auto, unfolding(crate::specs::Records::length_bytes))]
-pub fn body_of(alloc: Global, payload: &[u8]) -> Result<Vec<u8>, AllocError>
-    ensures body { IfOk result (λ body. body.items ≡ length_bytes (length payload.now) ++ payload.now ++ 0 ∷ []) }
-    ensures short { OnOk result (length payload.now < 2 ^ 64) }
+// The payload in memory in which its record is to be made: behind eight bytes, and with room for a closed gate.
+pub fn made_of(alloc: Global, payload: &[u8]) -> Result<Vec<u8>, AllocError>
+    ensures payload { IfOk result (λ made. payload_in made.items ≡ payload.now) }
+    ensures room { IfOk result (λ made. 8 ≤ length made.items) }
 {
-    let mut body = Vec::with_capacity(alloc, payload.len() + 9)?;
-    body.extend_from_slice(&(payload.len() as u64).to_be_bytes())?;
-    body.extend_from_slice(payload)?;
-    body.push(CLOSED)?;
-    Ok(body)
+    let mut made = Vec::with_capacity(alloc, payload.len() + 9)?;
+    made.extend_from_slice(&[0; 8])?;
+    made.extend_from_slice(payload)?;
+    Ok(made)
+}
+
+// What is written behind a closed gate: the length, the payload and the next closed gate. It is made where the payload
+// stands, behind the eight bytes that become the length.
+#[tactic(auto, unfolding(crate::specs::Records::length_bytes))]
+pub fn body_of(mut made: Vec<u8>) -> Result<Vec<u8>, AllocError>
+    requires room { 8 ≤ length made.items }
+    ensures body { IfOk result (λ body. body.items ≡ length_bytes (length (payload_in made.items)) ++ payload_in made.items ++ 0 ∷ []) }
+    ensures short { OnOk result (length (payload_in made.items) < 2 ^ 64) }
+{
+    let spelling = (made.len() as u64 - 8).to_be_bytes();
+    made.slice_mut(..8).copy_from_slice(&spelling);
+    made.push(CLOSED)?;
+    Ok(made)
 }
 
 // The length that eight bytes spell.

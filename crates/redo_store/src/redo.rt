@@ -2,11 +2,11 @@
 ghost use Rattle.std.specs.Prelude.{◌≡◌, ◌+◌, ◌≤◌, ◌<◌, ◌^◌, ◌++◌, ◌∷◌, [], ◌⊎◌, ℕ, List, length, OnOk, OnErr, IfOk, IsErrOf, Ok, Err, map, false, true, IsFalse};
 ghost use Rattle.disk_model.specs.Moment.{Torn, with_bytes};
 ghost use Rattle.disk_model.specs.Disk.{Meanwhile, IsSettled, Lowers, Caused, OnlyReads};
-ghost use Rattle.redo_store.specs.Records.{magic, records_of, with_last};
+ghost use Rattle.redo_store.specs.Records.{magic, payload_in, records_of, with_last};
 ghost use Rattle.redo_store.specs.Store.{IsOldOrNew};
 
 use crate::fault::RedoFault;
-use crate::record::{OPEN, body_of};
+use crate::record::{OPEN, body_of, made_of};
 use crate::walk::Walk;
 use disk_model::{Disk, DiskFault};
 use std::alloc::Global;
@@ -91,7 +91,8 @@ impl Redo {
 
     /// Adds a record, in four device calls: its body, a sync, its gate, a sync.
     ///
-    /// It takes the memory for the body before the first of them, and touches no byte but those of the record.
+    /// It takes the memory for the body before the first of them, into which the payload is copied, and touches no byte of
+    /// the disk but those of the record.
     pub fn append<D: Disk>(&mut self, disk: &mut D, payload: &[u8]) -> Result<(), RedoFault>
         requires { CanAppend self.old (D.state disk.old) }
 
@@ -110,7 +111,34 @@ impl Redo {
         ensures stop { Lowers 4 result (D.state disk.old).stop (D.state disk.new).stop }
         ensures cause { Caused (IsErrOf result RedoFault.Stopped) (D.state disk.old) (D.state disk.new) }
     {
-        let body = body_of(self.alloc, payload)?;
+        let made = made_of(self.alloc, payload)?;
+        self.append_made(disk, made)
+    }
+
+    /// Adds a record as `append` does, out of the memory in which it was made.
+    ///
+    /// The payload stands there behind eight bytes, in whose place its length is written. So it is in memory once, and is
+    /// copied to the disk alone; only a vector that is full may be copied, for the closed gate behind the payload.
+    pub fn append_made<D: Disk>(&mut self, disk: &mut D, made: Vec<u8>) -> Result<(), RedoFault>
+        requires room { 8 ≤ length made.items }
+        requires ready { CanAppend self.old (D.state disk.old) }
+
+        // At Ok the record is there, last. For want of memory the records are as before.
+        ensures added { OnOk result (records_of (D.state disk.new).now.seen ≡ with_last (payload_in made.items) (records_of (D.state disk.old).now.seen)) }
+        ensures refused { IsErrOf result RedoFault.NoMemory → records_of (D.state disk.new).now.seen ≡ records_of (D.state disk.old).now.seen }
+
+        // A crash at any moment of the call leaves the old list of records, or this list with the payload last. That the
+        // same is so of the time since it began, and of what a read gives when it has ended, is `disk_model::laws::leaves`.
+        ensures any_moment { Meanwhile (D.state disk.old) (D.state disk.new) (IsOldOrNew (D.state disk.old).now.seen (payload_in made.items)) }
+
+        // After Ok and NoMemory it goes on with its disk, where nothing is pending; after Stopped it is to be opened again.
+        ensures goes_on { StoreGoesOn result self.old self.new (D.state disk.new) }
+
+        // It succeeds only with no stop or one of at least four; with either a quiet disk has no fault.
+        ensures stop { Lowers 4 result (D.state disk.old).stop (D.state disk.new).stop }
+        ensures cause { Caused (IsErrOf result RedoFault.Stopped) (D.state disk.old) (D.state disk.new) }
+    {
+        let body = body_of(made)?;
         if let Err(fault) = write_durably(disk, self.tail + 1, &body) {
             return Err(self.refusal(fault));
         }
