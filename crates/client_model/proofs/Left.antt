@@ -1,5 +1,5 @@
 -- The calls that are left, and the settings that are known, as calls are shown.
-use Rattle.std.proofs.Common.{◌≡◌, ℕ, zero, suc, ◌+◌, Bool, true, false, List, [], ◌∷◌, ◌++◌, length, take, drop, Option, Some, if◌then◌else◌, refl, sym, ap, ◌∙◌, arith}
+use Rattle.std.proofs.Common.{◌≡◌, ℕ, zero, suc, ◌+◌, Bool, true, false, List, [], ◌∷◌, ◌++◌, length, take, drop, Some, if◌then◌else◌, refl, sym, ap, ◌∙◌, arith}
 use Rattle.std.specs.Prelude.{slice_get}
 use Rattle.std.proofs.lemmas.List.Sums.{fold-append}
 use Rattle.svc_values.specs.declared.value.Value.{Value}
@@ -13,7 +13,7 @@ use Rattle.client_model.specs.Terms.{Terms, Talk}
 use Rattle.client_model.specs.Talk.{set_by, sets_by, settled, settled_by, waits_after, next_call, talk_shown}
 use Rattle.client_model.specs.declared.track.Track.{Track}
 use Rattle.client_model.specs.Account.{Account, purged_after, shows_call}
-use Rattle.client_model.proofs.Fits.{Tracked, IsTalk, settings_shown}
+use Rattle.client_model.proofs.Fits.{Tracked, IsTalk}
 use Rattle.client_model.proofs.Showing.{length-last}
 
 -- the first behind a front

@@ -5,7 +5,9 @@ mod Going
 mod Outcomes
 mod Repeating
 mod Replies
+mod RowWords
 mod Rows
+mod LaterRows
 mod Sending
 mod Showing
 mod Left

@@ -1,7 +1,7 @@
 -- A step keeps a driver sound, its ticks past, and its frames such as the wire takes.
-use Rattle.std.proofs.Common.{◌≡◌, ℕ, zero, suc, ◌+◌, ◌-◌, ◌≤◌, ◌<◌, ◌&&◌, Bool, true, false, not, List, [], ◌∷◌, ◌++◌, length, drop, Option, Some, None, IfSome, IsTrue, Ok, Err, if◌then◌else◌, refl, sym, ap, subst, ◌∙◌, arith, length-append, length-drop, nat_le}
-use Rattle.std.specs.Prelude.{slice_get, unwrap_or, max}
-use Rattle.std.specs.Option.{option_or, option_and_then}
+use Rattle.std.proofs.Common.{◌≡◌, ℕ, ◌+◌, ◌-◌, ◌≤◌, ◌<◌, ◌&&◌, if◌then◌else◌, Bool, true, false, not, List, [], ◌∷◌, ◌++◌, length, drop, Option, Some, None, IfSome, IsTrue, Ok, Err, refl, sym, subst, arith, length-append, nat_le}
+use Rattle.std.specs.Prelude.{unwrap_or, max}
+use Rattle.std.specs.Option.{option_or}
 use Rattle.std.specs.List.{AllByRecursion}
 use Rattle.std.specs.Str.{bytes_eq}
 use Rattle.std.proofs.lemmas.Bool.Decides.{nat_tests}
@@ -29,104 +29,18 @@ use Rattle.client_model.specs.declared.track.Track.{Track}
 use Rattle.client_model.specs.Told as told
 use Rattle.client_model.specs.Told.{over, repeated, completed_on, is_late, uncommitted, told_of}
 use Rattle.client_model.specs.States.{Living, Losing, Asking, Repeating, asked_on, resumed, next_of}
-use Rattle.client_model.specs.Verifying.{compared, submitted, verified_more, mismatch}
+use Rattle.client_model.specs.Verifying.{submitted, verified_more, mismatch}
 use Rattle.client_model.specs.declared.input.Input.{Input}
 use Rattle.client_model.specs.declared.input.Input.TheVariants.{Start, Waiting, Lent, Opened, TryFailed, Took, Gone}
-use Rattle.client_model.specs.declared.act.Act.{Act}
 use Rattle.client_model.specs.declared.act.Shown.{Shown}
-use Rattle.client_model.specs.declared.act.Failed.{Failed}
 use Rattle.client_model.specs.declared.act.Failed.TheVariants.{Disabled, Mismatch, Incomplete, Retries, ReplayTimeout, Replays, PoolWait, Unknown, BadPeer}
 use Rattle.client_model.specs.Terms.{Terms, Talk, Phase, Idle, Unbegun, Queued, Seeking, Greeting, Asked, Running, Replaying, unsubmitted}
-use Rattle.client_model.specs.Talk.{Step, stands, quiet, sending, if_alive, closing, ending, fails, ends, begin_of, next_call, with_submitted, sends_call, sends_or_ends, goes_on, recorded_as, with_recorded, with_reply, with_counted, with_shown, talk_shown, tag_of, on_hello, on_reply, sends_marked, repeats, on_compared, on_repeated, after_completed, on_completed, on_told, takes, lost_of, loses, waits_from, on_waiting, with_tried, on_try_failed, talk_step, wants_in, wants_of}
-use Rattle.client_model.specs.Conversation.{is_wanted, is_gone, may_come}
+use Rattle.client_model.specs.Talk.{Step, stands, quiet, sending, if_alive, fails, begin_of, next_call, with_submitted, sends_call, sends_or_ends, goes_on, recorded_as, with_recorded, with_reply, with_counted, with_shown, talk_shown, tag_of, on_hello, on_reply, sends_marked, on_compared, on_repeated, after_completed, on_completed, on_told, takes, lost_of, loses, waits_from, with_tried, talk_step, wants_in, wants_of}
+use Rattle.client_model.specs.Conversation.{is_wanted, may_come}
 use Rattle.client_model.specs.Laws.{track_of}
 use Rattle.driver_core.specs.Driving.{Driving, terms_of, queued_at, ArePast, HasLtxids}
 use Rattle.driver_core.specs.InnerSound.{IsMadeRecorded, IsTracked, HoldsLtxids, HasTry, IsSound}
-
--- LISTS -------------------------------------------------------------------------------------------
-
-all-at : {X : Type 0} (P : X → Type 0) (xs : List X) (n : ℕ) (x : X) → AllByRecursion P xs → slice_get xs n ≡ Some x → P x
-all-at P [] n x all e = absurd (let none : ⊥ = cc in none)
-all-at P (y ∷ xs) zero x all e = let same : y ≡ x = cc in subst P same all.0
-all-at P (y ∷ xs) (suc n) x all e = all-at P xs n x all.1 e
-
-all-rest : {X : Type 0} (P : X → Type 0) (xs : List X) → AllByRecursion P xs → AllByRecursion P (drop 1 xs)
-all-rest P [] all = tt
-all-rest P (x ∷ xs) all = all.1
-
-all-last : {X : Type 0} (P : X → Type 0) (xs : List X) (x : X) → AllByRecursion P xs → P x → AllByRecursion P (xs ++ x ∷ [])
-all-last P [] x all one = (one, tt)
-all-last P (y ∷ xs) x all one = (all.0, all-last P xs x all.1 one)
-
--- one less, where there is one
-rest-length : {X : Type 0} (xs : List X) (x : X) → slice_get xs 0 ≡ Some x → length (drop 1 xs) + 1 ≡ length xs
-rest-length [] x e = absurd (let none : ⊥ = cc in none)
-rest-length (y ∷ xs) x e = let z : length xs + 1 ≡ suc (length xs) = omega arith in z
-
-rest-shorter : {X : Type 0} (xs : List X) → length (drop 1 xs) ≤ length xs
-rest-shorter [] = let z : 0 ≤ 0 = omega arith in z
-rest-shorter (x ∷ xs) = let z : length xs ≤ suc (length xs) = omega arith in z
-
--- WHAT IS KEPT ------------------------------------------------------------------------------------
-
--- whatever phase follows
-record Rests (talk : Talk) (now : ℕ) : Type 0 where
-  made : AllByRecursion IsMade talk.left
-  few : length talk.left ≤ 1024
-  tried : IsPast talk.last_try now
-
--- after a step
-pub record Kept (terms : Terms) (now : ℕ) (step : Step) : Type 0 where
-  pub sound : IsSound terms.limits.retries step.0
-  pub past : ArePast step.0 now
-  pub made : AllByRecursion IsMadeUp step.1.send
-
--- on a session
-record Lives (terms : Terms) (talk : Talk) (now : ℕ) (track : Track) (ltxid : Ltxid) : Type 0 where
-  rests : Rests talk now
-  tries : talk.tries < max 1 terms.limits.retries
-  tracked : IsTracked talk.left track
-  first : IsPast track.first now
-  ltxid_is : IsLtxid ltxid
-
-abbrev first_in : Phase → Option ℕ
-first_in phase = option_and_then (λ track. track.first) (track_of phase)
-
-has_try : (retries tries : ℕ) (phase : Phase) → tries < max 1 retries → HasTry retries tries phase
-has_try retries tries Idle h = tt
-has_try retries tries Unbegun h = h
-has_try retries tries (Queued from) h = h
-has_try retries tries (Seeking lost) h = h
-has_try retries tries (Greeting lost) h = h
-has_try retries tries (Asked state) h = h
-has_try retries tries (Running state) h = h
-has_try retries tries (Replaying state) h = h
-
-idle_kept : (terms : Terms) (talk : Talk) (now : ℕ) (act : Act) → Rests talk now → AllByRecursion IsMadeUp act.send → Kept terms now (stands talk Idle, act)
-idle_kept terms talk now act r made = record {
-  sound = record { made = r.made; few = r.few; tries = tt; tracked = tt; ltxids = tt };
-  past = record { tried = r.tried; queued = tt; submitted = tt };
-  made = made;
-}
-
-kept_in : (terms : Terms) (talk : Talk) (now : ℕ) (phase : Phase) (act : Act) → Rests talk now → talk.tries < max 1 terms.limits.retries
-    → IfSome (track_of phase) (IsTracked talk.left) → IsPast (first_in phase) now → IsPast (queued_at phase) now → HoldsLtxids phase → AllByRecursion IsMadeUp act.send
-    → Kept terms now (stands talk phase, act)
-kept_in terms talk now phase act r tries tracked first queued ltxids made = record {
-  sound = record { made = r.made; few = r.few; tries = has_try terms.limits.retries talk.tries phase tries; tracked = tracked; ltxids = ltxids };
-  past = record { tried = r.tried; queued = queued; submitted = first };
-  made = made;
-}
-
-if_alive_made : (alive : Bool) (frames : List Up) → AllByRecursion IsMadeUp frames → AllByRecursion IsMadeUp (if_alive alive frames)
-if_alive_made true frames made = made
-if_alive_made false frames made = tt
-
-fails_kept : (terms : Terms) (talk : Talk) (now : ℕ) (alive : Bool) (shown : Option Shown) (failed : Failed) → Rests talk now → Kept terms now (fails talk alive shown failed)
-fails_kept terms talk now alive shown failed r = idle_kept terms talk now (closing alive shown failed) r (if_alive_made alive (up.Close ∷ []) (tt, tt))
-
-ends_kept : (terms : Terms) (talk : Talk) (now : ℕ) (alive : Bool) (shown : Option Shown) → Rests talk now → Kept terms now (ends talk alive shown)
-ends_kept terms talk now alive shown r = idle_kept terms talk now (ending alive shown) r (if_alive_made alive (up.End ∷ []) (tt, tt))
+use Rattle.driver_core.proofs.Resting.{all-at, all-rest, all-last, rest-length, rest-shorter, Rests, Kept, Lives, first_in, kept_in, if_alive_made, fails_kept, ends_kept}
 
 -- CALLS -------------------------------------------------------------------------------------------
 

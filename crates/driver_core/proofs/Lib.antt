@@ -1,2 +1,3 @@
 mod Elsewhere
+pub mod Resting
 pub mod Keeping

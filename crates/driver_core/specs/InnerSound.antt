@@ -1,5 +1,5 @@
 -- What every driver keeps: its calls can be sent, its counts fit, its identifiers are identifiers.
-use Rattle.std.specs.Prelude.{◌≡◌, ◌≤◌, ◌<◌, ℕ, ◌+◌, Bool, true, false, List, length, Option, Some, None, IfSome, max}
+use Rattle.std.specs.Prelude.{◌≤◌, ◌<◌, ℕ, ◌+◌, List, length, Some, IfSome, max}
 use Rattle.std.specs.List.{AllByRecursion}
 use Rattle.svc_values.specs.Calls.{IsMade}
 use Rattle.svc_values.specs.Identifiers.{IsLtxid}

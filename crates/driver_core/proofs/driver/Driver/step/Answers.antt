@@ -5,7 +5,8 @@ use Rattle.driver_core.specs.declared.phase.Phase.{Phase}
 use Rattle.driver_core.specs.declared.request.Request.{Request}
 use Rattle.driver_core.specs.Driving.{terms_of}
 use Rattle.driver_core.specs.Talking.{phase_of, talk_of, rest_of, step_in}
-use Rattle.driver_core.proofs.Keeping.{Kept, driver_kept}
+use Rattle.driver_core.proofs.Resting.{Kept}
+use Rattle.driver_core.proofs.Keeping.{driver_kept}
 use Rattle.driver_core.proofs.driver.Driver.step.Goals as goal
 
 pub invariant_of-self-2 : goal.invariant_of-self-2
