@@ -3,6 +3,7 @@ pub mod Naming
 pub mod Parts
 pub mod OneByOne
 pub mod Joined
+pub mod TablesAhead
 pub mod ReadNumbers
 pub mod ReadTables
 pub mod ReadSequences

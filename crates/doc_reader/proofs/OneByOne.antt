@@ -21,11 +21,11 @@ use Rattle.doc_reader.specs.Events.{schedule_of}
 use Rattle.doc_reader.specs.Ahead.{held_members, held_back, number_in, AreRead}
 use Rattle.json_form.proofs.Offered.{given, without_put, without_other}
 
-at_this : (name : List ℕ) (d : Data) (ms : Named) → bytes_eq name name ≡ true → putting name d ms name ≡ Some d
+pub at_this : (name : List ℕ) (d : Data) (ms : Named) → bytes_eq name name ≡ true → putting name d ms name ≡ Some d
 unfolding putting
 at_this name d ms same = rw same refl
 
-at_other : (q name : List ℕ) (d : Data) (ms : Named) → bytes_eq q name ≡ false → putting name d ms q ≡ ms q
+pub at_other : (q name : List ℕ) (d : Data) (ms : Named) → bytes_eq q name ≡ false → putting name d ms q ≡ ms q
 unfolding putting
 at_other q name d ms apart = rw apart refl
 

@@ -1,4 +1,5 @@
 pub mod Ahead
+pub mod TablesAhead
 pub mod Values
 pub mod Items
 pub mod Calls

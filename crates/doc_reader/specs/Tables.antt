@@ -61,9 +61,12 @@ indexed_of columns taken d = text_of d >>= known_column columns >>= λ name. fre
 unfoldable pub index_of : List Column → Data → Result (List (List ℕ)) Fault
 index_of columns d = built form.Index >>= λ _. list_of (distinct bytes_eq (λ name. name) (indexed_of columns)) d
 
+abbrev pub table_members : List (List ℕ)
+table_members = codes "name" ∷ codes "columns" ∷ codes "rows" ∷ codes "index" ∷ []
+
 unfoldable pub table_of : (List ℕ → Bool) → Data → Result DocTable Fault
 table_of taken d =
-    object_with (codes "name" ∷ codes "columns" ∷ codes "rows" ∷ codes "index" ∷ []) d >>= λ ms.
+    object_with table_members d >>= λ ms.
     required (codes "name") ms >>= λ name. required (codes "columns") ms >>= λ columns.
     within (codes "name") (new_name taken name) >>= λ n. within (codes "columns") (columns_of columns) >>= λ cs.
     optional (codes "rows") [] (rows_of cs) ms >>= λ rows. optional (codes "index") [] (index_of cs) ms >>= λ index.

@@ -14,6 +14,7 @@ mod service;
 mod statement;
 mod streamed;
 mod table;
+mod table_ahead;
 mod value;
 
 pub use document::{DOCUMENT_LIMIT, read_document};

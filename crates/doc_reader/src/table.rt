@@ -11,6 +11,7 @@ ghost use Rattle.svc_values.specs.Schemas.{key_of as key_of_row};
 ghost use Rattle.json_form.specs.declared.fault.DocFault.TheVariants.{NoMemory};
 
 use crate::built::{LateForm, built};
+use crate::table_ahead::table_ahead;
 use crate::value::{NewNameReader, ValueReader, copied};
 use json_form::{
     DocCode, DocFault, KeyedReader, Reader, Taken, distinct_ahead, distinct_from, distinct_list,
@@ -19,7 +20,9 @@ use json_form::{
 use outage_schedule::{DocRows, DocTable, DocTables, IndexColumns};
 use serde_json::Value as Json;
 use std::alloc::Global;
-use svc_values::{Column, Columns, Kind, Limited, Listed, Name, Row, Schema, Value, has_column};
+use svc_values::{
+    Column, Columns, Kind, Limited, Listed, Name, Row, Value, has_column, values_fit,
+};
 
 /// Reads the word for a kind.
 struct KindReader;
@@ -63,7 +66,7 @@ impl KeyedReader<Column> for ColumnReader {
     }
 }
 
-fn columns_from(alloc: Global, value: Json) -> Result<Columns, DocFault>
+pub(crate) fn columns_from(alloc: Global, value: Json) -> Result<Columns, DocFault>
     ensures { Gives result (columns_of (view value)) }
 {
     let columns = distinct_from(alloc, value, 1, 8, &ColumnReader)?;
@@ -107,10 +110,10 @@ fn fields_from(
 }
 
 /// The row, if it fits the columns.
-fn fitting_row(alloc: Global, schema: &Schema, row: Row) -> Result<Row, DocFault>
-    ensures { Gives result (fitting schema.now.columns row) }
+fn fitting_row(alloc: Global, columns: &[Column], row: Row) -> Result<Row, DocFault>
+    ensures { Gives result (fitting columns.now row) }
 {
-    if !schema.fits(&row) {
+    if !values_fit(columns, row.as_slice()) {
         return Err(DocFault::here(alloc, DocCode::WrongKind));
     }
     Ok(row)
@@ -131,13 +134,13 @@ fn key_from(alloc: Global, row: &[Value]) -> Result<Value, DocFault>
 /// tested at its turn, before their kinds are looked at.
 #[derive(Drop)]
 struct RowReader<'a> {
-    schema: &'a Schema,
+    columns: &'a Columns,
 }
 
 impl KeyedReader<Row> for RowReader<'_> {
     type Key = Value;
 
-    ghost reads = { λ s. row_of s.schema.now.columns };
+    ghost reads = { λ s. row_of s.columns.now };
 
     ghost key_of = { key_of_row };
 
@@ -147,26 +150,43 @@ impl KeyedReader<Row> for RowReader<'_> {
 
     #[tactic(auto, unfolding(crate::specs::Tables::row_of))]
     fn read(&self, alloc: Global, taken: &Taken<Value>, value: Json) -> Result<Row, DocFault> {
-        let values = exact_from(alloc, value, self.schema.columns.len())?;
+        let values = exact_from(alloc, value, self.columns.len())?;
         let fields = fields_from(alloc, taken, values)?;
-        fitting_row(alloc, self.schema, Limited::from_vec(fields))
+        fitting_row(alloc, self.columns.as_slice(), Limited::from_vec(fields))
     }
 }
 
-/// Reads the rows of a table that is declared so.
+/// The greatest number of rows.
+const ROW_LIMIT: usize = 10_000;
+
+/// Reads the rows of a table of these columns.
 #[derive(Drop)]
 struct RowsReader<'a> {
-    schema: &'a Schema,
+    columns: &'a Columns,
 }
 
 impl Reader<DocRows> for RowsReader<'_> {
-    ghost reads = { λ s. rows_of s.schema.now.columns };
+    ghost reads = { λ s. rows_of s.columns.now };
 
     fn read(&self, alloc: Global, value: Json) -> Result<DocRows, DocFault> {
-        let schema = self.schema;
-        let rows = distinct_from(alloc, value, 0, 10_000, &RowReader { schema })?;
+        let columns = self.columns;
+        let rows = distinct_from(alloc, value, 0, ROW_LIMIT, &RowReader { columns })?;
         Ok(Listed::from_vec(rows))
     }
+}
+
+/// The rows that `RowsReader` reads, each read as soon as its tokens are passed.
+pub(crate) fn rows_ahead(
+    alloc: Global,
+    tokens: &mut json::Reader<'_>,
+    depth: usize,
+    columns: &Columns,
+) -> Option<DocRows>
+    ensures read { IfSome result (λ rows. Begins (rows_of columns.now) depth tokens.old rows tokens.new) }
+    ensures shorter { IfSome result (λ _. length tokens.new < length tokens.old) }
+{
+    let rows = distinct_ahead(alloc, tokens, depth, ROW_LIMIT, &RowReader { columns })?;
+    Some(Listed::from_vec(rows))
 }
 
 /// The column's name that the text is. A text that is no name is that of no column.
@@ -248,18 +268,26 @@ impl KeyedReader<DocTable> for TableReader {
         let columns = members.required(alloc, "columns")?;
         let name = within(alloc, "name", NewNameReader { taken }.read(alloc, name))?;
         let columns = within(alloc, "columns", columns_from(alloc, columns))?;
-        let schema = Schema { name, columns };
-        let reader = RowsReader { schema: &schema };
+        let reader = RowsReader { columns: &columns };
         let rows = members.optional(alloc, "rows", &reader, Listed::new(alloc))?;
-        let columns = &schema.columns;
-        let index = members.optional(alloc, "index", &IndexReader { columns }, Listed::new(alloc))?;
-        let Schema { name, columns } = schema;
+        let reader = IndexReader { columns: &columns };
+        let index = members.optional(alloc, "index", &reader, Listed::new(alloc))?;
         Ok(DocTable {
             name,
             columns,
             rows,
             index,
         })
+    }
+
+    fn ahead(
+        &self,
+        alloc: Global,
+        taken: &Taken<Name>,
+        tokens: &mut json::Reader<'_>,
+        depth: usize,
+    ) -> Option<DocTable> {
+        table_ahead(alloc, taken, tokens, depth)
     }
 }
 

@@ -130,6 +130,22 @@ pub trait KeyedReader<T> {
     fn read(&self, alloc: Global, taken: &Taken<Self::Key>, value: Value) -> Result<T, DocFault>
         ensures { Gives result
             (reads self.now (is_key Self.Key.eq taken.now) (view value)) };
+
+    /// What the value that the tokens begin with is read as after items with these keys, once they are passed.
+    /// There is none where there is a fault, and in the forms that are read otherwise: `read` says which.
+    fn ahead(
+        &self,
+        alloc: Global,
+        taken: &Taken<Self::Key>,
+        tokens: &mut json::Reader<'_>,
+        depth: usize,
+    ) -> Option<T>
+        ensures begins { IfSome result (λ x. Begins (reads self.now (is_key Self.Key.eq taken.now)) depth tokens.old x tokens.new) }
+        ensures shorter { IfSome result (λ _. length tokens.new < length tokens.old) }
+    {
+        let value = value_from(alloc, tokens, depth)?;
+        self.read(alloc, taken, value).ok()
+    }
 }
 
 /// What the value is read as after the items found.
@@ -145,6 +161,24 @@ fn next_distinct<T, R: KeyedReader<T>>(
         (R.KeyedReader.reads reader.now (is_key R.Key.eq (map R.KeyedReader.key_of found.now)) (view value))) }
 {
     within_item(alloc, found.len(), reader.read(alloc, taken, value))
+}
+
+/// What the value that the tokens begin with is read as after the items found.
+fn next_ahead<T, R: KeyedReader<T>>(
+    alloc: Global,
+    tokens: &mut json::Reader<'_>,
+    depth: usize,
+    reader: &R,
+    found: &[T],
+    taken: &Taken<R::Key>,
+) -> Option<T>
+    requires { (k : R.Key) → is_key R.Key.eq taken.now k ≡ is_key R.Key.eq (map R.KeyedReader.key_of found.now) k }
+    ensures begins { IfSome result (λ x. Begins
+        (R.KeyedReader.reads reader.now (is_key R.Key.eq (map R.KeyedReader.key_of found.now)))
+        depth tokens.old x tokens.new) }
+    ensures shorter { IfSome result (λ _. length tokens.new < length tokens.old) }
+{
+    reader.ahead(alloc, taken, tokens, depth)
 }
 
 fn each_distinct<T: Drop, R: KeyedReader<T>>(
@@ -234,8 +268,7 @@ pub fn distinct_ahead<T: Drop, R: KeyedReader<T>>(
         if found.len() >= high {
             return None;
         }
-        let value = value_from(alloc, tokens, inside)?;
-        let item = next_distinct(alloc, value, reader, found.as_slice(), &taken).ok()?;
+        let item = next_ahead(alloc, tokens, inside, reader, found.as_slice(), &taken)?;
         let key = reader.key(alloc, &item).ok()?;
         taken.add(key).ok()?;
         found.push(item).ok()?;

@@ -85,8 +85,9 @@ pub(crate) fn array_begins(tokens: &mut Reader<'_>, depth: usize) -> Option<usiz
 
 /// Passes the bracket that begins an object, and gives how deep its members may nest.
 pub fn object_begins(tokens: &mut Reader<'_>, depth: usize) -> Option<usize>
-    ensures { IfSome result (λ inside. (inside + 1 ≡ depth)
+    ensures object { IfSome result (λ inside. (inside + 1 ≡ depth)
         × (value_ahead depth tokens.old ≡ parse_map object (members_ahead inside tokens.new))) }
+    ensures shorter { IfSome result (λ _. length tokens.new < length tokens.old) }
 {
     if depth == 0 {
         return None;

@@ -13,5 +13,5 @@ returns c =
     let begins : c.in_ok-tokens.tokens ≡ tokens c.args.text.now = search rules in
     let over : c.members_ahead.new.tokens ≡ [] = (nothing_more _ _ c.next.result c.next.ensures.value (sym c.if-is_some.ensures)).0 in
     let all : value_ahead 127 (tokens c.args.text.now) ≡ Some (object x.0, []) =
-    ap (value_ahead 127) (sym begins) ∙ c.in_ok-inside.ensures.1 ∙ ap (parse_map object) x.1 ∙ ap (λ r. Some (object x.0, r)) over in
+    ap (value_ahead 127) (sym begins) ∙ c.in_ok-inside.ensures.object.1 ∙ ap (parse_map object) x.1 ∙ ap (λ r. Some (object x.0, r)) over in
     of_each _ _ c.document_ahead.result (λ document told. (object x.0, whole_read c.args.text.now (object x.0) all, told x.0 x.2 x.3)) c.document_ahead.ensures
