@@ -1,3 +1,2 @@
-pub mod Moved
 pub mod Payloads
 pub mod Streams

@@ -8,7 +8,7 @@ use canon_bytes::PutMade;
 use std::alloc::Global;
 use svc_values::{Down, NoMemory, Up};
 
-/// The number of the payload's bytes, and the payload.
+/// The number of the payload's bytes, and the payload, which is made where it is sent from.
 #[tactic(auto, unfolding(canon_bytes::specs::TextBytes::spell_bytes, canon_bytes::specs::Numbers::spell_u64))]
 fn encode<F: PutMade>(alloc: Global, frame: &F) -> Result<Vec<u8>, NoMemory>
     requires { F.made frame.now }
@@ -16,11 +16,10 @@ fn encode<F: PutMade>(alloc: Global, frame: &F) -> Result<Vec<u8>, NoMemory>
     ensures fitting { OnOk result (F.fits frame.now) }
     ensures short { OnOk result (length (F.spelling frame.now) < 2 ^ 64) }
 {
-    let mut payload = Vec::new(alloc);
-    frame.put_made(&mut payload)?;
-    let mut bytes = Vec::with_capacity(alloc, 8 + payload.len())?;
-    bytes.extend_from_slice(&(payload.len() as u64).to_be_bytes())?;
-    bytes.extend_from_slice(&payload)?;
+    let mut bytes = Vec::from_slice(alloc, &[0; 8])?;
+    frame.put_made(&mut bytes)?;
+    let length = (bytes.len() as u64 - 8).to_be_bytes();
+    bytes.slice_mut(..8).copy_from_slice(&length);
     Ok(bytes)
 }
 

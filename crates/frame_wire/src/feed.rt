@@ -4,10 +4,11 @@ ghost use Rattle.std.specs.Option.{option_map};
 ghost use Rattle.canon_bytes.specs.TextBytes.{spell_bytes};
 ghost use Rattle.frame_wire.specs.Stream.{nothing_pending, with_bytes, with_first, first_payload, IsNext};
 
+use bytes::BytesMut;
 use canon_bytes::{ReadFault, Take};
 use std::alloc::Global;
-use std::marker::Model;
-use svc_values::NoMemory;
+use std::marker::{Model, PhantomData};
+use svc_values::{Down, NoMemory, Up};
 use thiserror::Error;
 
 /// Why there is no frame.
@@ -21,24 +22,28 @@ pub enum FrameFault {
     BadFrame,
 }
 
-/// Bytes that arrive in pieces. The first `read` of the bytes have been given as frames.
+/// The frames of one direction, from bytes that arrive in pieces. Each byte pushed is copied in
+/// once at most, and one that was read is given up.
 #[derive(Drop)]
-pub(crate) struct Feed {
+pub struct Feed<F> {
     alloc: Global,
-    bytes: Vec<u8>,
-    read: usize,
+    bytes: BytesMut,
     bad: bool,
+    of: PhantomData<F>,
 }
 
-impl Model for Feed {
-    ghost use Rattle.std.specs.Prelude.{length, drop, ◌≤◌};
+/// The frames to the server.
+pub type UpFeed = Feed<Up>;
+
+/// The frames to the client.
+pub type DownFeed = Feed<Down>;
+
+impl<F> Model for Feed<F> {
     ghost use Rattle.frame_wire.specs.Stream.{Pending};
 
     ghost Value = { Pending };
 
-    ghost view = { λ f. record { bytes = drop f.read f.bytes.items; bad = f.bad } };
-
-    ghost invariant = { λ f. f.read ≤ length f.bytes.items };
+    ghost view = { λ f. record { bytes = f.bytes.items; bad = f.bad } };
 }
 
 /// The payload of the frame that stands first, where it has arrived whole. Only the length is read.
@@ -74,19 +79,22 @@ fn frame_of<F: Take + Drop>(alloc: Global, payload: &[u8]) -> Result<F, FrameFau
     Ok(frame)
 }
 
-impl Feed {
-    pub(crate) fn new(alloc: Global) -> Feed
+impl<F> Feed<F> {
+    /// A feed without bytes. It takes no memory before the first push.
+    pub fn new(alloc: Global) -> Feed<F>
         ensures { result ≡ nothing_pending }
     {
         Feed {
             alloc,
-            bytes: Vec::new(alloc),
-            read: 0,
+            bytes: BytesMut::new(alloc),
             bad: false,
+            of: PhantomData,
         }
     }
 
-    pub(crate) fn push(&mut self, bytes: &[u8]) -> Result<(), NoMemory>
+    /// Puts bytes behind those that wait, or leaves the feed as it was where memory is refused.
+    /// Linear in the bytes, spread over the pushes.
+    pub fn push(&mut self, bytes: &[u8]) -> Result<(), NoMemory>
         ensures ok { OnOk result (self.new ≡ with_bytes self.old bytes.now) }
         ensures err { OnErr result (self.new ≡ self.old) }
     {
@@ -94,61 +102,64 @@ impl Feed {
         Ok(())
     }
 
-    /// The bytes that are not yet read.
-    fn pending(&self) -> &[u8]
-        ensures { result.now ≡ self.now.bytes }
+    /// The same with bytes that are given up: where none wait, they are taken over and not copied.
+    pub fn push_vec(&mut self, bytes: Vec<u8>) -> Result<(), NoMemory>
+        ensures ok { OnOk result (self.new ≡ with_bytes self.old bytes.items) }
+        ensures err { OnErr result (self.new ≡ self.old) }
     {
-        &self.bytes[self.read..]
+        if self.bytes.is_empty() {
+            self.bytes = BytesMut::from_vec(bytes);
+            return Ok(());
+        }
+        self.push(&bytes)
     }
 
-    pub(crate) fn waiting(&self) -> usize
+    /// How many bytes wait: those that are not yet read as frames.
+    pub fn waiting(&self) -> usize
         ensures { result ≡ length self.now.bytes }
     {
-        self.bytes.len() - self.read
+        self.bytes.len()
     }
 
-    pub(crate) fn keep_first(&mut self, bytes: usize)
+    /// Gives up all but the first of the bytes that wait. It takes no memory, and constant time; where
+    /// none are left their memory is given back.
+    pub fn keep_first(&mut self, bytes: usize)
         requires { bytes ≤ length self.old.bytes }
         ensures { self.new ≡ with_first self.old bytes }
     {
-        self.bytes.truncate(self.read + bytes);
-    }
-
-    /// Takes bytes off the front. Once more than half of the buffer is read the rest is moved to its
-    /// front, so each byte that is read pays for at most one that is moved.
-    #[tactic(auto, using(crate::proofs::Moved::moved_to_front))]
-    fn skip(&mut self, count: usize)
-        requires { count ≤ length self.old.bytes }
-        ensures { self.new ≡ record { bytes = drop count self.old.bytes; bad = self.old.bad } }
-    {
-        self.read += count;
-        if self.read > self.bytes.len() / 2 {
-            let left = self.bytes.len() - self.read;
-            self.bytes.copy_within(self.read.., 0);
-            self.bytes.truncate(left);
-            self.read = 0;
+        if bytes == 0 {
+            self.bytes = BytesMut::new(self.alloc);
+            return;
         }
+        self.bytes.truncate(bytes);
     }
 
-    pub(crate) fn has_frame(&self) -> bool
+    /// Whether a whole frame stands first, or a bad one. Constant: only its length is read.
+    pub fn has_frame(&self) -> bool
         ensures { result ≡ is_some (first_payload self.now.bytes) }
     {
-        payload_of(self.pending()).is_some()
+        payload_of(self.bytes.as_slice()).is_some()
     }
+}
 
-    pub(crate) fn next<F: Take + Drop>(&mut self) -> Result<Option<F>, FrameFault>
+impl<F: Take + Drop> Feed<F> {
+    /// The frame that stands first, which is taken off; `None` exactly where no whole frame stands
+    /// first, however large its length; `BadFrame` exactly where a whole frame stands first whose
+    /// payload is none, or an earlier call answered so. Linear in the frame, spread over the calls;
+    /// where none stands first only its length is read.
+    pub fn next(&mut self) -> Result<Option<F>, FrameFault>
         ensures { IsNext F.spelling F.fits self.old result self.new }
     {
         if self.bad {
             return Err(FrameFault::BadFrame);
         }
-        let Some(payload) = payload_of(self.pending()) else {
+        let Some(payload) = payload_of(self.bytes.as_slice()) else {
             return Ok(None);
         };
         let length = payload.len();
         match frame_of(self.alloc, payload) {
             Ok(frame) => {
-                self.skip(8 + length);
+                self.bytes.advance(8 + length);
                 Ok(Some(frame))
             }
             Err(FrameFault::NoMemory) => Err(FrameFault::NoMemory),

@@ -6,11 +6,9 @@
 
 mod encode;
 mod feed;
-mod feeds;
 mod law;
 
 pub use encode::{encode_down, encode_up};
-pub use feed::FrameFault;
-pub use feeds::{DownFeed, UpFeed};
+pub use feed::{DownFeed, Feed, FrameFault, UpFeed};
 pub use law::{any_cut, cut_leaves_whole_frames};
 pub use svc_values::{Ahead, Down, Up};
