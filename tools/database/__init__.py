@@ -1,0 +1,1 @@
+"""What a report says was committed, run on a database of another make."""
