@@ -1,0 +1,1 @@
+"""Runs a document under each outage, and counts what its clients were shown."""
