@@ -128,6 +128,13 @@ class Columns:
         connections = self.share("connection", sessions, plan.again)
         outside = [OUTSIDE] if any(mark.lane == OUTSIDE for mark in self.marks) else []
         self.order = clients + connections + [STORE] + outside
+        self.in_column, self.begins = {}, {}    # of each column the stays, in order; of each lane their first events
+        for lane, stays in self.stays.items():
+            self.begins[lane] = [stay.first for stay in stays]
+            for stay in stays:
+                self.in_column.setdefault(stay.column, []).append((stay, lane))
+        for stays in self.in_column.values():
+            stays.sort(key=lambda one: one[0].first)
         self.measure(max([len(span.text) for span in run.spans if span.kind == "call"], default=1))
 
     def is_seen(self, first, last):
@@ -204,9 +211,8 @@ class Columns:
 
     def stay(self, lane, event):
         """The stay that a client or a connection has at an event, or None."""
-        stays = self.stays.get(lane, [])
-        at = bisect_right([stay.first for stay in stays], event) - 1
-        return stays[at] if at >= 0 and event <= stays[at].last else None
+        at = bisect_right(self.begins.get(lane, []), event) - 1
+        return self.stays[lane][at] if at >= 0 and event <= self.stays[lane][at].last else None
 
     def column_of(self, lane, event):
         if lane in (STORE, OUTSIDE):

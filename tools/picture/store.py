@@ -9,7 +9,8 @@ from collections import Counter, defaultdict
 
 from . import words
 from .files import need
-from .run import STORE
+from .run import STORE, Commit
+from .tables import Tables, said
 
 RESERVED = 16       # values of a sequence at once
 RETENTION = 86_400  # ticks, where the document does not say
@@ -21,6 +22,8 @@ class Store:
         service = document.get("service", {})
         self.run, self.schedule = run, document.get("schedule", [])
         self.entries = {tuple(entry["ltxid"]) for entry in report["entries"]}
+        self.tables, self.final = Tables(document), report["tables"]
+        self.changes = self.tables.changes_by_entry(report["entries"])
         self.blocks = {tuple(block) for block in report["blocked"]}
         self.lines = Counter(report["alerts"])
         self.surplus = self.lines - Counter(answered_lines(self.schedule, report))
@@ -81,7 +84,9 @@ class Store:
         if entry not in self.entries:
             return False
         self.commits[tuple(session)] += 1
-        self.mark(lane, "disk", (f"commit {words.identifier(entry)}", words.identifier(entry)), "ok")
+        commit = Commit(self.run.number, words.identifier(entry), self.run.events[-1].whose, self.changes.get(entry))
+        self.run.commits.append(commit)
+        self.mark(lane, "disk", (f"commit {commit.identifier}", commit.identifier), "ok", said(commit.changes))
         return True
 
     def alert(self, lane, line):
@@ -150,6 +155,7 @@ class Store:
         need(block is None, f"no event explains the block of {block}")
         line = next(iter(+self.lines), None)
         need(line is None, f"no event explains the alert line {line}")
+        self.tables.close(self.final)
 
 
 def answered_lines(schedule, report):

@@ -5,6 +5,7 @@ from .client import Client
 from .files import FAULTS, Misfit, check_schedule, need, submissions
 from .run import OUTSIDE, STORE, Event, Run
 from .sessions import Sessions
+from .verdict import Stored
 
 
 def follow(document, report):
@@ -30,7 +31,7 @@ class Walk:
              f"the document has {len(clients)} clients, the report {len(report['clients'])}")
         check_schedule(self.schedule, report["notes"])
         self.sessions = Sessions(self.run, document, report)
-        self.store = self.sessions.store
+        self.store, self.run.stored = self.sessions.store, Stored(report)
         auto = document.get("service", {}).get("failover") == "auto"
         self.clients = []
         for number, (client, reports) in enumerate(zip(clients, report["clients"]), 1):
