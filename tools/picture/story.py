@@ -1,7 +1,7 @@
 """What a run did to its clients, in a title and in a sentence for each request that met an outage or an error."""
 
 from . import words
-from .verdict import names
+from .verdict import UNTOLD, names
 
 MANY = 3        # of one kind, that are told one by one
 LINKS = 8       # events that are named where more are told in one
@@ -42,7 +42,7 @@ def though(kept, failed):
     """How many of the failed requests are committed all the same."""
     if not kept:
         return ""
-    return ", and its transaction is stored" if failed == 1 else f", and the transactions of {kept} are stored"
+    return ", but its transaction is stored" if failed == 1 else f"; the transactions of {kept} of them are stored"
 
 
 def story(request, several, stored):
@@ -76,14 +76,13 @@ def events(some):
 
 
 def kept(request, stored):
-    """What is stored of a request. Its last transaction is the one that an error left."""
+    """What is stored of a request. Its last transaction is the one that an error left open."""
     *before, last = stored.transactions(request.report)
     done = [one for transaction in before for one in transaction.stored]
     failed = request.report["failed"]
     if last.stored:
-        return f"{'but ' * bool(failed)}its last transaction is stored, as {names(last.stored)}"
-    if done:
-        what = "its commit is stored" if len(done) == 1 else f"its {len(done)} commits are stored"
-        rest = ", and nothing after it" if failed else ""
-        return f"{what}, each once, as {names(done)}{rest}" if len(done) > 1 else f"{what} once, as {names(done)}{rest}"
-    return "nothing of it is stored" if failed else ""
+        return f"{'but ' * (last.ended in UNTOLD)}its last transaction is stored, as {names(last.stored)}"
+    if not done:
+        return "nothing of it is stored" if failed else ""
+    what = "its commit is stored once" if len(done) == 1 else f"its {len(done)} commits are stored, each once"
+    return f"{what}, as {names(done)}{', and nothing after that' if failed else ''}"
