@@ -88,7 +88,8 @@ class Sheets:
             said.append(text(rows.tick_end, top + 17, str(event.tick), "faint end"))
         said += [text(rows.words_left, top + 17 + LINE * at, line, "words " + tone)
                  for at, line in enumerate(rows.lines[number])]
-        drawn["left"].append(f'<g id="e{number}" class="row {event.tone}" data-e="{number}"><rect class="hover" x="0" '
+        kind = "row bad" if tone == "bad" else "row"
+        drawn["left"].append(f'<g id="e{number}" class="{kind}" data-e="{number}"><rect class="hover" x="0" '
                              f'y="{top:g}" width="{rows.width}" height="{LINE * len(rows.lines[number]) + 4}"/>'
                              f'{"".join(said)}</g>')
 
