@@ -18,7 +18,6 @@ from .window import last_drawn, window
 
 STORIES = 6         # sentences before the others are folded
 MOST_STORIES = 100
-LANDSCAPE = 1000    # the width from which on a picture is printed across
 SCRIPTS = ("picture", "details", "window", "names", "keys", "search")
 KEYS = ("Point at a mark, or tab to it, for its details. Arrow keys: up and down go from event to event, left and "
         "right from outage to outage. After this page's address, <code>#100-180</code> shows these events alone.")
@@ -32,11 +31,10 @@ def page(document, report, first=1, last=None):
     rows, columns = arrange(run, (schedule, first, last))
     sheets = Sheets(rows, columns, Drawing(run, rows, columns))
     title, met = headline(run)
-    paper = "landscape" if rows.width + columns.width > LANDSCAPE else "portrait"
     lanes = clean(json.dumps(sheets.lanes(), separators=(",", ":")))
     return f"""<!DOCTYPE html>
 <html lang="en"><head><meta charset="utf-8"/><meta name="viewport" content="width=device-width"/>
-<title>{clean(title)}</title><style>{part("style.css")}@media print{{@page{{size:{paper}}}}}</style></head><body>
+<title>{clean(title)}</title><style>{part("style.css")}@media print{{@page{{size:{sheets.paper}}}}}</style></head><body>
 <svg width="0" height="0" class="defs"><defs>{definitions()}</defs></svg>
 <header><h1>{clean(title)}</h1>{stories(run, met, rows)}
 <p class="note">{summary(run, document, report)} Time goes down. {KEYS} <a href="#verdict">The verdict</a> is at the

@@ -7,7 +7,8 @@ from .layout import BAND, LINE, folded
 from .run import STORE
 from .shapes import text
 
-SHEET = 40          # rows in a sheet
+LANDSCAPE = 1000    # the width from which on a picture is printed across
+RATIOS = {"landscape": 0.64, "portrait": 1.26}     # of a sheet's height to its width, on A4 and on letter
 HEAD = 44           # the height of a sheet's head: what a column has, and whose it is there
 GROUP_LINE, NAME_LINE = 17, 36
 HEADING = 175       # the width of the longest heading
@@ -17,21 +18,32 @@ class Sheets:
     def __init__(self, rows, columns, drawing):
         self.rows, self.columns, self.drawing = rows, columns, drawing
         self.sides = (("left", rows.width), ("right", columns.width))
+        width = rows.width + columns.width
+        self.paper = "landscape" if width >= LANDSCAPE else "portrait"
+        self.cuts = self.cut(RATIOS[self.paper] * width - HEAD)
+
+    def cut(self, tallest):
+        """(the place of its first row, its top) of each sheet, and of the end. A sheet is not taller than this, unless
+        one row is."""
+        rows = self.rows
+        starts = [rows.tops[group[0].number] - (BAND if group[0].number == rows.finish else 0) for group in rows.groups]
+        starts = [0] + starts[1:] + [rows.height]
+        cuts = [(0, 0)]
+        for at in range(1, len(rows.groups)):
+            if starts[at + 1] - cuts[-1][1] > tallest:
+                cuts.append((at, starts[at]))
+        return cuts + [(len(rows.groups), rows.height)]
 
     def all(self):
-        groups, rows = self.rows.groups, self.rows
-        starts = [rows.tops[group[0].number] - (BAND if group[0].number == rows.finish else 0) for group in groups]
-        starts.append(rows.height)
-        pieces = self.pieces_by_sheet(starts)
-        for at in range(0, len(groups), SHEET):
-            some = groups[at:at + SHEET]
-            yield self.sheet(some, starts[at] if at else 0, starts[at + len(some)], pieces[at // SHEET])
-        if not groups:
+        if not self.rows.groups:
             yield '<p class="none">No event.</p>'
+            return
+        for (at, top), (end, bottom), pieces in zip(self.cuts, self.cuts[1:], self.pieces_by_sheet()):
+            yield self.sheet(self.rows.groups[at:end], top, bottom, pieces)
 
-    def pieces_by_sheet(self, starts):
+    def pieces_by_sheet(self):
         """The pieces that each sheet shows, in the order of their layers."""
-        edges = [0] + starts[SHEET:-1:SHEET]
+        edges = [top for _, top in self.cuts[:-1]]
         found = [[] for _ in edges]
         for _, above, below, piece in self.drawing.pieces:
             first, last = bisect_right(edges, above) - 1, bisect_right(edges, below) - 1
@@ -97,7 +109,7 @@ class Sheets:
 
     def top(self):
         """The head that stays in sight. Its names follow the rows that are seen."""
-        return self.head("top", self.rows.first, self.rows.first + SHEET)
+        return self.head("top", self.rows.first, self.rows.last)
 
     def head(self, kind, first, last):
         """Above the events from `first` to `last`: what the columns have, and whose they are there."""

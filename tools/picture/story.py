@@ -26,7 +26,7 @@ def headline(run):
                         ": no client saw an error"), met
     noun = "submission" if any(request.again for request in run.requests) else "request"
     title += f": {words.plural(len(failed), noun)} of {len(run.requests)} ended in an error"
-    kept = sum(bool(run.stored.transactions(request.report)[-1].stored) for request in failed)
+    kept = sum(is_kept(request, run.stored) for request in failed)
     return title + though(kept, len(failed)), sorted(met, key=lambda request: not request.failed)
 
 
@@ -36,6 +36,12 @@ def outages(run):
     losses = sum(request.losses for request in run.requests)
     return ([words.plural(losses, "lost connection")] * bool(losses)
             + [f"{crashes} crash{'es' if crashes > 1 else ''}"] * bool(crashes))
+
+
+def is_kept(request, stored):
+    """Whether the transaction is stored whose loss led to the request's error."""
+    failed = request.report["failed"]
+    return bool(stored.transactions(request.report)[-1].stored) or failed[0] == "disabled" and failed[1][0] == "statelost"
 
 
 def though(kept, failed):
@@ -49,10 +55,11 @@ def story(request, several, stored):
     """One request's outages in a sentence, what its client saw, and what is stored of it."""
     failed = request.report["failed"]
     saw = f"saw the ERROR {failed[0]}: {words.failure(failed)}" if failed else "saw no error"
-    said = said_of(request) + [f"the client {saw}", kept(request, stored)]
+    said = said_of(request)
+    said += [f"the client {saw}" if said else saw, kept(request, stored)]
     which = f", request {request.place + 1}," if several else ""
     if request.again:
-        which = f", submission {request.again + 1} of request {request.place + 1}:"
+        which = f", submission {request.again + 1} of request {request.place + 1},"
     return f"client {request.client}{which} {'; '.join(filter(None, said))}"
 
 

@@ -106,7 +106,7 @@ def verdict(clients, stored):
     foreign = stored.foreign()
     if foreign:
         said.append(f"from outside: stored: {words.plural(len(foreign), 'transaction')} {names(foreign)}")
-    return TITLES[worst], said
+    return TITLES[worst] if lines else "there is no client", said
 
 
 TITLES = ("what the clients saw and what is stored agree", "a client was not told whether its transaction is stored",

@@ -17,6 +17,9 @@ class Story(unittest.TestCase):
             "one replay too many": "5 lost connections: 1 request of 1 ended in an error",
             "a stored commit whose outcome is forgotten":
                 "1 lost connection and 1 crash: 1 request of 1 ended in an error, but its transaction is stored",
+            "a setting lost after the commit":
+                "1 lost connection: 1 request of 1 ended in an error, but its transaction is stored",
+            "a second transaction, dynamic": "1 lost connection: 1 request of 1 ended in an error",
             "a request that is submitted again": "1 lost connection: 1 submission of 2 ended in an error",
         }.items():
             with self.subTest(run=name):

@@ -80,6 +80,9 @@ class Verdict(unittest.TestCase):
         _, lines = judged(RUNS["a read that changed before the replay"]["report"])
         self.assertEqual(lines[1], "from outside: stored: 1 transaction [1,2,0]")
 
+    def test_no_client(self):
+        self.assertEqual(judged(RUNS["no clients"]["report"]), ("there is no client", []))
+
     def test_many_clients_that_are_alike(self):
         self.assertEqual(len(judged(SHOP["report"])[1]), 8)
         report = {"entries": [], "clients": [[]] * (APART + 1)}
