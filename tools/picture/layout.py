@@ -15,6 +15,7 @@ SMALL, BIG = 6.7, 7.3           # widths of a character of 11 and of 12 pixels, 
 LINE = 16                       # the height of a line
 BAND = 28                       # of the finish's title
 WIDE = 1400                     # what a screen shows
+MANY = 64                       # steps that find nothing to do in one row
 STORE_LABEL = 14                # characters of the store's labels and of those outside, at least
 
 FOLDED = {("go", "wait"): "clients {} wait for a place in the pool",
@@ -93,7 +94,7 @@ class Rows:
 
     def joins(self, group, event):
         """Such steps of different clients or connections, without an error."""
-        return (folded(event.note) and not event.tone and not group[0].tone and group[0].note[::2] == event.note[::2]
+        return (len(group) < MANY and folded(event.note) and not event.tone and not group[0].tone and group[0].note[::2] == event.note[::2]
                 and event.note[1] not in [one.note[1] for one in group])
 
     def y(self, number, line=0):

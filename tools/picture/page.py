@@ -38,7 +38,7 @@ def page(document, report, first=1, last=None):
 <svg width="0" height="0" class="defs"><defs>{definitions()}</defs></svg>
 <header><h1>{clean(title)}</h1>{stories(run, met, rows)}
 <p class="note">{summary(run, document, report)} Time goes down. {KEYS} <a href="#verdict">The verdict</a> is at the
-end.</p>{window(run, first, last)}{explained(sheets.drawing.seen)}</header>
+end.</p>{window(run, first, last)}{explained(sheets.drawing.seen, len(rows.row_of) == len(run.events))}</header>
 <nav><label>Find <input type="search" id="search" placeholder="client 2, session (1,2) or [1,2,0]"/></label>
 <output id="found"></output></nav>
 <main data-lanes="{lanes}">{sheets.top()}{"".join(sheets.all())}</main>
@@ -56,10 +56,10 @@ def part(name):
 
 # Above the picture.
 
-def explained(seen):
-    """The legend, where there is a mark to explain."""
-    return (f'<details open="open"><summary>Legend</summary><ul class="legend">{legend(seen)}</ul></details>'
-            if seen else "")
+def explained(seen, whole):
+    """The legend, where there is a mark to explain. It is folded above a window, whose rows should be in sight."""
+    unfolded = ' open="open"' if whole else ""
+    return f'<details{unfolded}><summary>Legend</summary><ul class="legend">{legend(seen)}</ul></details>' if seen else ""
 
 
 def stories(run, met, rows):

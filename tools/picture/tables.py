@@ -97,6 +97,6 @@ def row(given):
     return NO_ROW if given is None else "(" + ", ".join(map(words.value, given)) + ")"
 
 
-def said(changes):
-    """In lines, for a box."""
-    return "\n".join(f"{table}: before {before}, after {after}" for table, before, after in changes or ())
+def in_words(changes):
+    """A line for each changed row."""
+    return [f"{table}: before {before}, after {after}" for table, before, after in changes or ()]

@@ -12,11 +12,14 @@ from . import words
 from .files import need
 
 ENDS = ("committed", "conflict", "rolledback")
+SHOWN = (("committed", "commit"), ("conflict", "conflict"))
 STORED = ("committed", "incomplete")        # a transaction that ended so is stored
 UNTOLD = ("retries", "unknown")             # one that ended so may be stored
 LISTED = 4          # identifiers of a client in a line
 APART = 12          # clients that have a line each
 AGREE, OPEN, DIFFER = range(3)
+TITLES = ("what the clients saw and what is stored agree", "a client was not told whether its transaction is stored",
+          "what a client saw and what is stored DIFFER")
 SAID = ("they agree", "the client was not told", "THEY DIFFER")
 
 
@@ -83,18 +86,28 @@ def names(identifiers):
 def line(requests, stored):
     """The verdict on one client by the reports of its requests."""
     transactions = [one for request in requests for one in stored.transactions(request)]
-    errors = Counter(one.ended for one in transactions if one.ended not in (*ENDS, ""))
-    counts = [(sum(one.ended == "committed" for one in transactions), "commit"),
-              (sum(one.ended == "conflict" for one in transactions), "conflict")]
-    saw = [words.plural(count, noun) for count, noun in counts if count] or ["no commit"]
-    saw += [f"{count} times the ERROR {name}" if count > 1 else f"the ERROR {name}" for name, count in errors.items()]
-    saw += [] if errors else ["no error"]
-    untold = [one for one in transactions if one.verdict() == OPEN]
+    worst = max((one.verdict() for one in transactions), default=AGREE)
+    kept = tuple(one for each in transactions for one in each.stored)
+    return Line(saw(transactions), kept, worst, fate([one for one in transactions if one.verdict() == OPEN]))
+
+
+def saw(transactions):
+    """What a client saw of its transactions, in words."""
+    ended = Counter(one.ended for one in transactions)
+    said = [words.plural(ended[name], noun) for name, noun in SHOWN if ended[name]] or ["no commit"]
+    errors = {name: count for name, count in ended.items() if name not in (*ENDS, "")}
+    said += [f"{count} times the ERROR {name}" if count > 1 else f"the ERROR {name}" for name, count in errors.items()]
+    return " and ".join(said + ([] if errors else ["no error"]))
+
+
+def fate(untold):
+    """What became of the transactions of which a client was not told."""
+    if not untold:
+        return ""
     kept = sum(bool(one.stored) for one in untold)
-    which = "the transaction" if len(untold) == 1 else f"{kept} of {len(untold)} such transactions"
-    fate = "" if not untold else f": {which} {'is' if kept == 1 else 'are'} stored" if kept else ": nothing of it is stored"
-    return Line(" and ".join(saw), tuple(one for each in transactions for one in each.stored),
-                max((one.verdict() for one in transactions), default=AGREE), fate)
+    if len(untold) == 1:
+        return ": the transaction is stored" if kept else ": nothing of it is stored"
+    return f": {kept} of {len(untold)} such transactions {'is' if kept == 1 else 'are'} stored"
 
 
 def verdict(clients, stored):
@@ -107,10 +120,6 @@ def verdict(clients, stored):
     if foreign:
         said.append(f"from outside: stored: {words.plural(len(foreign), 'transaction')} {names(foreign)}")
     return TITLES[worst] if lines else "there is no client", said
-
-
-TITLES = ("what the clients saw and what is stored agree", "a client was not told whether its transaction is stored",
-          "what a client saw and what is stored DIFFER")
 
 
 def groups(lines):
