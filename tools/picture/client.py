@@ -5,59 +5,15 @@ of the report, and so are errors: what a driver decides is not decided here agai
 """
 
 from collections import deque
-from dataclasses import dataclass, field
 
 from . import words
 from .files import need
+from .request import Request
 
-COMMIT_ENDS = ("committed", "conflict")
 BY_OUTCOME = ("disabled", "incomplete", "replays", "replaytimeout")
 SHORT = {"committed": "commit", "conflict": "confl."}
 QUIET = {"none": "finds nothing to take yet", "early": "may not try to connect again yet (delay)",
          "wait": "waits for a place in the pool"}
-
-
-@dataclass
-class Request:
-    """One submission of a request, as far as it has come."""
-    client: int
-    place: int          # in the client's script
-    again: int          # how often it was submitted before
-    script: dict
-    report: dict
-    first: int          # the event of its first step
-    phase: object
-    held: int = 0       # the event from which on it holds a slot of the pool, or tells that it got none
-    last: int = 0       # the event that ended it
-    connection: object = None
-    shown: int = 0      # calls
-    outcomes: int = 0   # taken
-    begun: bool = False         # whether a Begin was sent
-    asked: tuple = ()           # the identifier whose outcome is to be asked
-    replaying: deque = field(default_factory=deque)     # the calls that are still to be replayed
-    replayed: int = 0
-    tries: int = 0              # to connect, that failed in a row
-    calls: dict = field(default_factory=dict)           # a span for each submitted call
-    failed: bool = False
-    losses: int = 0
-    said: list = field(default_factory=list)            # (event, words), for the headline
-
-    def tell(self, event, text):
-        self.said.append((event, text))
-
-    def fails(self, *kinds):
-        return bool(self.report["failed"]) and self.report["failed"][0] in kinds
-
-    def call(self, place):
-        return self.script["calls"][place]
-
-    def is_shown(self):
-        return self.shown == len(self.script["calls"])
-
-    def kept_from(self):
-        """The first call that a replay runs: the one after the last commit or conflict that was shown."""
-        shown = self.report["calls"][:self.shown]
-        return max((place for place, call in enumerate(shown, 1) if call[0][-1] in COMMIT_ENDS), default=0)
 
 
 def shown_labels(place, answers):
@@ -89,7 +45,7 @@ class Client:
         (place, again), report = self.coming.popleft()
         phase = self.run.span("waiting", self.lane)
         self.request = Request(self.number, place, again, self.requests[place], report, self.run.number, phase)
-        self.run.requests.append(self.request)
+        self.run.begin(self.request)
         return f", request {place + 1}{' again' if again else ''}:"
 
     def phase(self, kind):
@@ -112,7 +68,7 @@ class Client:
         request, text = self.request, "cannot connect, the server is down"
         request.tries += 1
         if request.tries == 1:
-            request.tell(self.run.number, f"found the server down at event {self.run.number}")
+            request.tell(self.run.number, "down", "found the server down at {}", self.run.number)
         if request.fails("retries") and request.report["failed"][1] == request.tries:
             return self.fail(text)
         self.run.mark(self.lane, "cross", ("server down", "down"), "bad")
@@ -131,6 +87,7 @@ class Client:
         need(connection.open and not connection.held, f"event {self.run.number} lends connection {number}, which is "
              "not idle")
         self.request.connection, connection.held, connection.client = connection, True, self.number
+        self.run.whose(self.number, connection)
         self.run.mark(self.lane, "ring", (f"lent conn {number}", f"conn {number}"))
         return f"is lent connection {number} by the pool; {self.send(['begin', 'call'])}"
 
@@ -149,7 +106,7 @@ class Client:
         if request.begun and not request.asked:
             request.asked = connection.told
         request.connection, request.losses = None, request.losses + 1
-        request.tell(event - 0.5, f"lost connection {connection.number} at event {event} ({how})")
+        request.tell(event - 0.5, "lost", f"lost connection {connection.number} at {{}} ({how})", event)
         self.phase("recovering")
         return f" ({how} at event {event})"
 
@@ -158,6 +115,7 @@ class Client:
         need(connection.number == number and connection.down,
              f"event {self.run.number} takes a frame of connection {number}, where none is")
         frame = self.run.take(connection.down)
+        self.run.whose(self.number, connection)
         text = getattr(self, "took_" + frame.name)(request, frame.content)
         if request.failed:
             return self.fail(text)
@@ -197,7 +155,7 @@ class Client:
         request.failed = request.fails(*BY_OUTCOME) and request.outcomes == len(request.report["outcomes"])
         need(request.failed or completed or not committed, f"no error follows the outcome of event {self.run.number}")
         text = f"learns: {asked} is {'committed' if committed else 'not committed'}"
-        request.tell(self.run.number, f"the outcome of {asked} said " + (
+        request.tell(self.run.number, "outcome", f"the outcome of {asked} said " + (
             "not committed" if not committed else f"committed, so call {place} was shown as committed"
             if completed else "committed, in the middle of a call"))
         if completed:
@@ -210,7 +168,7 @@ class Client:
         if committed:
             self.run.mark(self.lane, "check", shown_labels(place, ["committed"]), "ok")
             return ""
-        request.replaying, request.replayed = deque(range(request.kept_from(), place)), 0
+        request.replaying = deque(range(request.kept_from(), place))
         self.phase("replaying")
         self.run.mark(self.lane, "hexagon", ("not committed", "no"), "ask")
         return ", so a replay is safe"
@@ -232,11 +190,14 @@ class Client:
 
     def compare(self, request, answers):
         place = request.replaying.popleft()
-        request.replayed += 1
         if answers != request.report["calls"][place][0]:
             request.failed = True
             return f"gets another answer to call {place} ({words.answers(answers)})"
         self.run.mark(self.lane, "diamond", (f"{place}: same", str(place)), "replay")
+        if not request.replaying:
+            first = request.kept_from()
+            which = f"call {place} was" if first == place else f"calls {first} to {place} were"
+            request.tell(self.run.number, "replayed", f"{which} replayed with the same answer{'s' * (first != place)}")
         return f"finds the same answer to the replayed call {place}"
 
     def took_blocked(self, request, item):
@@ -282,8 +243,7 @@ class Client:
         request, place = self.request, self.request.shown
         self.phase("live")
         if place in request.calls:
-            replayed = f"{words.plural(request.replayed, 'call')} replayed, " if request.replayed else ""
-            request.tell(self.run.number, f"{replayed}call {place} sent again")
+            request.tell(self.run.number, "again", f"call {place} was sent again")
         else:
             request.calls[place] = self.run.span("call", self.lane, str(place))
         return place

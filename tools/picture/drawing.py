@@ -51,7 +51,8 @@ class Drawing:
 
     def title(self, mark):
         event = self.run.events[mark.event - 1]
-        said = [f"event {mark.event}, tick {event.tick}: {json.dumps(event.note)}", event.words, mark.detail]
+        said = [f"event {mark.event}, tick {event.tick}: {json.dumps(event.note)}", event.words, event.whose,
+                mark.detail]
         return "\n".join(filter(None, said))
 
     def label(self, mark):
@@ -124,8 +125,10 @@ class Drawing:
     # Frames.
 
     def frame(self, frame):
+        if not self.columns.is_seen(frame.sent, frame.ended or frame.sent):
+            return
         session = self.columns.x(("connection", frame.connection), frame.sent)
-        if session is None or not self.columns.is_seen(frame.sent, frame.ended or frame.sent):
+        if session is None:
             return
         lost = frame.fate not in ("taken", "waits")
         kind = "lost" if lost else "marked" if frame.mark else "up" if frame.up else "down"

@@ -5,7 +5,7 @@ import json
 FAULTS = (AttributeError, IndexError, KeyError, TypeError, ValueError)     # of a file that is no report
 SUBMITTED_AGAIN = ("disabled", "mismatch", "replays", "replaytimeout")
 DOCUMENT = ("clients",)
-REPORT = ("alerts", "blocked", "clients", "entries", "notes", "served")
+REPORT = ("alerts", "blocked", "clients", "entries", "notes", "served", "tables")
 
 
 class Misfit(Exception):

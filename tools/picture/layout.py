@@ -15,6 +15,7 @@ SMALL, BIG = 6.7, 7.3           # widths of a character of 11 and of 12 pixels, 
 LINE = 16                       # the height of a line
 BAND = 28                       # of the finish's title
 WIDE = 1400                     # what a screen shows
+MANY = 64                       # steps that find nothing to do in one row
 STORE_LABEL = 14                # characters of the store's labels and of those outside, at least
 
 FOLDED = {("go", "wait"): "clients {} wait for a place in the pool",
@@ -93,7 +94,7 @@ class Rows:
 
     def joins(self, group, event):
         """Such steps of different clients or connections, without an error."""
-        return (folded(event.note) and not event.tone and not group[0].tone and group[0].note[::2] == event.note[::2]
+        return (len(group) < MANY and folded(event.note) and not event.tone and not group[0].tone and group[0].note[::2] == event.note[::2]
                 and event.note[1] not in [one.note[1] for one in group])
 
     def y(self, number, line=0):
@@ -128,6 +129,13 @@ class Columns:
         connections = self.share("connection", sessions, plan.again)
         outside = [OUTSIDE] if any(mark.lane == OUTSIDE for mark in self.marks) else []
         self.order = clients + connections + [STORE] + outside
+        self.in_column, self.begins = {}, {}    # of each column the stays, in order; of each lane their first events
+        for lane, stays in self.stays.items():
+            self.begins[lane] = [stay.first for stay in stays]
+            for stay in stays:
+                self.in_column.setdefault(stay.column, []).append((stay, lane))
+        for stays in self.in_column.values():
+            stays.sort(key=lambda one: one[0].first)
         self.measure(max([len(span.text) for span in run.spans if span.kind == "call"], default=1))
 
     def is_seen(self, first, last):
@@ -204,9 +212,8 @@ class Columns:
 
     def stay(self, lane, event):
         """The stay that a client or a connection has at an event, or None."""
-        stays = self.stays.get(lane, [])
-        at = bisect_right([stay.first for stay in stays], event) - 1
-        return stays[at] if at >= 0 and event <= stays[at].last else None
+        at = bisect_right(self.begins.get(lane, []), event) - 1
+        return self.stays[lane][at] if at >= 0 and event <= self.stays[lane][at].last else None
 
     def column_of(self, lane, event):
         if lane in (STORE, OUTSIDE):

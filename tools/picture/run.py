@@ -3,7 +3,7 @@
 from collections import deque
 from dataclasses import dataclass
 
-from . import sizes
+from . import sizes, words
 
 REPLIES = {"connect": "hello", "call": "reply", "blocked": "blocked", "refused": "refused"}
 STORE = ("store",)
@@ -16,7 +16,8 @@ class Event:
     tick: int
     note: list
     words: str = ""
-    tone: str = ""
+    tone: str = ""      # bad: an outage or an error
+    whose: str = ""     # client, connection and session
 
 
 @dataclass
@@ -57,6 +58,14 @@ class Frame:
     fate: str = "waits"     # taken, cut, crash, unread, nowhere, waits
 
 
+@dataclass(frozen=True)
+class Commit:
+    event: int
+    identifier: str
+    whose: str          # "" of a session from outside
+    changes: list       # (table, row before, row after); None where they are not known
+
+
 @dataclass
 class Connection:
     number: int
@@ -78,6 +87,9 @@ class Run:
     def __init__(self):
         self.events, self.marks, self.spans, self.frames = [], [], [], []
         self.connections, self.requests = [], []
+        self.commits, self.stored = [], None    # of each submission, for the verdict
+        self.around = []        # the connections that a crash or a drain may still touch
+        self.latest = {}        # of each client the last request that it began
         self.number = self.tick = 0     # of the event that is followed
 
     def mark(self, lane, shape, labels, tone="", detail="", line=0):
@@ -91,11 +103,25 @@ class Run:
         self.events[-1].tone = "bad"
         return text
 
+    def whose(self, client, connection):
+        """Tells whose the event is."""
+        said = [f"client {client}"] if client else []
+        if connection:
+            said.append(f"connection {connection.number}")
+            said += [f"session {words.session(connection.session)}"] if connection.session else []
+        self.events[-1].whose = ", ".join(said)
+
     def open(self, client):
         number = len(self.connections) + 1
         span = self.span("session", ("connection", number))
-        self.connections.append(Connection(number, self.number, client, span, deque(), deque()))
-        return self.connections[-1]
+        connection = Connection(number, self.number, client, span, deque(), deque())
+        self.connections.append(connection)
+        self.around.append(connection)
+        return connection
+
+    def begin(self, request):
+        self.requests.append(request)
+        self.latest[request.client] = request
 
     def send_up(self, connection, client, name, said="", content=None, settings=(), call=-1, kept=None):
         """A frame sets out to the session; one with kept draws belongs to a replay."""

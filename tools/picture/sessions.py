@@ -30,6 +30,7 @@ class Sessions:
         frame, item = self.run.take(connection.up), self.items.pop(self.run.number)
         if item[0] == "connect":
             connection.session = tuple(item[2])
+        self.run.whose(frame.client, connection)
         fits = item[0] in (frame.name, "refused", "crashed") or (item[0], frame.name) == ("blocked", "call")
         need(fits and tuple(item[2]) == connection.session, f"event {self.run.number} serves {frame.name} on "
              f"connection {connection.number}, the served item is {item}")
@@ -45,8 +46,7 @@ class Sessions:
     def tell(self, connection, frame, text):
         """The request that sent the frame is told of, where its session was lost."""
         whose = "its lost session" if connection.cut else "its session"
-        last = [request for request in self.run.requests if request.client == frame.client][-1]
-        last.tell(self.run.number, f"{whose} {text} at event {self.run.number}")
+        self.run.latest[frame.client].tell(self.run.number, "session", f"{whose} {text} at {{}}", self.run.number)
 
     def on_connect(self, connection, lane, frame, who, item):
         self.store.made(item[2])
@@ -155,7 +155,7 @@ class Sessions:
         if self.run.number in self.items:
             said = self.serve_first(self.run.connections[number - 1]) + ". "
         line, ended = self.store.crash(), 0
-        for connection in self.run.connections:
+        for connection in self.run.around:
             if connection.living:
                 ended += 1
                 self.run.end_session(connection, "crash")
@@ -163,11 +163,13 @@ class Sessions:
             if not connection.cut:
                 self.run.lose(connection.down, "crash")
             self.run.end(connection, "crash")
+        self.run.around = []
         return self.run.bad(f"CRASH of the server: {said}{words.plural(ended, 'session')} and what was on the way "
                             "are lost")
 
     def drain(self, count):
-        idle = [connection for connection in self.run.connections if connection.open and not connection.held]
+        self.run.around = [one for one in self.run.around if one.open or one.living or one.down]
+        idle = [connection for connection in self.run.around if connection.open and not connection.held]
         need(len(idle) == count, f"event {self.run.number} closes {count} idle connections of {len(idle)}")
         for connection in idle:
             self.run.send_up(connection, 0, "close")

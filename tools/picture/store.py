@@ -5,11 +5,12 @@ commits before it; a block by the first event that could have stored it; an aler
 counting those that answered calls stored; a reservation of a sequence by the first value that is seen of it.
 """
 
-from collections import Counter, defaultdict
+from collections import Counter, defaultdict, deque
 
 from . import words
 from .files import need
-from .run import STORE
+from .run import STORE, Commit
+from .tables import Tables, in_words
 
 RESERVED = 16       # values of a sequence at once
 RETENTION = 86_400  # ticks, where the document does not say
@@ -21,6 +22,8 @@ class Store:
         service = document.get("service", {})
         self.run, self.schedule = run, document.get("schedule", [])
         self.entries = {tuple(entry["ltxid"]) for entry in report["entries"]}
+        self.tables, self.final = Tables(document), report["tables"]
+        self.changes = self.tables.changes_by_entry(report["entries"])
         self.blocks = {tuple(block) for block in report["blocked"]}
         self.lines = Counter(report["alerts"])
         self.surplus = self.lines - Counter(answered_lines(self.schedule, report))
@@ -31,7 +34,7 @@ class Store:
         self.starts = {sequence["name"]: sequence["start"] for sequence in document.get("sequences", [])}
         self.reserved = {}                  # of each sequence the last value that is
         self.incarnation, self.horizon = 0 if "image" in document else 1, 0     # 0: not known yet; none
-        self.ended = {}                     # the tick at which each incarnation ended
+        self.ended = deque()                # (incarnation, the tick at which it ended), of those whose outcomes are kept
         self.down = None                    # the span of the service's being down
 
     def mark(self, lane, shape, labels, tone, detail=""):
@@ -53,7 +56,7 @@ class Store:
         """A session was made; the first one tells how often the store of an image had been opened."""
         if not self.incarnation:
             self.incarnation = session[0]
-            self.ended[session[0] - 1] = 0
+            self.ended.append((session[0] - 1, 0))
 
     # What calls and outcomes store.
 
@@ -81,7 +84,10 @@ class Store:
         if entry not in self.entries:
             return False
         self.commits[tuple(session)] += 1
-        self.mark(lane, "disk", (f"commit {words.identifier(entry)}", words.identifier(entry)), "ok")
+        commit = Commit(self.run.number, words.identifier(entry), self.run.events[-1].whose, self.changes.get(entry))
+        self.run.commits.append(commit)
+        self.mark(lane, "disk", (f"commit {commit.identifier}", commit.identifier), "ok",
+                  "\n".join([f"transaction {commit.identifier} is stored", *in_words(commit.changes)]))
         return True
 
     def alert(self, lane, line):
@@ -125,15 +131,17 @@ class Store:
         self.run.mark(STORE, "bolt", ("CRASH",), "bad", line=line)
         if self.schedule[self.run.number - 1][0] == "failover":
             self.second = False
-        self.ended[self.incarnation] = self.run.tick
+        if self.incarnation:
+            self.ended.append((self.incarnation, self.run.tick))
         self.down = self.run.span("down", STORE)
         return line
 
     def open(self, incarnation):
         self.down.last, self.incarnation = self.run.number, incarnation
         self.mark(None, "open", (f"opened, {incarnation}",), "ok")
-        past = [one for one, tick in self.ended.items() if one and self.run.tick - tick > self.retention]
-        wanted = 1 + max(past, default=-1)
+        wanted = 0
+        while self.ended and self.run.tick - self.ended[0][1] > self.retention:
+            wanted = 1 + self.ended.popleft()[0]
         if not self.horizon < wanted <= self.forgotten:
             return ""
         self.horizon = wanted
@@ -150,6 +158,7 @@ class Store:
         need(block is None, f"no event explains the block of {block}")
         line = next(iter(+self.lines), None)
         need(line is None, f"no event explains the alert line {line}")
+        self.tables.close(self.final)
 
 
 def answered_lines(schedule, report):

@@ -1,25 +1,34 @@
 """Follows a run by its document and its report, event by event, and gives what is to be drawn of it."""
 
+from contextlib import contextmanager
+
 from . import words
 from .client import Client
 from .files import FAULTS, Misfit, check_schedule, need, submissions
 from .run import OUTSIDE, STORE, Event, Run
 from .sessions import Sessions
+from .verdict import Stored
 
 
 def follow(document, report):
     """The run; a Misfit where the report is none of this document."""
-    try:
+    with fits("the report is not one of such a document"):
         walk = Walk(document, report)
-    except FAULTS as why:
-        raise Misfit(f"the report is not one of such a document ({why})") from why
-    for note in report["notes"]:
-        try:
+    for number, note in enumerate(report["notes"], 1):
+        with fits(f"note {number}, {note}, does not fit what was before it"):
             walk.step(note)
-        except FAULTS as why:
-            raise Misfit(f"note {walk.run.number}, {note}, does not fit what was before it") from why
-    walk.close()
+    with fits("the end of the report does not fit what was before it"):
+        walk.close()
     return walk.run
+
+
+@contextmanager
+def fits(otherwise):
+    """A fault of what is read becomes a Misfit."""
+    try:
+        yield
+    except FAULTS as why:
+        raise Misfit(f"{otherwise} ({why})") from why
 
 
 class Walk:
@@ -30,7 +39,7 @@ class Walk:
              f"the document has {len(clients)} clients, the report {len(report['clients'])}")
         check_schedule(self.schedule, report["notes"])
         self.sessions = Sessions(self.run, document, report)
-        self.store = self.sessions.store
+        self.store, self.run.stored = self.sessions.store, Stored(report)
         auto = document.get("service", {}).get("failover") == "auto"
         self.clients = []
         for number, (client, reports) in enumerate(zip(clients, report["clients"]), 1):

@@ -13,6 +13,7 @@ HERE = os.path.dirname(os.path.abspath(__file__))
 PICTURE = os.path.dirname(HERE)
 sys.path.insert(0, os.path.dirname(PICTURE))
 
+from picture.layout import arrange  # noqa: E402
 from picture.page import page       # noqa: E402
 from picture.walk import follow     # noqa: E402
 
@@ -39,6 +40,12 @@ def drawn(run, **window):
     """A page's text, and its elements but the script."""
     text = page(run["document"], run["report"], **window)
     return text, ElementTree.fromstring(re.sub("<!DOCTYPE html>|(?s:<script>.*</script>)", "", text))
+
+
+def arranged(run):
+    followed_run = followed(run)
+    window = len(run["document"].get("schedule", [])), 1, len(followed_run.events)
+    return followed_run, *arrange(followed_run, window)
 
 
 def words_of(root):

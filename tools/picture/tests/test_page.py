@@ -6,9 +6,9 @@ import os
 import re
 import unittest
 
-from runs import PICTURE, RUNS, SHOP, beside, drawn, followed, of_each_run, stretched, words_of
+from runs import PICTURE, RUNS, SHOP, arranged, beside, drawn, followed, of_each_run, stretched, words_of
 
-from picture.layout import PLANS, WIDE, Columns, arrange
+from picture.layout import PLANS, WIDE, Columns
 
 CHARACTER = 0.605       # a monospaced character's width, of its size
 
@@ -19,9 +19,10 @@ def texts(root):
         for text in picture.iter("text"):
             kinds = text.get("class", "").split()
             size = 12 if "words" in kinds or "number" in kinds else 11
-            width, x, y = len(text.text) * CHARACTER * size, float(text.get("x")), float(text.get("y"))
+            words = text.text or ""
+            width, x, y = len(words) * CHARACTER * size, float(text.get("x")), float(text.get("y"))
             x -= width if "end" in kinds else 0
-            yield picture, (x, y - 0.78 * size, x + width, y + 0.22 * size), text.text
+            yield picture, (x, y - 0.78 * size, x + width, y + 0.22 * size), words
 
 
 def collisions(root):
@@ -41,12 +42,6 @@ def collisions(root):
                 if other[0] < box[2] and box[0] < other[2]:
                     found.append((words, others))
     return found
-
-
-def arranged(run):
-    followed_run = followed(run)
-    window = len(run["document"].get("schedule", [])), 1, len(followed_run.events)
-    return followed_run, *arrange(followed_run, window)
 
 
 class Page(unittest.TestCase):
@@ -73,8 +68,8 @@ class Page(unittest.TestCase):
     def test_what_the_runs_say(self):
         for name, said in {
             "a cut before the call was served":
-                "lost connection 1 at event 4 (cut); the outcome of [1,1,0] said not committed; call 0 sent again; "
-                "the client saw no error",
+                "lost connection 1 at event 4 (cut); the outcome of [1,1,0] said not committed; call 0 was sent again; "
+                "the client saw no error; its commit is stored once, as [1,2,0]",
             "a cut inside the reply": "55 of 58 bytes arrive, lost: reply (done 1)",
             "a cut after the commit":
                 "[1,1,0] said committed, so call 1 was shown as committed; the client saw no error",
@@ -83,17 +78,27 @@ class Page(unittest.TestCase):
             "a commit with a statement, whose answers are lost":
                 "said committed, in the middle of a call; the client saw the ERROR incomplete",
             "a crash before the gate of the commit":
-                "1 call replayed, call 1 sent again; the client saw no error",
+                "call 0 was replayed with the same answer; call 1 was sent again; the client saw no error",
             "a crash at the gate of the commit, which stands":
                 "its session committed at event 7; the outcome of [1,1,0] said committed",
             "one replay too many": "the limit of 4 replays is reached; the last loss was by event 32",
             "three tries while the server is down":
                 "found the server down at event 6; the client saw the ERROR retries: 3 tries in a row",
-            "a setting lost behind the commit": "a setting made earlier was lost, so call 2 could not go on",
+            "a setting lost after the commit":
+                "a setting made earlier was lost, so call 2 could not go on; its commit is stored once, as [1,1,0], and "
+                "nothing after that",
+            "a cut after the whole reply":
+                "call 0 was replayed with the same answer; the client saw no error; its commit is stored once, as "
+                "[1,2,0]",
+            "a stored commit whose outcome is forgotten":
+                "the outcome of [1,1,0] is no longer kept; but its last transaction is stored, as [1,1,0]",
+            "a stored commit, and then no server for all tries":
+                "3 tries in a row to connect failed; but its last transaction is stored, as [1,1,0]",
             "the shop with eight clients": "3 lost connections and 1 crash: all hidden, no client saw an error",
-            "a wait that is too long": "no place in the pool became free from tick 0 to tick 5",
+            "a wait that is too long": "client 2 saw the ERROR poolwait: no place in the pool became free from tick 0 to tick 5",
             "an outcome that is forgotten": "outcomes of incarnations below 2 are forgotten",
-            "a request that is submitted again": "client 1, request 1 again: opens connection 3",
+            "a request that is submitted again":
+                "client 1, submission 2 of request 1, saw no error; its commit is stored once, as [1,4,0]",
         }.items():
             with self.subTest(run=name):
                 self.assertIn(said, words_of(drawn(RUNS[name])[1]))
@@ -132,8 +137,8 @@ class Page(unittest.TestCase):
     def test_a_shared_column_names_its_client(self):
         root = drawn(SHOP)[1]
         for client in range(1, 9):
-            names = [text for text in root.iter("text") if text.text == f"client {client}"]
-            self.assertEqual([name.get("class") for name in names], ["strong end"])
+            names = [text.get("class") for text in root.iter("text") if text.text == f"client {client}"]
+            self.assertEqual(names.count("strong end"), 1)
 
     def test_any_text_may_stand_in_values(self):
         text = json.dumps(RUNS["a cut before the call was served"]).replace('"a"', json.dumps("<&>\"'\x01\U0001f600"))
