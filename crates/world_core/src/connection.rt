@@ -70,7 +70,7 @@ fn push_up(alloc: Global, feed: &mut UpFeed, frames: &[Up]) -> Result<(), NoMemo
     ensures fitting { OnOk result (AreFrames spell_up FitsUp frames.now) }
 {
     for frame in frames {
-        feed.push(&encode_up(alloc, frame)?)?;
+        feed.push_vec(encode_up(alloc, frame)?)?;
     }
     Ok(())
 }
@@ -154,7 +154,7 @@ impl Connection {
             return Ok(());
         }
         if let Some(frame) = reply {
-            self.down.push(&encode_down(alloc, frame)?)?;
+            self.down.push_vec(encode_down(alloc, frame)?)?;
         }
         Ok(())
     }
