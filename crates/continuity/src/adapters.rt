@@ -1,5 +1,6 @@
-//! A source and a sink over any reader and writer. They tell no content, and count their faults.
-ghost use Rattle.std.specs.Prelude.{◌≡◌, None};
+//! A source and a sink over any reader and writer. They tell the content that these tell, and
+//! count their faults.
+ghost use Rattle.std.specs.Prelude.{◌≡◌};
 
 use continuity_run::{Failed, Sink, Source};
 use std::io::{Read, Write};
@@ -20,7 +21,7 @@ impl<R> Input<R> {
 }
 
 impl<R: Read> Source for Input<R> {
-    ghost left = { λ _. None };
+    ghost left = { λ s. R.remaining s.inner };
 
     ghost faults = { λ s. s.faults };
 
@@ -36,6 +37,7 @@ impl<R: Read> Source for Input<R> {
 }
 
 /// A writer that flushes after each write, and counts its errors and the writes that take nothing.
+/// Where a flush fails, it may hold what it took before.
 #[derive(Drop)]
 pub struct Output<W> {
     inner: W,
@@ -51,7 +53,7 @@ impl<W> Output<W> {
 }
 
 impl<W: Write> Sink for Output<W> {
-    ghost held = { λ _. None };
+    ghost held = { λ s. W.contents s.inner };
 
     ghost faults = { λ s. s.faults };
 

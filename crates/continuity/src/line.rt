@@ -1,11 +1,13 @@
 //! What is told on standard error.
-ghost use Rattle.std.specs.Prelude.{Some};
+ghost use Rattle.std.specs.Prelude.{Some, OnOk};
+ghost use Rattle.std.specs.Io.KnownBytes.{Appends};
 ghost use Rattle.continuity.specs.Lines.{line_of};
 
 use continuity_run::Status;
 use std::fmt;
+use std::io::{self, Write};
 
-/// The line that tells of an end without a report. Of a report nothing is told.
+/// The line that tells of an end without a report, with its line end. Of a report nothing is told.
 #[derive(Drop)]
 pub struct Line<'a>(pub &'a Status);
 
@@ -15,15 +17,22 @@ impl fmt::Display for Line<'_> {
     fn fmt<W: fmt::Write>(&self, f: &mut fmt::Formatter<W>) -> fmt::Result {
         match self.0 {
             Status::Done => Ok(()),
-            Status::NoMemory => f.write_str("continuity: no memory"),
-            Status::Words => f.write_str("continuity: words"),
-            Status::Read => f.write_str("continuity: read"),
-            Status::Write => f.write_str("continuity: write"),
+            Status::NoMemory => f.write_str("continuity: no memory\n"),
+            Status::Words => f.write_str("continuity: words\n"),
+            Status::Read => f.write_str("continuity: read\n"),
+            Status::Write => f.write_str("continuity: write\n"),
             Status::Document { code, path } => {
                 let code = code.number();
                 let path = path.as_str();
-                write!(f, "continuity: document: {code} at {path}")
+                writeln!(f, "continuity: document: {code} at {path}")
             }
         }
     }
+}
+
+/// Tells how a run ended, in one line or not at all.
+pub fn tell<W: Write>(to: &mut W, status: &Status) -> io::Result<()>
+    ensures { OnOk result (Appends (W.contents to.old) (W.contents to.new) (line_of status.now)) }
+{
+    to.write_fmt(Line(status))
 }

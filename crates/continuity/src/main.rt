@@ -3,38 +3,24 @@
 #![tactic(auto)]
 
 mod adapters;
+mod ending;
 mod line;
 #[cfg(test)]
 mod tests;
+mod words;
 
 use adapters::{Input, Output};
-use continuity_run::{Status, continuity};
-use line::Line;
+use continuity_run::continuity;
+use ending::{exit_status, without_words};
+use line::tell;
 use std::process::ExitCode;
 use std::rt::Env;
 use std::{env, io};
+use words::behind_name;
 
 fn words_of(rt: &(impl Env + AllocGlobal)) -> io::Result<Vec<String>> {
-    let mut words = Vec::new(rt.alloc());
-    for word in env::args(rt)?.skip(1) {
-        words.push(word)?;
-    }
-    Ok(words)
-}
-
-/// How a run ends whose words can't be had: a word that is no text is that of no command.
-fn without_words(error: &io::Error) -> Status {
-    match error.kind() {
-        io::ErrorKind::InvalidData => Status::Words,
-        _ => Status::NoMemory,
-    }
-}
-
-fn tell(rt: &impl Eprint, status: &Status) -> io::Result<()> {
-    match status {
-        Status::Done => Ok(()),
-        _ => rt.eprintln(Line(status)),
-    }
+    let args = env::args(rt)?;
+    Ok(behind_name(rt.alloc(), args)?)
 }
 
 fn main(rt: HostRuntime) -> ExitCode {
@@ -46,6 +32,6 @@ fn main(rt: HostRuntime) -> ExitCode {
         }
         Err(error) => without_words(&error),
     };
-    let _ = tell(&rt, &status);
-    ExitCode::from(status.number())
+    let _ = tell(&mut rt.stderr(), &status);
+    exit_status(&status)
 }

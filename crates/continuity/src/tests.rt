@@ -1,6 +1,7 @@
 use crate::adapters::{Input, Output};
 use crate::line::Line;
 use continuity_run::{MemSink, MemSource, Sink, Source, Status, continuity};
+use std::io::{self, Write};
 use std::test::Fail;
 
 #[test]
@@ -17,14 +18,52 @@ fn the_adapters_pass_bytes_on(rt: HostRuntime) -> Result<(), Fail> {
     Ok(())
 }
 
+/// A writer that takes all, and holds it until it is flushed, which may fail.
+#[derive(Drop)]
+struct Holding {
+    held: usize,
+    fails: bool,
+}
+
+impl Write for Holding {
+    fn write(&mut self, piece: &[u8]) -> io::Result<usize> {
+        self.held = piece.len();
+        Ok(piece.len())
+    }
+
+    fn flush(&mut self) -> io::Result<()> {
+        if self.fails {
+            return Err(io::Error::from(io::ErrorKind::StorageFull));
+        }
+        self.held = 0;
+        Ok(())
+    }
+}
+
+#[test]
+fn each_write_is_flushed_and_a_failing_flush_is_told(rt: HostRuntime) -> Result<(), Fail> {
+    let mut holding = Holding {
+        held: 0,
+        fails: false,
+    };
+    let mut sink = Output::new(&mut holding);
+    assert_eq!(rt; sink.write(b"bytes out").ok(), Some(9));
+    drop(sink);
+    assert_eq!(rt; holding.held, 0);
+    holding.fails = true;
+    let mut sink = Output::new(&mut holding);
+    assert!(rt; sink.write(b"bytes out").is_err());
+    Ok(())
+}
+
 #[test]
 fn each_end_without_a_report_has_its_line(rt: HostRuntime) -> Result<(), Fail> {
     let alloc = rt.alloc();
     for (status, line) in [
-        (Status::NoMemory, "continuity: no memory"),
-        (Status::Words, "continuity: words"),
-        (Status::Read, "continuity: read"),
-        (Status::Write, "continuity: write"),
+        (Status::NoMemory, "continuity: no memory\n"),
+        (Status::Words, "continuity: words\n"),
+        (Status::Read, "continuity: read\n"),
+        (Status::Write, "continuity: write\n"),
     ] {
         let told = Line(&status).to_string(alloc)?;
         assert_eq!(rt; told.as_str(), line);
@@ -36,6 +75,6 @@ fn each_end_without_a_report_has_its_line(rt: HostRuntime) -> Result<(), Fail> {
     let mut sink = MemSink::new(alloc, Vec::new(alloc), Vec::new(alloc), 5);
     let status = continuity(alloc, &words, &mut source, &mut sink);
     let told = Line(&status).to_string(alloc)?;
-    assert_eq!(rt; told.as_str(), "continuity: document: 2 at ");
+    assert_eq!(rt; told.as_str(), "continuity: document: 2 at \n");
     Ok(())
 }

@@ -5,7 +5,7 @@ use Rattle.std.proofs.Math.Seq.{take-add, take-append_seam}
 use Rattle.std.specs.declared.option.Option.{Option}
 use Rattle.std.specs.Io.KnownBytes.{Appends, Consumes}
 use Rattle.std.proofs.KnownBytes.{Appends-trans, Consumes-trans}
-use Rattle.continuity_run.specs.Causes.{ConsumesSome}
+use Rattle.continuity_run.specs.Causes.{AppendsFront, ConsumesSome}
 
 -- a fact that holds at any rate
 pub OnErr-always : {T E : Type 0} (r : Result T E) (P : Type 0) → P → OnErr r P
@@ -18,6 +18,9 @@ rest_of text i = grind (arith, common_steps)
 -- the front grows by the next piece
 pub Appends-more : (a b c : Option (List ℕ)) (text : List ℕ) (i n : ℕ) → Appends a b (take i text) → Appends b c (take n (take (length text - i) (drop i text))) → Appends a c (take (i + n) text)
 Appends-more a b c text i n p q = subst (Appends a c) (sym (take-add i n text)) (Appends-trans a b c _ _ p (subst (λ s. Appends b c (take n s)) (rest_of text i) q))
+
+pub AppendsFront-after : (a b c : Option (List ℕ)) (text : List ℕ) (i : ℕ) → Appends a b (take i text) → AppendsFront b c (take (length text - i) (drop i text)) → AppendsFront a c text
+AppendsFront-after a b c text i p q = (i + q.0, Appends-more a b c text i q.0 p q.1)
 
 pub front_within : (text : List ℕ) (i n : ℕ) → i ≤ length text → n ≤ length (take (length text - i) (drop i text)) → i + n ≤ length text
 front_within text i n h k = omega (arith, length-take (length text - i) (drop i text), length-drop i text)

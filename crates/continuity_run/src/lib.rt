@@ -1,6 +1,7 @@
 //! A run from the bytes in to the bytes out.
 #![tactic(auto)]
 
+pub mod laws;
 mod memory;
 mod outside;
 mod reporting;

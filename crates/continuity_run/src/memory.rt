@@ -1,8 +1,8 @@
 //! A source and a sink in memory, whose calls can be made to fail.
-ghost use Rattle.std.specs.Prelude.{◌≡◌, ◌<◌, ◌≤◌, ◌↔◌, List, ℕ, Some, [], length, drop, vec_len, IfOk, IsTrue, is_err};
+ghost use Rattle.std.specs.Prelude.{◌≡◌, ◌<◌, ◌≤◌, ◌↔◌, List, ℕ, Some, [], length, drop, vec_len, IfOk, OnOk, IsTrue, is_err};
 ghost use Rattle.std.specs.Io.{ReadsAtMost, WritesAtMost};
 ghost use Rattle.std.specs.Io.KnownBytes.{ReadConsumes, WriteAppends};
-ghost use Rattle.continuity_run.specs.Causes.{HasCause, NothingHasCause};
+ghost use Rattle.continuity_run.specs.Causes.{AddsFront, HasCause, NothingHasCause};
 
 use crate::outside::{Failed, Sink, Source};
 use std::alloc::Global;
@@ -56,6 +56,7 @@ impl Source for MemSource {
         ensures bound { ReadsAtMost result into.new }
         ensures bytes { ReadConsumes (Some (left_in self.old)) (Some (left_in self.new)) result into.new }
         ensures cause { HasCause (read_faults self.old) (read_faults self.new) result }
+        ensures kept { OnOk result (read_faults self.new ≡ read_faults self.old) }
         ensures counted { reading_of self.new ≡ read_once (reading_of self.old) }
         ensures fails { IsTrue (is_err result) ↔ FailsNextRead (reading_of self.old) }
         ensures count { IfOk result (λ n. n ≡ next_read (reading_of self.old) (left_in self.old) (length into.old)) }
@@ -124,9 +125,10 @@ impl Sink for MemSink {
     /// to take nothing, or as many bytes as a call may take.
     fn write(&mut self, piece: &[u8]) -> Result<usize, Failed>
         ensures bound { WritesAtMost result piece.now }
-        ensures bytes { WriteAppends (Some (held_in self.old)) (Some (held_in self.new)) result piece.now }
+        ensures bytes { AddsFront (Some (held_in self.old)) (Some (held_in self.new)) result piece.now }
         ensures cause { HasCause (write_faults self.old) (write_faults self.new) result }
         ensures nothing { NothingHasCause (write_faults self.old) (write_faults self.new) result piece.now }
+        ensures exactly { WriteAppends (Some (held_in self.old)) (Some (held_in self.new)) result piece.now }
         ensures counted { writing_of self.new ≡ written_once (writing_of self.old) }
         ensures fails { FailsNextWrite (writing_of self.old) → IsTrue (is_err result) }
         ensures count { IfOk result (IsNextWrite (writing_of self.old) piece.now) }

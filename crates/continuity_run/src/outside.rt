@@ -1,9 +1,9 @@
 //! Where bytes come from and where they go. A source and a sink count their faults.
-ghost use Rattle.std.specs.Prelude.{◌<◌, ℕ, List, length};
+ghost use Rattle.std.specs.Prelude.{◌≡◌, ◌<◌, ℕ, List, OnOk, length};
 ghost use Rattle.std.specs.declared.option.Option.{Option};
 ghost use Rattle.std.specs.Io.{ReadsAtMost, WritesAtMost};
-ghost use Rattle.std.specs.Io.KnownBytes.{ReadConsumes, WriteAppends};
-ghost use Rattle.continuity_run.specs.Causes.{HasCause, NothingHasCause};
+ghost use Rattle.std.specs.Io.KnownBytes.{ReadConsumes};
+ghost use Rattle.continuity_run.specs.Causes.{AddsFront, HasCause, NothingHasCause};
 
 use thiserror::Error;
 
@@ -24,7 +24,8 @@ pub trait Source {
         requires { 0 < length into.old }
         ensures bound { ReadsAtMost result into.new }
         ensures bytes { ReadConsumes (left self.old) (left self.new) result into.new }
-        ensures cause { HasCause (faults self.old) (faults self.new) result };
+        ensures cause { HasCause (faults self.old) (faults self.new) result }
+        ensures kept { OnOk result (faults self.new ≡ faults self.old) };
 }
 
 /// Bytes that go out. `held` are the bytes that the sink holds, where it tells them, and `faults`
@@ -34,10 +35,11 @@ pub trait Sink {
 
     ghost faults: { Self → ℕ };
 
-    /// Writes a front of the piece, and answers its length.
+    /// Writes a front of the piece, and answers its length. Where it fails it may hold a front all
+    /// the same.
     fn write(&mut self, piece: &[u8]) -> Result<usize, Failed>
         ensures bound { WritesAtMost result piece.now }
-        ensures bytes { WriteAppends (held self.old) (held self.new) result piece.now }
+        ensures bytes { AddsFront (held self.old) (held self.new) result piece.now }
         ensures cause { HasCause (faults self.old) (faults self.new) result }
         ensures nothing { NothingHasCause (faults self.old) (faults self.new) result piece.now };
 }

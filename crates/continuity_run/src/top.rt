@@ -1,10 +1,9 @@
 //! The top call: from the words and the bytes in to the bytes out.
-ghost use Rattle.std.specs.Prelude.{◌≡◌, ◌⊎◌, false, Err, IfOk, IfErr, IsErrOf, IsTrue, OnErr};
-ghost use Rattle.json_form.specs.Faults.{Fails, Gives};
+ghost use Rattle.std.specs.Prelude.{◌≡◌, ◌⊎◌, false, Err, IfOk, IfErr, IsErrOf, OnOk};
 ghost use Rattle.continuity_run.specs.Causes.{Rose};
 ghost use Rattle.doc_reader.specs.Keeping.{IsDocument};
 ghost use Rattle.doc_reader.specs.Documents.{document_at};
-ghost use Rattle.continuity_run.specs.Clauses.{is_command as is_command_def, IsAnswer, IsReported, IsDone, IsCut, IsRead, IsRefused, Writes, WritesFront, IfDocument, IsBefore, IsReply};
+ghost use Rattle.continuity_run.specs.Clauses.{is_command as is_command_def, ended_as, IsReported, IsDone, IsCut, IsRead, IsRefused, IsWritten, Writes, WritesFront, IfDocument, IsBefore, IsReply, UnlessRead};
 
 use crate::outside::{Sink, Source};
 use crate::run::run_document;
@@ -52,13 +51,18 @@ impl Status {
     }
 }
 
-/// The text of the report of the document that the bytes are. The bytes are given up once they are read.
-fn answer(alloc: Global, bytes: Vec<u8>) -> Result<Vec<u8>, DocFault>
-    ensures answered { IfOk result (λ text. IsAnswer bytes.items text.items) }
-    ensures refused { IfErr result (λ e. Fails e (document_at bytes.items)) }
+/// The text of the report of the document that was read, or why none was. For the report there may
+/// be no memory.
+fn answer(alloc: Global, read: Result<Document, DocFault>) -> Result<Vec<u8>, DocFault>
+    requires document { IfOk read IsDocument }
+    ensures reported { IfOk read (λ document. IfOk result (λ text. IsReported document text.items)) }
+    ensures lacked { IfOk read (λ _. IfErr result (λ fault. fault ≡ DocFault.NoMemory)) }
+    ensures refused { IfErr read (λ fault. result ≡ Err fault) }
 {
-    let document = read_document(alloc, bytes.as_slice())?;
-    drop(bytes);
+    let document = match read {
+        Ok(document) => document,
+        Err(fault) => return Err(fault),
+    };
     match report_text(alloc, document) {
         Ok(text) => Ok(text),
         Err(NoMemory) => Err(DocFault::NoMemory),
@@ -76,21 +80,20 @@ fn report_text(alloc: Global, document: Document) -> Result<Vec<u8>, NoMemory>
 
 fn read_input<S: Source>(alloc: Global, source: &mut S) -> Result<Vec<u8>, ReadError>
     ensures read { IfOk result (λ bytes. IsRead (S.left source.old) (S.left source.new) bytes.items) }
+    ensures kept { OnOk result (S.faults source.new ≡ S.faults source.old) }
+    ensures lacked { IsErrOf result ReadError.NoMemory → S.faults source.new ≡ S.faults source.old }
     ensures failed { IsErrOf result ReadError.Failed → Rose (S.faults source.old) (S.faults source.new) }
 {
     read_to_limit(alloc, source, DOCUMENT_LIMIT)
 }
 
-/// Judges the bytes, and writes the report.
-fn respond<K: Sink>(alloc: Global, bytes: Vec<u8>, sink: &mut K) -> Status
-    ensures done { result ≡ Status.Done → Writes bytes.items (K.held sink.old) (K.held sink.new) }
-    ensures cut { result ≡ Status.Write → WritesFront bytes.items (K.held sink.old) (K.held sink.new) }
-    ensures write { result ≡ Status.Write → Rose (K.faults sink.old) (K.faults sink.new) }
-    ensures document { IfDocument result (λ fault. document_at bytes.items ≡ Err fault) }
+/// Writes the text, or tells why there is none.
+fn write_answer<K: Sink>(answer: Result<Vec<u8>, DocFault>, sink: &mut K) -> Status
+    ensures wrote { IfOk answer (λ text. IsWritten text.items result (K.held sink.old) (K.held sink.new) (K.faults sink.old) (K.faults sink.new)) }
+    ensures told { IfErr answer (λ fault. result ≡ ended_as fault) }
     ensures untouched { IsBefore result → sink.new ≡ sink.old }
-    ensures others { IsReply result }
 {
-    let text = match answer(alloc, bytes) {
+    let text = match answer {
         Ok(text) => text,
         Err(DocFault::NoMemory) => return Status::NoMemory,
         Err(DocFault::At { code, path }) => return Status::Document { code, path },
@@ -99,6 +102,20 @@ fn respond<K: Sink>(alloc: Global, bytes: Vec<u8>, sink: &mut K) -> Status
         Ok(()) => Status::Done,
         Err(_) => Status::Write,
     }
+}
+
+/// Judges the bytes, which are given up once they are read, and writes the report.
+fn respond<K: Sink>(alloc: Global, bytes: Vec<u8>, sink: &mut K) -> Status
+    ensures done { result ≡ Status.Done → Writes bytes.items (K.held sink.old) (K.held sink.new) }
+    ensures cut { result ≡ Status.Write → WritesFront bytes.items (K.held sink.old) (K.held sink.new) }
+    ensures write { result ≡ Status.Write → Rose (K.faults sink.old) (K.faults sink.new) }
+    ensures document { IfDocument result (λ fault. document_at bytes.items ≡ Err fault) }
+    ensures untouched { IsBefore result → sink.new ≡ sink.old }
+    ensures others { IsReply result }
+{
+    let read = read_document(alloc, bytes.as_slice());
+    drop(bytes);
+    write_answer(answer(alloc, read), sink)
 }
 
 /// Carries out a command. `run` reads a document from the source, runs its clients' scripts under its schedule, and
@@ -116,8 +133,9 @@ pub fn continuity<S: Source, K: Sink>(
     ensures commands { is_command_def words.now ≡ false → (result ≡ Status.Words) ⊎ (result ≡ Status.NoMemory) }
     ensures unread { is_command_def words.now ≡ false → source.new ≡ source.old }
 
-    // The source or the sink failed.
+    // The source or the sink failed, and a source that failed is told of, not hidden as want of memory.
     ensures read { result ≡ Status.Read → Rose (S.faults source.old) (S.faults source.new) }
+    ensures kept { UnlessRead result (S.faults source.new ≡ S.faults source.old) }
     ensures write { result ≡ Status.Write → Rose (K.faults sink.old) (K.faults sink.new) }
 
     // The bytes are no document, and this is why.

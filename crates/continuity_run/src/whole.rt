@@ -47,7 +47,8 @@ fn read_piece<S: Source>(
     ensures piece { IfOk result (λ n. IsPiece (S.left source.old) (S.left source.new) out.old.items out.new.items n) }
     ensures bound { IfOk result (λ n. n ≤ length into.old) }
     ensures err { OnErr result (ConsumesSome (S.left source.old) (S.left source.new)) }
-    ensures later { S.faults source.old ≤ S.faults source.new }
+    ensures kept { OnOk result (S.faults source.new ≡ S.faults source.old) }
+    ensures lacked { IsErrOf result ReadError.NoMemory → S.faults source.new ≡ S.faults source.old }
     ensures failed { IsErrOf result ReadError.Failed → Rose (S.faults source.old) (S.faults source.new) }
 {
     let count = source.read(into)?;
@@ -64,7 +65,8 @@ pub fn read_to_limit<S: Source>(
     requires { limit + 1 < 2 ^ 63 }
     ensures read { IfOk result (λ v. IsWhole (S.left source.old) (S.left source.new) limit v.items) }
     ensures err { OnErr result (ConsumesSome (S.left source.old) (S.left source.new)) }
-    ensures later { S.faults source.old ≤ S.faults source.new }
+    ensures kept { OnOk result (S.faults source.new ≡ S.faults source.old) }
+    ensures lacked { IsErrOf result ReadError.NoMemory → S.faults source.new ≡ S.faults source.old }
     ensures failed { IsErrOf result ReadError.Failed → Rose (S.faults source.old) (S.faults source.new) }
 {
     let mut out = Vec::new(alloc);
