@@ -1,8 +1,8 @@
 -- Faults and stops: what a call's word on its disk says of what is seen of a service.
-use Rattle.std.proofs.Common.{◌≡◌, ◌≢◌, ◌∙◌, ◌+◌, ◌-◌, ◌<◌, ◌≤◌, ◌^◌, ℕ, refl, arith}
+use Rattle.std.proofs.Common.{◌≡◌, ◌≢◌, ◌∙◌, ◌+◌, ◌-◌, ◌<◌, ◌≤◌, ◌^◌, ℕ, refl, sym, arith}
 use Rattle.std.proofs.Math.Nat.{min-eq_left, min-le_left}
-use Rattle.std.specs.Prelude.{Option, Some, None}
-use Rattle.disk_model.specs.Disk.{DiskState, OnlyReads, Lowered, LoweredByLess, with_fault}
+use Rattle.std.specs.Prelude.{Option, Some, None, Result, Err, IsErrOf}
+use Rattle.disk_model.specs.Disk.{Caused, DiskState, OnlyReads, Lowered, LoweredByLess, with_fault}
 
 -- Where a count leaves room, each fault is one more.
 pub one_more : (old new calls : ℕ) → old ≤ 2 ^ 62 + calls → calls < 2 ^ 48 → new ≡ with_fault old → new ≡ old + 1
@@ -44,3 +44,8 @@ read_same fault old new reads none = λ i. record {
   quiet = reads.cause.still_quiet i;
   pick = reads.cause.same_pick i;
 }
+
+-- a call that found no memory counted no fault
+pub none_counted : {A E : Type 0} (told lack stopped : E) (old new : DiskState) → told ≡ lack → lack ≢ stopped → Caused (IsErrOf {T = A} {E = E} (Err told) stopped) old new → new.faults ≡ old.faults
+none_counted {A} {E} told lack stopped old new is_lack other cause =
+    cause.uncounted (λ answers. other (sym is_lack ∙ (let same : ◌≡◌ {A = Result A E} (Err told) (Err stopped) = answers in cc)))

@@ -46,6 +46,7 @@ impl<D: StopDisk> OneService<D> {
         ensures told { IfOk result (λ journal. journal_of (bytes_in self.new) ≡ Ok journal) }
         ensures unwritten { NotMemory result (bytes_in self.new ≡ bytes_in self.old) }
         ensures looked { Ends result (λ journal. Goes (SeesIn self.old) (SeesIn self.new) Looked) (Goes (SeesIn self.old) (SeesIn self.new) StoppedLook) }
+        ensures uncounted { IsErrOf result ServeFault.NoMemory → self.new.disk.faults ≡ self.old.disk.faults }
     {
         self.notes.calls += 1;
         match Log::read(alloc, &mut self.disk) {
@@ -71,6 +72,7 @@ impl<D: StopDisk> OneService<D> {
         ensures told { IfOk result (λ image. image.items ≡ bytes_in self.new) }
         ensures unwritten { NotMemory result (bytes_in self.new ≡ bytes_in self.old) }
         ensures looked { Ends result (λ image. Goes (SeesIn self.old) (SeesIn self.new) Looked) (Goes (SeesIn self.old) (SeesIn self.new) StoppedLook) }
+        ensures uncounted { IsErrOf result ServeFault.NoMemory → self.new.disk.faults ≡ self.old.disk.faults }
     {
         self.notes.calls += 1;
         match bytes_of(alloc, &mut self.disk) {

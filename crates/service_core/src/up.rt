@@ -1,5 +1,5 @@
 //! Openings of a service.
-ghost use Rattle.std.specs.Prelude.{◌≡◌, ◌<◌, ◌^◌, false, true};
+ghost use Rattle.std.specs.Prelude.{◌≡◌, ◌<◌, ◌^◌, IsErrOf, false, true};
 ghost use Rattle.server_model.specs.ServiceCalls.{MayForget, Opened, StoppedOpening};
 ghost use Rattle.service_calls.specs.Answers.{Ends, NotMemory};
 ghost use Rattle.service_calls.specs.Kept.{Goes, HaveOneBase};
@@ -22,6 +22,7 @@ impl<D: StopDisk> OneService<D> {
         requires may { MayForget (state_in self.old) horizon }
         ensures opened { Ends result (λ done. Goes (SeesIn self.old) (SeesIn self.new) (λ old new. Opened old horizon new)) (Goes (SeesIn self.old) (SeesIn self.new) (λ old new. StoppedOpening old horizon (LeavesIn self.new) new)) }
         ensures base { NotMemory result (HaveOneBase (bytes_in self.old) (bytes_in self.new)) }
+        ensures uncounted { IsErrOf result ServeFault.NoMemory → self.new.disk.faults ≡ self.old.disk.faults }
     {
         keeps_journal();
         raises_horizon();

@@ -1,5 +1,7 @@
-use Rattle.std.proofs.Common.{◌∙◌, ◌<◌, ◌^◌, sym, ap, subst}
+use Rattle.std.proofs.Common.{◌≡◌, ◌∙◌, ◌<◌, ◌^◌, sym, ap, subst}
 use Rattle.std.specs.Prelude.{Err}
+use Rattle.redo_store.specs.declared.fault.RedoFault.{RedoFault}
+use Rattle.redo_store.specs.declared.fault.RedoFault.TheVariants as log_fault
 use Rattle.server_model.specs.ServiceCalls.{Looked, StoppedLook}
 use Rattle.service_calls.specs.Kept.{Goes}
 use Rattle.service_core.specs.Held.{Held}
@@ -7,6 +9,7 @@ use Rattle.service_core.specs.Seeing.{SeesIn, called}
 use Rattle.service_core.specs.Sound.{IsDown}
 use Rattle.service_core.specs.Within.{Within}
 use Rattle.service_core.proofs.Read.{answered_same, looked_from, looks, looks_soundly, is_lost, lost_from, loses_soundly, loses}
+use Rattle.service_core.proofs.Faulty.{none_counted}
 use Rattle.service_core.proofs.one.OneService.read_journal.Goals as goal
 
 pub invariant_of-self : goal.invariant_of-self
@@ -39,3 +42,9 @@ returns-in-Err-Stopped-clause-looked g c =
     let few = subst (λ n. n < 2 ^ 48) (sym (ap (λ (w : Within). w.notes.calls) c.self.view_is)) c.requires.few in
     subst (λ (w : Within). Goes (SeesIn w) (SeesIn (record (lost_from old new) { held = c.clear.new.self })) StoppedLook) {x = old} c.self.view_is
     (subst (λ (h : Held). Goes (SeesIn old) (SeesIn (record (lost_from old new) { held = h })) StoppedLook) (sym c.clear.ensures) (loses old new live few (c.self.invariant live) lost))
+
+pub returns-in-Err-NoMemory-clause-uncounted : goal.returns-in-Err-NoMemory-clause-uncounted
+returns-in-Err-NoMemory-clause-uncounted g c lacked =
+    let old : Within = record { grants = c.self.inside.grants; disk = g.D.Disk.state c.self.inside.disk; core = c.self.inside.core; held = c.self.inside.held; notes = c.self.inside.notes } in
+    let other = λ (same : ◌≡◌ {A = RedoFault} log_fault.NoMemory log_fault.Stopped). absurd (cc) in
+    none_counted _ log_fault.NoMemory log_fault.Stopped old.disk (g.D.Disk.state c.read.new.disk) c.in-Err-NoMemory.field-0-is other c.in-Err-NoMemory.ensures.only_reads.cause ∙ ap (λ (w : Within). w.disk.faults) c.self.view_is

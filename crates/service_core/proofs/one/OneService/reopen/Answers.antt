@@ -1,5 +1,7 @@
 use Rattle.std.proofs.Common.{◌≡◌, ◌∙◌, ◌<◌, ◌^◌, true, false, sym, ap, subst}
 use Rattle.std.specs.Prelude.{Err, is_some}
+use Rattle.server_model.specs.declared.fault.ServeFault.{ServeFault}
+use Rattle.server_model.specs.declared.fault.ServeFault.TheVariants as fault
 use Rattle.server_model.specs.ServiceCalls.{MayForget, Opened, StoppedOpening}
 use Rattle.service_calls.specs.Kept.{Goes, HaveOneBase}
 use Rattle.service_core.specs.Seeing.{LeavesIn, SeesIn, bytes_in, state_in}
@@ -7,6 +9,7 @@ use Rattle.service_core.specs.Opening.{stop_of}
 use Rattle.service_core.specs.Within.{Within}
 use Rattle.service_core.proofs.Opened.{is_opening, opened_from, opens_soundly, opens}
 use Rattle.service_core.proofs.Halted.{is_halted, halted_from, halts_soundly, halts_on_base, halts}
+use Rattle.service_core.proofs.Faulty.{none_counted}
 use Rattle.service_core.proofs.one.OneService.reopen.Goals as goal
 
 pub invariant_of-self : goal.invariant_of-self
@@ -66,3 +69,9 @@ returns-in-Err-Stopped-clause-base g c =
     let settled : old.notes.is_settled ≡ true = ap (λ (w : Within). w.notes.is_settled) c.self.view_is ∙ c.requires.down.1 in
     subst (λ (w : Within). HaveOneBase (bytes_in w) new.now.seen) {x = old} c.self.view_is
     (halts_on_base old new c.left-self-inside.result c.args.horizon (stop_of c.args.horizon old.disk.now.seen) c.raises_horizon.ensures off settled (c.self.invariant live) halted)
+
+pub returns-in-Err-NoMemory-clause-uncounted : goal.returns-in-Err-NoMemory-clause-uncounted
+returns-in-Err-NoMemory-clause-uncounted g c lacked =
+    let old : Within = record { grants = c.self.inside.grants; disk = g.D.Disk.state c.self.inside.disk; core = c.self.inside.core; held = c.self.inside.held; notes = c.self.inside.notes } in
+    let other = λ (same : ◌≡◌ {A = ServeFault} fault.NoMemory fault.Stopped). absurd (cc) in
+    none_counted _ fault.NoMemory fault.Stopped old.disk (g.D.Disk.state c.open.new.disk) c.in-Err-NoMemory.field-0-is other c.in-Err-NoMemory.ensures.cause ∙ ap (λ (w : Within). w.disk.faults) c.self.view_is
