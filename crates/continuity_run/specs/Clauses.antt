@@ -6,17 +6,13 @@ use Rattle.std.specs.Io.KnownBytes.{Appends, Consumes}
 use Rattle.serde_json.specs.Read.{read}
 use Rattle.serde_json.specs.Written.{compact_text}
 use Rattle.json_form.specs.Faults.{Fault}
-use Rattle.json_form.specs.declared.fault.DocFault.{DocFault}
-use Rattle.json_form.specs.declared.fault.DocFault.TheVariants as fault
 use Rattle.outage_schedule.specs.declared.document.Document.{Document}
 use Rattle.outage_schedule.specs.declared.report.Report.{Report}
 use Rattle.continuity_run.specs.declared.top.Status.{Status}
 use Rattle.continuity_run.specs.declared.top.Status.TheVariants as status
-use Rattle.continuity_run.specs.Causes.{AppendsFront, Rose}
+use Rattle.continuity_run.specs.Causes.{AppendsFront}
 use Rattle.doc_reader.specs.Documents.{document_at, limit}
 use Rattle.continuity_run.specs.Headline.{Headline}
-use Rattle.report_text.specs.Laws.{shown_report}
-use Rattle.report_text.specs.Octets.{ReportOfBytes}
 use Rattle.report_text.specs.Report.{report_value}
 
 -- the one command
@@ -31,15 +27,6 @@ pub record IsReported (document : Document) (text : List ℕ) : Type 0 where
   pub written : text ≡ compact_text (report_value report)
   pub reads : read text ≡ Some (report_value report)
   pub utf8 : IsUtf8 text
-
--- A text is that of one JSON value, of whichever documents it is the report.
-abbrev pub TellsOneValue : Type 0
-TellsOneValue = (document other : Document) (text : List ℕ) (first : IsReported document text) (second : IsReported other text) → report_value first.report ≡ report_value second.report
-
--- So it is that of one report, but for its entries' writes, which are not shown: of all reports whose octets, digests and image are bytes.
-abbrev pub TellsOneReport : Type 0
-TellsOneReport = (document other : Document) (text : List ℕ) (first : IsReported document text) (second : IsReported other text)
-    → ReportOfBytes first.report → ReportOfBytes second.report → shown_report first.report ≡ shown_report second.report
 
 -- The bytes are a document, and the text is that of its report.
 pub record IsAnswer (bytes text : List ℕ) : Type 0 where
@@ -84,17 +71,6 @@ Writes bytes held_before held_after = (text : List ℕ) × (IsAnswer bytes text 
 
 abbrev pub WritesFront : List ℕ → Option (List ℕ) → Option (List ℕ) → Type 0
 WritesFront bytes held_before held_after = (text : List ℕ) × (IsAnswer bytes text × AppendsFront held_before held_after text)
-
--- the end of a run whose document was not read
-abbrev pub ended_as : DocFault → Status
-ended_as fault.NoMemory = status.NoMemory
-ended_as (fault.At code path) = status.Document code path
-
--- the end of a run whose report has this text: the sink took it, or failed and holds a front of it
-abbrev pub IsWritten : List ℕ → Status → Option (List ℕ) → Option (List ℕ) → ℕ → ℕ → Type 0
-IsWritten text status.Done held_before held_after before now = Appends held_before held_after text
-IsWritten text status.Write held_before held_after before now = AppendsFront held_before held_after text × Rose before now
-IsWritten text _ held_before held_after before now = ⊥
 
 -- a fact on the fault, where there is one
 abbrev pub IfDocument : Status → (Fault → Type 0) → Type 0

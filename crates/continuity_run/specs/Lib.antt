@@ -1,6 +1,7 @@
 pub mod Causes
 pub mod Clauses
 pub mod Headline
+pub mod InnerEnds
 pub mod InnerWords
 pub mod Memory
 pub mod Reading
@@ -9,3 +10,4 @@ pub mod Statuses
 pub mod Stores
 pub mod Runs
 pub mod RunLaws
+pub mod Told

@@ -1,5 +1,5 @@
 //! What the text of a report tells. The function does nothing, and its contract is the law.
-ghost use Rattle.continuity_run.specs.Clauses.{TellsOneReport, TellsOneValue};
+ghost use Rattle.continuity_run.specs.Told.{TellsOneReport, TellsOneValue};
 
 use report_text::laws::names_one_report;
 

@@ -3,7 +3,8 @@ ghost use Rattle.std.specs.Prelude.{◌≡◌, ◌⊎◌, false, Err, IfOk, IfEr
 ghost use Rattle.continuity_run.specs.Causes.{Rose};
 ghost use Rattle.doc_reader.specs.Keeping.{IsDocument};
 ghost use Rattle.doc_reader.specs.Documents.{document_at};
-ghost use Rattle.continuity_run.specs.Clauses.{is_command as is_command_def, ended_as, IsReported, IsDone, IsCut, IsRead, IsRefused, IsWritten, Writes, WritesFront, IfDocument, IsBefore, IsReply, UnlessRead};
+ghost use Rattle.continuity_run.specs.Clauses.{is_command as is_command_def, IsReported, IsDone, IsCut, IsRead, IsRefused, Writes, WritesFront, IfDocument, IsBefore, IsReply, UnlessRead};
+ghost use Rattle.continuity_run.specs.InnerEnds.{ended_as, IsWritten};
 
 use crate::outside::{Sink, Source};
 use crate::run::run_document;
