@@ -7,8 +7,9 @@ from .files import DOCUMENT, REPORT, Misfit, read
 from .page import page
 
 USAGE = "tools/timeline DOCUMENT REPORT [--from EVENT] [--to EVENT] > run.html"
-ABOUT = """Draws one run of continuity: DOCUMENT is what the program read, REPORT what `continuity run` printed. A long run
-is drawn from its first event, or from that of --from, as far as a page of 3 MB goes; --to asks for more or less.
+ABOUT = """Draws one run of continuity: DOCUMENT is what the program read, REPORT what `continuity run` printed.
+A long run is drawn from its first event, or from that of --from, as far as a page of 3 MB goes; --to asks for
+more or less.
 Status 0; 1 where the files cannot be read or do not fit each other; 2 where the words are wrong."""
 
 

@@ -94,8 +94,8 @@ class Rows:
 
     def joins(self, group, event):
         """Such steps of different clients or connections, without an error."""
-        return (len(group) < MANY and folded(event.note) and not event.tone and not group[0].tone and group[0].note[::2] == event.note[::2]
-                and event.note[1] not in [one.note[1] for one in group])
+        return (len(group) < MANY and folded(event.note) and not event.tone and not group[0].tone
+                and group[0].note[::2] == event.note[::2] and event.note[1] not in [one.note[1] for one in group])
 
     def y(self, number, line=0):
         """The middle of a line of an event; past the window, a place just outside of the picture."""

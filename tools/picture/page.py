@@ -58,8 +58,10 @@ def part(name):
 
 def explained(seen, whole):
     """The legend, where there is a mark to explain. It is folded above a window, whose rows should be in sight."""
+    if not seen:
+        return ""
     unfolded = ' open="open"' if whole else ""
-    return f'<details{unfolded}><summary>Legend</summary><ul class="legend">{legend(seen)}</ul></details>' if seen else ""
+    return f'<details{unfolded}><summary>Legend</summary><ul class="legend">{legend(seen)}</ul></details>'
 
 
 def stories(run, met, rows):
@@ -99,7 +101,7 @@ def commits(run, rows):
     if not seen:
         return ""
     body = "".join(row for commit in seen for row in commit_rows(commit, rows))
-    return ("<details open=\"open\"><summary>The tables before and after each commit: the rows that it changed</summary>"
+    return ('<details open="open"><summary>The tables before and after each commit: the rows that it changed</summary>'
             "<table><thead><tr><th>event</th><th>transaction</th><th>by</th><th>table</th><th>before</th><th>after</th>"
             f"</tr></thead><tbody>{body}</tbody></table></details>")
 

@@ -34,7 +34,7 @@ class Store:
         self.starts = {sequence["name"]: sequence["start"] for sequence in document.get("sequences", [])}
         self.reserved = {}                  # of each sequence the last value that is
         self.incarnation, self.horizon = 0 if "image" in document else 1, 0     # 0: not known yet; none
-        self.ended = deque()                # (incarnation, the tick at which it ended), of those whose outcomes are kept
+        self.ended = deque()    # (incarnation, the tick at which it ended) of those whose outcomes are kept
         self.down = None                    # the span of the service's being down
 
     def mark(self, lane, shape, labels, tone, detail=""):

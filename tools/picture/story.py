@@ -40,8 +40,8 @@ def outages(run):
 
 def is_kept(request, stored):
     """Whether the transaction is stored whose loss led to the request's error."""
-    failed = request.report["failed"]
-    return bool(stored.transactions(request.report)[-1].stored) or failed[0] == "disabled" and failed[1][0] == "statelost"
+    kind, why, *_ = request.report["failed"]
+    return bool(stored.transactions(request.report)[-1].stored) or kind == "disabled" and why[0] == "statelost"
 
 
 def though(kept, failed):

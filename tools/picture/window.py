@@ -6,8 +6,8 @@ from .files import need
 from .overview import bar
 
 MOST = 4000     # rows, marks and frames of a page that is given no last event: about 2 MB
-ASK = ("Draw others by <code>--from EVENT --to EVENT</code>; without <code>--to</code>, as many are drawn as make a page "
-       "below 3 MB. The bar is the whole run: above outages and errors, below commits.")
+ASK = ("Draw others by <code>--from EVENT --to EVENT</code>; without <code>--to</code>, as many are drawn as make a "
+       "page below 3 MB. The bar is the whole run: above outages and errors, below commits.")
 
 
 def last_drawn(run, first, last):

@@ -85,8 +85,8 @@ class Page(unittest.TestCase):
             "three tries while the server is down":
                 "found the server down at event 6; the client saw the ERROR retries: 3 tries in a row",
             "a setting lost after the commit":
-                "a setting made earlier was lost, so call 2 could not go on; its commit is stored once, as [1,1,0], and "
-                "nothing after that",
+                "a setting made earlier was lost, so call 2 could not go on; its commit is stored once, as [1,1,0], "
+                "and nothing after that",
             "a cut after the whole reply":
                 "call 0 was replayed with the same answer; the client saw no error; its commit is stored once, as "
                 "[1,2,0]",
@@ -95,7 +95,8 @@ class Page(unittest.TestCase):
             "a stored commit, and then no server for all tries":
                 "3 tries in a row to connect failed; but its last transaction is stored, as [1,1,0]",
             "the shop with eight clients": "3 lost connections and 1 crash: all hidden, no client saw an error",
-            "a wait that is too long": "client 2 saw the ERROR poolwait: no place in the pool became free from tick 0 to tick 5",
+            "a wait that is too long":
+                "client 2 saw the ERROR poolwait: no place in the pool became free from tick 0 to tick 5",
             "an outcome that is forgotten": "outcomes of incarnations below 2 are forgotten",
             "a request that is submitted again":
                 "client 1, submission 2 of request 1, saw no error; its commit is stored once, as [1,4,0]",

@@ -28,8 +28,8 @@ class Story(unittest.TestCase):
     def test_many_losses_are_told_in_one(self):
         run = followed(RUNS["one replay too many"])
         said = story(run.requests[0], False, run.stored)
-        self.assertRegex(said, r"^client 1 lost its connection 5 times \(at event \d+(, event \d+){4}\); 5 outcomes were "
-                               r"asked; .*the client saw the ERROR replays: .*; nothing of it is stored$")
+        self.assertRegex(said, r"^client 1 lost its connection 5 times \(at event \d+(, event \d+){4}\); 5 outcomes "
+                               r"were asked; .*the client saw the ERROR replays: .*; nothing of it is stored$")
         self.assertNotIn("lost connection ", said)
 
     def test_very_many_losses_name_the_first_ones(self):

@@ -3,7 +3,7 @@
 import copy
 import unittest
 
-from runs import RUNS, SHOP, drawn, followed, of_each_run, words_of
+from runs import SHOP, drawn, followed, of_each_run, words_of
 
 from picture.files import Misfit
 from picture.tables import Tables

@@ -4,7 +4,7 @@ import os
 import re
 import unittest
 
-from runs import PICTURE, RUNS, SHOP, arranged, drawn, followed, of_each_run, stretched, words_of
+from runs import PICTURE, RUNS, SHOP, arranged, drawn, followed, of_each_run, stretched
 
 from picture.drawing import Drawing
 from picture.layout import PLANS, Columns
