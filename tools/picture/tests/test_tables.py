@@ -38,17 +38,20 @@ class Rows(unittest.TestCase):
         tables = Tables({"tables": [{"name": "t", "columns": [["id", "int"], ["n", "int"], ["b", "bytes"]],
                                      "rows": [[1, 5, {"hex": "00"}], [2, 6, {"hex": "01"}]]}]})
         calls = [
-            ([["update", "t", 1, "n", "plus", -2], ["update", "t", 9, "n", "to", 1], ["get", "t", 1]], [{"done": 1}], []),
+            ([["update", "t", 1, "n", "plus", -2], ["update", "t", 9, "n", "to", 1], ["get", "t", 1]],
+             [{"done": 1}], []),
             ([["delete", "t", 2], ["insert", "t", [3, 1, {"hex": "02"}]]], [{"refused": 4}], []),
             ([["set", "top", 8]], [{"done": 0}], []),
             ([["insert", "t", [{"seq": "s"}, {"var": "top"}, {"draw": "id"}]]], [{"done": 1}],
              [["seq", "s", 17], ["id", "0aff"]]),
-            ([["insert", "t", [{"draw": "clock"}, 0, {"hex": ""}]], ["delete", "t", 30]], [{"done": 1}], [["clock", 30]]),
+            ([["insert", "t", [{"draw": "clock"}, 0, {"hex": ""}]], ["delete", "t", 30]],
+             [{"done": 1}], [["clock", 30]]),
             ([["delete", "t", 2], ["commit"]], [{"done": 1}, "committed"], []),
         ]
         entry = {"ltxid": [1, 1, 0], "settings": [["top", 1]], "pieces": calls}
         self.assertEqual(tables.changes_by_entry([entry]), {(1, 1, 0): [
-            ("t", "(1, 5, 0x00)", "(1, 3, 0x00)"), ("t", "no row", "(17, 8, 0x0aff)"), ("t", "(2, 6, 0x01)", "no row")]})
+            ("t", "(1, 5, 0x00)", "(1, 3, 0x00)"), ("t", "no row", "(17, 8, 0x0aff)"),
+            ("t", "(2, 6, 0x01)", "no row")]})
         tables.close([["t", [[1, 3, {"hex": "00"}], [17, 8, {"hex": "0aff"}]]]])
 
     def test_the_store_of_an_image_is_not_known(self):

@@ -28,7 +28,8 @@ class Verdict(unittest.TestCase):
     def test_what_clients_saw(self):
         for name, said in {
             "a cut after the commit": "saw 1 commit and no error; stored: 1 transaction [1,1,0]; they agree",
-            "a second transaction, static": "saw 2 commits and no error; stored: 2 transactions [1,1,0], [1,2,0]; they agree",
+            "a second transaction, static":
+                "saw 2 commits and no error; stored: 2 transactions [1,1,0], [1,2,0]; they agree",
             "a commit with a statement, whose answers are lost":
                 "saw no commit and the ERROR incomplete; stored: 1 transaction [1,1,0]; they agree",
             "a setting lost after the commit":
@@ -47,7 +48,8 @@ class Verdict(unittest.TestCase):
                 "saw no commit and the ERROR unknown; stored: 1 transaction [1,1,0]; the client was not told: the "
                 "transaction is stored",
             "three tries while the server is down":
-                "saw no commit and the ERROR retries; stored: nothing; the client was not told: nothing of it is stored",
+                "saw no commit and the ERROR retries; stored: nothing; the client was not told: nothing of it is "
+                "stored",
         }.items():
             with self.subTest(run=name):
                 self.assertEqual(single(name), ("a client was not told whether its transaction is stored",

@@ -27,7 +27,8 @@ class Window(unittest.TestCase):
 
     def test_a_window_that_is_asked_for(self):
         run = followed(SHOP)
-        for first, last, drawn_last in ((1, None, 174), (1, 174, 174), (60, 100, 100), (60, 999, 174), (174, None, 174)):
+        for first, last, drawn_last in ((1, None, 174), (1, 174, 174), (60, 100, 100), (60, 999, 174),
+                                        (174, None, 174)):
             self.assertEqual(last_drawn(run, first, last), drawn_last)
 
     def test_all_events_need_no_word(self):
