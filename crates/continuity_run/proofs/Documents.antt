@@ -16,9 +16,10 @@ use Rattle.outage_schedule.specs.declared.document.Document.{Document}
 use Rattle.outage_schedule.specs.declared.event.Event.{Event}
 use Rattle.outage_schedule.specs.declared.event.Event.TheVariants as event
 use Rattle.doc_reader.specs.Counts.{is_small, calls_in_event, has_few_names, calls_in}
-use Rattle.doc_reader.specs.Keeping.{is_service, is_request, is_client, is_event, is_pick, IsDocument}
-use Rattle.doc_reader.specs.Numbers.{is_between, is_count, is_small_ltxid}
-use Rattle.doc_reader.specs.Scripts.{is_inside, is_one_transaction}
+use Rattle.document_forms.specs.Keeping.{is_service, is_request, is_client, is_event, is_pick}
+use Rattle.doc_reader.specs.Keeping.{IsDocument}
+use Rattle.document_forms.specs.Numbers.{is_between, is_count, is_small_ltxid}
+use Rattle.document_forms.specs.Scripts.{is_inside, is_one_transaction}
 use Rattle.server_model.specs.ServiceCalls.{is_failover}
 use Rattle.world_model.specs.FinishShort.{AreLimits, calls_of_scripts, is_repeated_little}
 use Rattle.world_model.specs.Ready.{has_calls, is_rightly_repeated, is_right_request}

@@ -14,7 +14,7 @@ use Rattle.outage_schedule.specs.declared.document.DocSequence.{DocSequence}
 use Rattle.json_form.specs.Arrays.{have_distinct_keys}
 use Rattle.json_form.proofs.Offered.{first_true, second_true, both_true}
 use Rattle.commit_log.specs.Bases.{IsBase, is_base, keys_differ, is_table as is_base_table, is_sequence as is_base_sequence, table_name as base_table_name, sequence_name as base_sequence_name}
-use Rattle.doc_reader.specs.Keeping.{is_table, is_sequence, schema_in}
+use Rattle.document_forms.specs.Keeping.{is_table, is_sequence, schema_in}
 use Rattle.run_clauses.specs.Before.{base_table, base_sequence}
 use Rattle.continuity_run.specs.Stores.{table_name, sequence_name}
 

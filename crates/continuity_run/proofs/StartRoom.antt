@@ -10,7 +10,7 @@ use Rattle.commit_log.specs.declared.journal.Journal.{Journal}
 use Rattle.commit_log.specs.Journals.{journal_of}
 use Rattle.doc_reader.specs.Images.{is_store, leaves_room}
 use Rattle.doc_reader.specs.Keeping.{is_begin}
-use Rattle.doc_reader.specs.Numbers.{is_count}
+use Rattle.document_forms.specs.Numbers.{is_count}
 use Rattle.run_clauses.specs.Before.{given_journal, read_journal}
 
 low : (journal : Journal) → leaves_room journal ≡ true → journal.incarnation ≤ 2 ^ 62

@@ -8,7 +8,8 @@ ghost use Rattle.disk_model.specs.Mem.{mem_state};
 ghost use Rattle.commit_log.specs.declared.base.Base.{Base as Start};
 ghost use Rattle.commit_log.specs.Bases.{IsBase};
 ghost use Rattle.commit_log.specs.Journals.{so_far_of, journal_of, is_opened};
-ghost use Rattle.doc_reader.specs.Keeping.{is_begin, is_sequence, is_table};
+ghost use Rattle.document_forms.specs.Keeping.{is_sequence, is_table};
+ghost use Rattle.doc_reader.specs.Keeping.{is_begin};
 ghost use Rattle.run_clauses.specs.Before.{base_table, base_sequence};
 ghost use Rattle.continuity_run.specs.Stores.{CountsOf, IsStoreOf, IsUntroubled, table_name, sequence_name};
 
@@ -37,7 +38,7 @@ pub(crate) struct Before {
 }
 
 /// A table of a base, whose rows are moved.
-#[tactic(auto, unfolding(doc_reader::specs::Keeping::is_table))]
+#[tactic(auto, unfolding(document_forms::specs::Keeping::is_table))]
 fn table_in(table: DocTable) -> BaseTable
     requires { IsTrue (is_table table) }
     ensures { result ≡ base_table table }

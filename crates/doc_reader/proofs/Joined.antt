@@ -1,8 +1,6 @@
 -- A document of which the tables, clients and events were read before its other members.
 use Rattle.std.proofs.Common.{◌≡◌, ℕ, List, [], length, Bool, false, Option, Some, None, option_map, Result, Ok, codes, refl, sym, ap, ◌∙◌}
-use Rattle.std.specs.Prelude.{⊤}
-use Rattle.std.specs.Option.{unwrap_or}
-use Rattle.serde_json.specs.Data.{Data, Members, object}
+use Rattle.serde_json.specs.Data.{Members, object}
 use Rattle.json_form.specs.Faults.{Fault, ◌>>=◌, within}
 use Rattle.json_form.specs.Values.{bool_of}
 use Rattle.json_form.specs.Objects.{Named, named, known, object_with, has, required, optional, read_or, without}
@@ -13,28 +11,17 @@ use Rattle.outage_schedule.specs.declared.document.Document.{Document}
 use Rattle.outage_schedule.specs.declared.event.Event.{Event}
 use Rattle.doc_reader.specs.declared.document.Store.{Store}
 use Rattle.doc_reader.specs.declared.document.Begin.{Begin}
-use Rattle.doc_reader.specs.Tables.{tables_of, sequences_of}
-use Rattle.doc_reader.specs.Service.{service_of, usual_service}
-use Rattle.doc_reader.specs.Events.{schedule_of}
+use Rattle.document_forms.specs.Tables.{tables_of, sequences_of}
+use Rattle.document_forms.specs.Service.{service_of, usual_service}
+use Rattle.document_forms.specs.Events.{schedule_of}
 use Rattle.doc_reader.specs.Images.{image_of}
 use Rattle.doc_reader.specs.Counts.{if_small}
 use Rattle.doc_reader.specs.Documents.{is_alone, store_of, begin_of, document_with, clients_of, rest_of, document_members, document_of}
 use Rattle.doc_reader.specs.Ahead.{held_back}
-use Rattle.json_form.proofs.Offered.{after, given, ok_is}
-use Rattle.doc_reader.proofs.Parts.{begin_after, gives_after, optional_apart, served_of, print_of, made_begin}
-use Rattle.doc_reader.proofs.OneByOne.{none_there, none_left, nothing_taken}
-
--- what was read was there
-pub one_there : {A B : Type 0} (f : A → Result B Fault) (o : Option A) (x : B) → option_map f o ≡ Some (Ok x) → (d : A) × (o ≡ Some d) × (f d ≡ Ok x)
-one_there f None x e = absurd (cc)
-one_there f (Some d) x e = (d, refl, cc)
-
--- what a member that may be missing is read as that was read, or was not there
-pub may_be_there : {A : Type 0} (name : List ℕ) (otherwise : A) (f : Data → Result A Fault) (o : Option Data) (x : Option A) → option_map f o ≡ option_map given x → read_or name otherwise f o ≡ Ok (unwrap_or x otherwise)
-may_be_there name otherwise f None None e = refl
-may_be_there name otherwise f None (Some z) e = absurd (cc)
-may_be_there name otherwise f (Some d) None e = absurd (cc)
-may_be_there name otherwise f (Some d) (Some z) e = let read : f d ≡ Ok z = cc in ap (within name) read
+use Rattle.json_form.proofs.Offered.{after, ok_is}
+use Rattle.document_forms.proofs.Offered.{gives_after, optional_apart, none_there, none_left, one_there, may_be_there, members_there, required_there}
+use Rattle.doc_reader.proofs.Parts.{begin_after, served_of, print_of, made_begin}
+use Rattle.doc_reader.proofs.OneByOne.{nothing_taken}
 
 begin_held : (ms : Named) → begin_of (held_back ms) ≡ begin_of (without (codes "tables") ms)
 begin_held ms = begin_after (codes "schedule") (without (codes "clients") (without (codes "tables") ms)) refl refl refl refl refl ∙ begin_after (codes "clients") (without (codes "tables") ms) refl refl refl refl refl
@@ -99,20 +86,13 @@ begin_with_tables ms tables begin e lacks h =
 
 -- ---- the whole document
 
-there : (ms : Members) → known document_members ms ≡ Ok tt → object_with document_members (object ms) ≡ Ok (named ms)
-there ms all = ap (λ (r : Result ⊤ Fault). r >>= λ _. Ok (named ms)) all
-
-required_there : (ms : Named) (d : Data) → ms (codes "clients") ≡ Some d → required (codes "clients") ms ≡ Ok d
-unfolding required
-required_there ms d e = rw e refl
-
 pub document_joined : (ms : Members) (clients : List Client) (begin : Begin) (events : List Event) (document : Document) → known document_members ms ≡ Ok tt → option_map clients_of (named ms (codes "clients")) ≡ Some (Ok clients) → begin_of (named ms) ≡ Ok begin
     → read_or (codes "schedule") [] (schedule_of (length clients) begin.service.standby) (named ms (codes "schedule")) ≡ Ok events → if_small (document_with begin clients events) ≡ Ok document → document_of (object ms) ≡ Ok document
 unfolding document_of rest_of
 document_joined ms clients begin events document all hc hb hs small =
     let c = one_there clients_of (named ms (codes "clients")) clients hc in
-    gives_after (object_with document_members (object ms)) (named ms) (λ found. required (codes "clients") found >>= λ cs. begin_of found >>= λ first. rest_of (found (codes "schedule")) cs first) document (there ms all)
-    (gives_after (required (codes "clients") (named ms)) c.0 (λ cs. begin_of (named ms) >>= λ first. rest_of (named ms (codes "schedule")) cs first) document (required_there (named ms) c.0 c.1)
+    gives_after (object_with document_members (object ms)) (named ms) (λ found. required (codes "clients") found >>= λ cs. begin_of found >>= λ first. rest_of (found (codes "schedule")) cs first) document (members_there document_members ms all)
+    (gives_after (required (codes "clients") (named ms)) c.0 (λ cs. begin_of (named ms) >>= λ first. rest_of (named ms (codes "schedule")) cs first) document (required_there (codes "clients") (named ms) c.0 c.1)
     (gives_after (begin_of (named ms)) begin (λ first. rest_of (named ms (codes "schedule")) c.0 first) document hb
     (gives_after (within (codes "clients") (clients_of c.0)) clients (λ cs. read_or (codes "schedule") [] (schedule_of (length cs) begin.service.standby) (named ms (codes "schedule")) >>= λ es. if_small (document_with begin cs es)) document (ap (within (codes "clients")) c.2)
     (gives_after (read_or (codes "schedule") [] (schedule_of (length clients) begin.service.standby) (named ms (codes "schedule"))) events (λ es. if_small (document_with begin clients es)) document hs small))))

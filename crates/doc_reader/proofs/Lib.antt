@@ -1,14 +1,5 @@
-pub mod CallItems
 pub mod Naming
 pub mod Parts
 pub mod OneByOne
 pub mod Joined
-pub mod TablesAhead
-pub mod ReadNumbers
-pub mod ReadTables
-pub mod ReadSequences
-pub mod ReadService
-pub mod ReadCalls
-pub mod ReadScripts
-pub mod ReadEvents
 pub mod ReadDocuments

@@ -14,34 +14,13 @@ use Rattle.json_form.specs.declared.object.Members as held
 use Rattle.outage_schedule.specs.declared.document.Client.{Client}
 use Rattle.outage_schedule.specs.declared.document.DocTable.{DocTable}
 use Rattle.outage_schedule.specs.declared.event.Event.{Event}
+use Rattle.document_forms.specs.Tables.{tables_of}
+use Rattle.document_forms.specs.Events.{schedule_of}
 use Rattle.doc_reader.specs.declared.streamed.Ahead.{Ahead}
-use Rattle.doc_reader.specs.Tables.{tables_of}
 use Rattle.doc_reader.specs.Documents.{clients_of, document_members}
-use Rattle.doc_reader.specs.Events.{schedule_of}
 use Rattle.doc_reader.specs.Ahead.{held_members, held_back, number_in, AreRead}
 use Rattle.json_form.proofs.Offered.{given, without_put, without_other}
-
-pub at_this : (name : List ℕ) (d : Data) (ms : Named) → bytes_eq name name ≡ true → putting name d ms name ≡ Some d
-unfolding putting
-at_this name d ms same = rw same refl
-
-pub at_other : (q name : List ℕ) (d : Data) (ms : Named) → bytes_eq q name ≡ false → putting name d ms q ≡ ms q
-unfolding putting
-at_other q name d ms apart = rw apart refl
-
--- what reads nothing had nothing to read
-pub none_there : {A B : Type 0} (f : A → B) (o : Option A) → option_map f o ≡ None → o ≡ None
-none_there f None e = refl
-none_there f (Some x) e = absurd (cc)
-
-pub none_left : {A : Type 0} (o : Option A) → is_some o ≡ false → o ≡ None
-none_left None h = refl
-none_left (Some x) h = absurd (cc)
-
--- what holds of each thing that may be there holds of the one that is
-pub of_each : {A : Type 0} (P Q : A → Type 0) (o : Option A) → ((x : A) → P x → Q x) → IfSome o P → IfSome o Q
-of_each P Q None more h = tt
-of_each P Q (Some x) more h = more x h
+use Rattle.document_forms.proofs.Offered.{at_this, at_other, none_there}
 
 given_some : {A : Type 0} (P : A → Type 0) (r : Result A DocFault) (read : Result A Fault) → Gives r read → ((x : A) → read ≡ Ok x → P x) → IfSome (result_ok r) P
 given_some P (Ok x) read h more = more x h

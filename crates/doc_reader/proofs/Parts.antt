@@ -1,44 +1,24 @@
--- What is read of an object in a part of its own changes nothing for the others.
+-- What is read of a document in a part of its own changes nothing for the others.
 use Rattle.std.proofs.Common.{◌≡◌, ℕ, List, false, Result, Ok, codes, refl, sym, ap, subst, ◌∙◌, rules}
 use Rattle.std.specs.Prelude.{Bool, Option}
 use Rattle.std.specs.Str.{bytes_eq}
 use Rattle.serde_json.specs.Data.{Data}
 use Rattle.json_form.specs.declared.fault.DocFault.{DocFault}
-use Rattle.json_form.specs.declared.fault.DocFault.TheVariants.{NoMemory, At}
 use Rattle.json_form.specs.Faults.{Fault, ◌>>=◌, Fails}
 use Rattle.json_form.specs.Values.{bool_of}
 use Rattle.json_form.specs.Objects.{Named, object_with, required, optional, without}
-use Rattle.json_form.specs.Texts.{word_of}
-use Rattle.outage_schedule.specs.declared.document.Failover.{Failover}
-use Rattle.outage_schedule.specs.declared.document.Failover.TheVariants as failover
-use Rattle.outage_schedule.specs.declared.document.Consistency.{Consistency}
-use Rattle.outage_schedule.specs.declared.document.Consistency.TheVariants as consistency
 use Rattle.outage_schedule.specs.declared.document.ServiceOf.{ServiceOf}
+use Rattle.document_forms.specs.Service.{service_of, usual_service}
 use Rattle.doc_reader.specs.declared.document.Store.{Store}
 use Rattle.doc_reader.specs.declared.document.Begin.{Begin}
-use Rattle.doc_reader.specs.declared.service.Words.{Words}
-use Rattle.doc_reader.specs.Service.{failover_words, consistency_words, words_of, limits_of, shares_of, stores_of, service_of, usual_service}
 use Rattle.doc_reader.specs.Documents.{store_of, begin_of, rest_of, document_members, document_of}
 use Rattle.json_form.proofs.Offered.{others_stay}
-
--- the limits, once another member was taken out
-pub limits_after : (other : List ℕ) (ms : Named) → bytes_eq (codes "retries") other ≡ false → bytes_eq (codes "delay") other ≡ false → bytes_eq (codes "timeout") other ≡ false → bytes_eq (codes "replays") other ≡ false → bytes_eq (codes "record") other ≡ false
-    → limits_of (without other ms) ≡ limits_of ms
-unfolding limits_of
-limits_after other ms a b c d e = search (rules, others_stay, a, b, c, d, e)
+use Rattle.document_forms.proofs.Offered.{fails_first, fails_after, optional_apart, at_apart}
 
 -- what the store begins with, once another member was taken out
 pub store_after : (other : List ℕ) (ms : Named) → bytes_eq (codes "tables") other ≡ false → bytes_eq (codes "sequences") other ≡ false → bytes_eq (codes "image") other ≡ false → store_of (without other ms) ≡ store_of ms
 unfolding store_of
 store_after other ms a b c = search (rules, others_stay, a, b, c)
-
-pub shares_after : (other : List ℕ) (ms : Named) → bytes_eq (codes "pool") other ≡ false → bytes_eq (codes "keep") other ≡ false → shares_of (without other ms) ≡ shares_of ms
-unfolding shares_of
-shares_after other ms a b = search (rules, others_stay, a, b)
-
-pub stores_after : (other : List ℕ) (ms : Named) → bytes_eq (codes "retention") other ≡ false → bytes_eq (codes "standby") other ≡ false → stores_of (without other ms) ≡ stores_of ms
-unfolding stores_of
-stores_after other ms a b = search (rules, others_stay, a, b)
 
 -- what a run begins with, once another member was taken out
 pub begin_after : (other : List ℕ) (ms : Named) → bytes_eq (codes "service") other ≡ false → bytes_eq (codes "tables") other ≡ false → bytes_eq (codes "sequences") other ≡ false → bytes_eq (codes "image") other ≡ false → bytes_eq (codes "print_image") other ≡ false
@@ -46,50 +26,7 @@ pub begin_after : (other : List ℕ) (ms : Named) → bytes_eq (codes "service")
 unfolding begin_of
 begin_after other ms a b c d e = search (rules, others_stay, store_after, a, b, c, d, e)
 
-pub ruleset parts_stay = (limits_after, shares_after, stores_after, store_after, begin_after)
-
--- ---- steps, one after the other
-
-fails_first : {A B : Type 0} (e : DocFault) (r : Result A Fault) (next : A → Result B Fault) → Fails e r → Fails e (r >>= next)
-fails_first NoMemory r next h = tt
-fails_first (At c p) r next h = ap (λ (q : Result _ Fault). q >>= next) h
-
-fails_after : {A B : Type 0} (e : DocFault) (r : Result A Fault) (x : A) (next : A → Result B Fault) → r ≡ Ok x → Fails e (next x) → Fails e (r >>= next)
-fails_after e r x next h f = subst (λ (q : Result _ Fault). Fails e (q >>= next)) (sym h) f
-
-pub gives_after : {A B : Type 0} (r : Result A Fault) (x : A) (next : A → Result B Fault) (y : B) → r ≡ Ok x → next x ≡ Ok y → (r >>= next) ≡ Ok y
-gives_after r x next y h k = ap (λ (q : Result _ Fault). q >>= next) h ∙ k
-
-pub optional_apart : {A : Type 0} (name other : List ℕ) (otherwise : A) (read : Data → Result A Fault) (ms : Named) → bytes_eq name other ≡ false → optional name otherwise read (without other ms) ≡ optional name otherwise read ms
-unfolding optional without
-optional_apart name other otherwise read ms apart = rw apart refl
-
-at_apart : (name other : List ℕ) (ms : Named) → bytes_eq name other ≡ false → without other ms name ≡ ms name
-unfolding without
-at_apart name other ms apart = rw apart refl
-
--- ---- the words of a service
-
-abbrev by_of : Named → Result Consistency Fault
-by_of ms = optional (codes "consistency") consistency.Dynamic (word_of consistency_words) ms
-
-abbrev outage_of : Named → Result Failover Fault
-outage_of ms = optional (codes "failover") failover.Transaction (word_of failover_words) ms
-
-by_stays : (ms one : Named) → one ≡ without (codes "failover") ms → by_of one ≡ by_of ms
-by_stays ms one left = ap by_of left ∙ optional_apart (codes "consistency") (codes "failover") consistency.Dynamic (word_of consistency_words) ms refl
-
-abbrev made_words : Failover → Consistency → Result Words Fault
-made_words f c = Ok (record { failover = f; consistency = c })
-
-pub words_given : (ms one : Named) (f : Failover) (c : Consistency) → one ≡ without (codes "failover") ms → outage_of ms ≡ Ok f → by_of one ≡ Ok c → words_of ms ≡ made_words f c
-unfolding words_of
-words_given ms one f c left hf hc = ap (λ (q : Result Failover Fault). q >>= λ at_outage. by_of ms >>= made_words at_outage) hf ∙ ap (λ (q : Result Consistency Fault). q >>= made_words f) (sym (by_stays ms one left) ∙ hc)
-
-pub words_fail : (ms one : Named) (f : Failover) (e : DocFault) → one ≡ without (codes "failover") ms → outage_of ms ≡ Ok f → Fails e (by_of one) → Fails e (words_of ms)
-unfolding words_of
-words_fail ms one f e left hf hc =
-    fails_after e (outage_of ms) f (λ at_outage. by_of ms >>= made_words at_outage) hf (fails_first e (by_of ms) (made_words f) (subst (λ (q : Result Consistency Fault). Fails e q) (by_stays ms one left) hc))
+pub ruleset parts_stay = (store_after, begin_after)
 
 -- ---- what a run begins with
 

@@ -17,21 +17,21 @@ use Rattle.outage_schedule.specs.declared.document.Document.{Document}
 use Rattle.outage_schedule.specs.declared.event.Event.{Event}
 use Rattle.doc_reader.specs.declared.document.Store.{Store}
 use Rattle.doc_reader.specs.declared.document.Begin.{Begin}
-use Rattle.doc_reader.specs.declared.built.LateForm.TheVariants as form
-use Rattle.doc_reader.specs.Built.{built}
-use Rattle.doc_reader.specs.Tables.{tables_of, sequences_of}
-use Rattle.doc_reader.specs.Service.{service_of, usual_service}
-use Rattle.doc_reader.specs.Events.{schedule_of}
+use Rattle.document_forms.specs.declared.built.LateForm.TheVariants as form
+use Rattle.document_forms.specs.Built.{built}
+use Rattle.document_forms.specs.Tables.{tables_of, sequences_of}
+use Rattle.document_forms.specs.Service.{service_of, usual_service}
+use Rattle.document_forms.specs.Events.{schedule_of}
 use Rattle.commit_log.specs.Journals.{journal_of}
 use Rattle.doc_reader.specs.Images.{if_alone, is_store, if_store, image_of}
 use Rattle.doc_reader.specs.Counts.{is_small, if_small}
 use Rattle.doc_reader.specs.Documents.{is_alone, store_of, begin_of, document_with, clients_of, rest_of, document_members, document_of, limit, document_at}
 use Rattle.doc_reader.specs.Keeping.{is_begin, IsDocument}
 use Rattle.json_form.proofs.Offered.{after, ok_is, within_ok, passed, both_true, first_true, second_true, optional_keeps}
-use Rattle.doc_reader.proofs.ReadSequences.{AreTables, tables_read, no_tables, AreSequences, sequences_read, no_sequences}
-use Rattle.doc_reader.proofs.ReadService.{IsServiceRead, service_read, usual_is}
-use Rattle.doc_reader.proofs.ReadScripts.{clients_read}
-use Rattle.doc_reader.proofs.ReadEvents.{AreEvents, schedule_read, no_events}
+use Rattle.document_forms.proofs.Offered.{AreTables, tables_read, no_tables, AreSequences, sequences_read, no_sequences}
+use Rattle.document_forms.proofs.Offered.{IsServiceRead, service_read, usual_is}
+use Rattle.document_forms.proofs.Offered.{clients_read}
+use Rattle.document_forms.proofs.Offered.{AreEvents, schedule_read, no_events}
 
 -- an image was read only where it stands alone, and is that of a store
 abbrev Alone : Bool → Option (List ℕ) → Type 0

@@ -6,9 +6,9 @@ use Rattle.json_form.specs.Objects.{Named, members_at, without, putting}
 use Rattle.json_form.specs.Streams.{value_ahead}
 use Rattle.outage_schedule.specs.declared.document.Client.{Client}
 use Rattle.doc_reader.specs.declared.streamed.Ahead.{Ahead}
-use Rattle.doc_reader.specs.Tables.{tables_of}
+use Rattle.document_forms.specs.Tables.{tables_of}
 use Rattle.doc_reader.specs.Documents.{clients_of}
-use Rattle.doc_reader.specs.Events.{schedule_of}
+use Rattle.document_forms.specs.Events.{schedule_of}
 
 -- the members whose values are held until the last member was passed
 abbrev pub held_members : List (List ℕ)

@@ -11,10 +11,10 @@ use Rattle.outage_schedule.specs.declared.document.Document.{Document}
 use Rattle.outage_schedule.specs.declared.event.Event.{Event}
 use Rattle.doc_reader.specs.declared.document.Store.{Store}
 use Rattle.doc_reader.specs.declared.document.Begin.{Begin}
-use Rattle.doc_reader.specs.Tables.{tables_of, sequences_of}
-use Rattle.doc_reader.specs.Service.{service_of, usual_service}
-use Rattle.doc_reader.specs.Scripts.{client_of}
-use Rattle.doc_reader.specs.Events.{schedule_of}
+use Rattle.document_forms.specs.Tables.{tables_of, sequences_of}
+use Rattle.document_forms.specs.Service.{service_of, usual_service}
+use Rattle.document_forms.specs.Scripts.{client_of}
+use Rattle.document_forms.specs.Events.{schedule_of}
 use Rattle.doc_reader.specs.Images.{image_of}
 use Rattle.doc_reader.specs.Counts.{if_small}
 

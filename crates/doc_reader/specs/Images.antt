@@ -9,9 +9,9 @@ use Rattle.json_form.specs.Texts.{octets_in}
 use Rattle.commit_log.specs.declared.journal.Journal.{Journal}
 use Rattle.commit_log.specs.declared.journal.Reservation.{Reservation}
 use Rattle.commit_log.specs.Journals.{journal_of}
-use Rattle.doc_reader.specs.declared.built.LateForm.TheVariants as form
-use Rattle.doc_reader.specs.Built.{built}
-use Rattle.doc_reader.specs.Numbers.{is_count, is_small_ltxid}
+use Rattle.document_forms.specs.declared.built.LateForm.TheVariants as form
+use Rattle.document_forms.specs.Built.{built}
+use Rattle.document_forms.specs.Numbers.{is_count, is_small_ltxid}
 
 -- there is no other word of what the store begins with
 abbrev pub if_alone : Bool → Result ⊤ Fault

@@ -1,16 +1,6 @@
 pub mod Ahead
-pub mod TablesAhead
-pub mod Values
-pub mod Items
-pub mod Calls
-pub mod Built
-pub mod Tables
-pub mod Service
-pub mod Scripts
-pub mod Events
 pub mod Images
 pub mod Counts
 pub mod InnerCounting
 pub mod Documents
 pub mod Keeping
-pub mod Numbers

@@ -7,17 +7,12 @@ ghost use Rattle.svc_values.specs.Calls.{operand_of};
 ghost use Rattle.doc_reader.specs.Counts.{calls_in_request, calls_in_client, calls_in_event, names_in_operand, names_in_statement, names_in_call, names_in_request, names_in_client, names_in_event, names_in, has_few_calls as has_few_calls_def, if_small};
 ghost use Rattle.doc_reader.specs.InnerCounting.{left_of, noted as noted_def, noted_all, if_few_names};
 
-use crate::value::copied;
+use call_forms::copied;
+use document_limits::Count;
 use json_form::{DocCode, DocFault};
 use outage_schedule::{Client, Document, Event, Request};
 use std::alloc::Global;
 use svc_values::{Call, Change, Listed, Name, Operand, Settings, Statement, has_name};
-
-/// The most calls of a document, those of its `outside` events included.
-const CALL_LIMIT: usize = 2_048;
-
-/// The most different names of settings in a document.
-const NAME_LIMIT: usize = 16;
 
 /// What has calls.
 trait Calling {
@@ -75,7 +70,7 @@ impl Calling for Event {
 fn has_few_calls(document: &Document) -> bool
     ensures { result ≡ has_few_calls_def document.now }
 {
-    match left_after(document.clients.as_slice(), CALL_LIMIT) {
+    match left_after(document.clients.as_slice(), Count::AllCalls.limit().most) {
         Some(left) => left_after(document.schedule.as_slice(), left).is_some(),
         None => false,
     }
@@ -91,7 +86,7 @@ fn noted(alloc: Global, before: Different, name: &Name) -> Result<Different, Doc
     if has_name(before.as_slice(), name) {
         return Ok(before);
     }
-    if before.len() >= NAME_LIMIT {
+    if before.len() >= Count::SettingNames.limit().most {
         return Err(DocFault::here(alloc, DocCode::Limit));
     }
     with_name(alloc, before, name)

@@ -4,18 +4,17 @@ ghost use Rattle.serde_json.specs.View.{view};
 ghost use Rattle.json_form.specs.Faults.{Gives};
 ghost use Rattle.json_form.specs.Objects.{members_at, without, read_or};
 ghost use Rattle.json_form.specs.Streams.{Begins};
-ghost use Rattle.doc_reader.specs.Events.{schedule_of};
+ghost use Rattle.document_forms.specs.Events.{schedule_of};
 ghost use Rattle.doc_reader.specs.Keeping.{IsDocument};
 ghost use Rattle.doc_reader.specs.Documents.{store_of, begin_of, document_with as document_with_def, clients_of, rest_of, document_of, document_at};
 
 use crate::counts::small;
-use crate::event::ScheduleReader;
 use crate::image::ImageReader;
-use crate::script::ClientReader;
-use crate::sequence::SequencesReader;
-use crate::service::{ServiceReader, usual_service};
 use crate::streamed::streamed;
-use crate::table::TablesReader;
+use document_forms::{
+    ClientReader, ScheduleReader, SequencesReader, ServiceReader, TablesReader, usual_service,
+};
+use document_limits::{Count, DOCUMENT_LIMIT};
 use json_form::{
     DocFault, Flag, Members, Reader, array_ahead, array_from, json_from, object_with, within,
 };
@@ -23,9 +22,6 @@ use outage_schedule::{Clients, DocSequences, DocTables, Document, Events, Image,
 use serde_json::Value as Json;
 use std::alloc::Global;
 use svc_values::Listed;
-
-/// The greatest length of a document in bytes: 8 MiB.
-pub const DOCUMENT_LIMIT: usize = 8_388_608;
 
 /// What a run's store begins with.
 #[derive(Drop)]
@@ -101,14 +97,12 @@ pub(crate) fn document_with(begin: Begin, clients: Clients, schedule: Events) ->
     }
 }
 
-/// The greatest number of clients.
-const CLIENT_LIMIT: usize = 64;
-
 /// The clients, at most 64.
 fn clients_from(alloc: Global, value: Json) -> Result<Clients, DocFault>
     ensures { Gives result (clients_of (view value)) }
 {
-    let clients = array_from(alloc, value, 0, CLIENT_LIMIT, &ClientReader)?;
+    let limit = Count::Clients.limit();
+    let clients = array_from(alloc, value, limit.least, limit.most, &ClientReader)?;
     Ok(Listed::from_vec(clients))
 }
 
@@ -121,7 +115,8 @@ pub(crate) fn clients_ahead(
     ensures read { IfSome result (λ clients. Begins clients_of depth tokens.old clients tokens.new) }
     ensures shorter { IfSome result (λ _. length tokens.new < length tokens.old) }
 {
-    let clients = array_ahead(alloc, tokens, depth, CLIENT_LIMIT, &ClientReader)?;
+    let most = Count::Clients.limit().most;
+    let clients = array_ahead(alloc, tokens, depth, most, &ClientReader)?;
     Some(Listed::from_vec(clients))
 }
 

@@ -3,26 +3,23 @@ ghost use Rattle.std.specs.Prelude.{◌≡◌};
 ghost use Rattle.std.specs.List.{list_all};
 ghost use Rattle.json_form.specs.Faults.{Gives};
 ghost use Rattle.commit_log.specs.Journals.{journal_of};
-ghost use Rattle.doc_reader.specs.Numbers.{is_count as is_count_def, is_small_ltxid as is_small_ltxid_def};
-ghost use Rattle.doc_reader.specs.Images.{is_small_reservation, leaves_room as leaves_room_def, if_store, image_of};
+ghost use Rattle.document_forms.specs.Numbers.{is_count as is_count_def, is_small_ltxid as is_small_ltxid_def};
+ghost use Rattle.doc_reader.specs.Images.{is_small_reservation as is_small_reservation_def, leaves_room as leaves_room_def, if_store, image_of};
 
-use crate::built::{LateForm, built};
-use crate::event::COUNT_LIMIT;
 use commit_log::{Journal, Log, LogFault, Reservation};
 use disk_model::MemDisk;
+use document_forms::{LateForm, require_built};
+use document_limits::Number;
 use json_form::{DocCode, DocFault, Reader, octets_in, text_from};
 use outage_schedule::Image;
 use serde_json::Value as Json;
 use std::alloc::Global;
 use svc_values::{Entry, Listed, Ltxid};
 
-/// The greatest end of a reservation: 2^62.
-const RESERVATION_LIMIT: i64 = 4_611_686_018_427_387_904;
-
 fn is_count(number: u64) -> bool
     ensures { result ≡ is_count_def number }
 {
-    number <= COUNT_LIMIT
+    number <= Number::Place.limit().most
 }
 
 fn is_small_ltxid(x: &Ltxid) -> bool
@@ -43,12 +40,16 @@ fn are_small_ltxids(ltxids: &[Ltxid]) -> bool
     ltxids.iter().all(|x| is_small_ltxid(x))
 }
 
-fn are_small_reservations(reservations: &[Reservation]) -> bool
-    ensures { result ≡ list_all is_small_reservation reservations.now }
+fn is_small_reservation(reservation: &Reservation) -> bool
+    ensures { result ≡ is_small_reservation_def reservation.now }
 {
-    reservations
-        .iter()
-        .all(|reservation| reservation.upto <= RESERVATION_LIMIT)
+    reservation.upto <= Number::Reserved.limit().most as i64
+}
+
+fn are_small_reservations(reservations: &[Reservation]) -> bool
+    ensures { result ≡ list_all is_small_reservation_def reservations.now }
+{
+    reservations.iter().all(|reservation| is_small_reservation(reservation))
 }
 
 /// Whether the numbers of the journal leave room for a run.
@@ -89,7 +90,7 @@ impl Reader<Option<Image>> for ImageReader {
 
     #[tactic(auto, unfolding(crate::specs::Images::image_of))]
     fn read(&self, alloc: Global, value: Json) -> Result<Option<Image>, DocFault> {
-        built(alloc, LateForm::Image)?;
+        require_built(alloc, LateForm::Image)?;
         let text = text_from(alloc, value)?;
         if !self.alone {
             return Err(DocFault::here(alloc, DocCode::Rule));

@@ -4,14 +4,14 @@ ghost use Rattle.serde_json.specs.Data.{Data, Members as MemberData, object};
 ghost use Rattle.serde_json.specs.Read.{read};
 ghost use Rattle.json_form.specs.Objects.{Named, named, known, is_among as is_among_def, members_at};
 ghost use Rattle.json_form.specs.Streams.{members_ahead as members_ahead_def};
-ghost use Rattle.doc_reader.specs.Tables.{tables_of};
+ghost use Rattle.document_forms.specs.Tables.{tables_of};
 ghost use Rattle.doc_reader.specs.Documents.{begin_of, document_members, document_of, document_at};
 ghost use Rattle.doc_reader.specs.Ahead.{held_members, held_back, AreRead, Passes};
 
 use crate::counts::small;
-use crate::document::{Begin, DOCUMENT_LIMIT, begin_from, clients_ahead, document_with};
-use crate::event::schedule_ahead;
-use crate::table::tables_ahead;
+use crate::document::{Begin, begin_from, clients_ahead, document_with};
+use document_forms::{schedule_ahead, tables_ahead};
+use document_limits::DOCUMENT_LIMIT;
 use json::{Reader, Scratch};
 use json_form::{Members, is_among, object_begins, value_from};
 use outage_schedule::{Clients, DocTables, Document, Events};

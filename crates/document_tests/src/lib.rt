@@ -1,11 +1,8 @@
-//! Tests of the reader of documents: each production of the form with each of its faults, two faults at
-//! once, and documents that are read.
+//! Tests of the reader of documents, by documents that are too long for a page or of which more is asked than a
+//! line. `.ci/documents` has the others: each production of the form with each of its faults, and two faults
+//! at once.
 #![tactic(auto)]
 
-#[cfg(test)]
-mod calls;
-#[cfg(test)]
-mod events;
 #[cfg(test)]
 mod images;
 #[cfg(test)]
@@ -13,14 +10,8 @@ mod limits;
 #[cfg(test)]
 mod makers;
 #[cfg(test)]
-mod requests;
-#[cfg(test)]
 mod service;
 #[cfg(test)]
 mod streamed;
-#[cfg(test)]
-mod tables;
-#[cfg(test)]
-mod values;
 #[cfg(test)]
 mod whole;

@@ -1,6 +1,6 @@
-//! Limits on lengths and numbers, and what is counted over the whole document.
+//! Limits on lengths, and on what is counted over the whole document.
 
-use crate::makers::{Around, told};
+use crate::makers::told;
 use doc_reader::{DOCUMENT_LIMIT, read_document};
 use std::alloc::Global;
 use std::process::Abort;
@@ -40,26 +40,7 @@ fn is_told(
     let [before, after] = around;
     let text = format!(in alloc; "{before}{part}{after}").expect(rt, "memory");
     let read = read_document(alloc, text.as_bytes());
-    told(&read, "") == wanted
-}
-
-#[test]
-fn texts_have_at_most_64_bytes(rt: HostRuntime) {
-    let alloc = rt.alloc();
-    let around = [
-        r#"{"clients":[{"requests":[{"calls":[[["alter",""#,
-        r#""]]]}]}]}"#,
-    ];
-    for (count, wanted) in [
-        (32, (0, "")),
-        (33, (6, "/clients/0/requests/0/calls/0/0/1")),
-    ] {
-        let mut text = String::new(alloc);
-        for _ in 0..count {
-            text.push_str("aa").expect(&rt, "memory");
-        }
-        assert!(rt; is_told(&rt, alloc, around, &text, wanted));
-    }
+    told(&read) == wanted
 }
 
 #[test]
@@ -132,31 +113,12 @@ fn calls_are_counted_over_the_whole_document(rt: HostRuntime) {
 }
 
 #[test]
-fn names_of_settings_are_counted_over_the_whole_document(rt: HostRuntime) {
-    let alloc = rt.alloc();
-    let before = r#"{"clients":[{"requests":[{"settings":["#;
-    let after =
-        r#"],"calls":[[["set","n0",1]],[["show",{"var":"n1"}]]]}]}],"schedule":[["outside",[[["set","n2",1]]]]]}"#;
-    let once_more =
-        r#"],"calls":[[["commit"]]]}]}],"schedule":[["outside",[[["count","t"],["update","t",1,"c","to",{"var":"m"}]]]]]}"#;
-    for (after, count, wanted) in [
-        (after, 16, (0, "")),
-        (after, 17, (6, "")),
-        (once_more, 15, (0, "")),
-        (once_more, 16, (6, "")),
-    ] {
-        let settings = numbered(&rt, alloc, [r#"["n"#, r#"",1]"#], count);
-        assert!(rt; is_told(&rt, alloc, [before, after], &settings, wanted));
-    }
-}
-
-#[test]
 fn a_document_has_at_most_8_mib(rt: HostRuntime) {
     let alloc = rt.alloc();
     let text = br#"{"clients":[]}"#;
     for (length, wanted) in [(DOCUMENT_LIMIT, (0, "")), (DOCUMENT_LIMIT + 1, (1, ""))] {
         let mut bytes = text.to_vec(alloc).expect(&rt, "memory");
         bytes.resize(length, b' ').expect(&rt, "memory");
-        assert_eq!(rt; told(&read_document(alloc, &bytes), ""), wanted);
+        assert_eq!(rt; told(&read_document(alloc, &bytes)), wanted);
     }
 }

@@ -1,7 +1,7 @@
 use Rattle.std.proofs.Common.{◌≡◌, ◌++◌, map}
 use Rattle.std.specs.Prelude.{IsTrue}
 use Rattle.std.specs.List.{list_all}
-use Rattle.doc_reader.specs.Keeping.{is_table}
+use Rattle.document_forms.specs.Keeping.{is_table}
 use Rattle.run_clauses.specs.Before.{base_table}
 use Rattle.continuity_run.proofs.store.tables_in.Given as goal
 

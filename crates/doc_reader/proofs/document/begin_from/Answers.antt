@@ -3,7 +3,7 @@ use Rattle.std.proofs.Common.{◌≡◌, codes, subst}
 use Rattle.json_form.specs.Objects.{members_at, optional}
 use Rattle.json_form.proofs.Offered.{given}
 use Rattle.outage_schedule.specs.declared.document.ServiceOf.{ServiceOf}
-use Rattle.doc_reader.specs.Service.{service_of}
+use Rattle.document_forms.specs.Service.{service_of}
 use Rattle.doc_reader.proofs.Parts.{begin_given, begin_fails, begin_left}
 use Rattle.doc_reader.proofs.document.begin_from.Goals as goal
 

@@ -5,13 +5,14 @@ use Rattle.json_form.specs.Objects.{named}
 use Rattle.outage_schedule.specs.declared.document.Client.{Client}
 use Rattle.outage_schedule.specs.declared.document.Document.{Document}
 use Rattle.outage_schedule.specs.declared.event.Event.{Event}
-use Rattle.doc_reader.specs.Events.{schedule_of}
+use Rattle.document_forms.specs.Events.{schedule_of}
 use Rattle.doc_reader.specs.Counts.{if_small}
 use Rattle.doc_reader.specs.Documents.{document_with}
 use Rattle.doc_reader.specs.Ahead.{number_in}
 use Rattle.json_form.proofs.Offered.{given}
 use Rattle.doc_reader.proofs.OneByOne.{of_given}
-use Rattle.doc_reader.proofs.Joined.{may_be_there, document_joined}
+use Rattle.document_forms.proofs.Offered.{may_be_there}
+use Rattle.doc_reader.proofs.Joined.{document_joined}
 use Rattle.doc_reader.proofs.streamed.document_ahead.Goals as goal
 
 pub returns : goal.returns

@@ -8,7 +8,7 @@ use Rattle.json_form.specs.Texts.{json_of, json_at}
 use Rattle.json_form.proofs.Offered.{is_json}
 use Rattle.outage_schedule.specs.declared.document.Document.{Document}
 use Rattle.doc_reader.specs.Documents.{document_of, document_at, limit}
-use Rattle.doc_reader.proofs.OneByOne.{of_each}
+use Rattle.document_forms.proofs.Offered.{of_each}
 use Rattle.doc_reader.proofs.streamed.streamed.Goals as goal
 
 within_limit : (bytes : List ℕ) (d : Data) → length bytes ≤ limit → json_of bytes ≡ Ok d → json_at limit bytes ≡ Ok d

@@ -4,7 +4,8 @@ use Rattle.json.specs.Lex.{tokens}
 use Rattle.serde_json.specs.Data.{object}
 use Rattle.json_form.specs.Streams.{value_ahead}
 use Rattle.json_form.proofs.Offered.{whole_read}
-use Rattle.doc_reader.proofs.OneByOne.{of_each, nothing_more}
+use Rattle.document_forms.proofs.Offered.{of_each}
+use Rattle.doc_reader.proofs.OneByOne.{nothing_more}
 use Rattle.doc_reader.proofs.streamed.text_ahead.Goals as goal
 
 pub returns : goal.returns

@@ -2,7 +2,8 @@ use Rattle.std.proofs.Common.{sym}
 use Rattle.json_form.specs.Streams.{value_ahead}
 use Rattle.json_form.proofs.Offered.{begun}
 use Rattle.doc_reader.specs.Documents.{clients_of}
-use Rattle.doc_reader.proofs.OneByOne.{none_left, clients_put}
+use Rattle.document_forms.proofs.Offered.{none_left}
+use Rattle.doc_reader.proofs.OneByOne.{clients_put}
 use Rattle.doc_reader.proofs.streamed.Ahead.take_clients.Goals as goal
 
 pub returns-clause-read : goal.returns-clause-read

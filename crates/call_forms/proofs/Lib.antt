@@ -1,0 +1,3 @@
+pub mod CallItems
+pub mod ReadCalls
+pub mod Offered

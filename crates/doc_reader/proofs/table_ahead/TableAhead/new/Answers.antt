@@ -1,5 +1,0 @@
-use Rattle.std.proofs.Common.{refl}
-use Rattle.doc_reader.proofs.table_ahead.TableAhead.new.Goals as goal
-
-pub returns : goal.returns
-returns c = λ taken. record { name = refl; columns = refl; rows = refl; index = refl }

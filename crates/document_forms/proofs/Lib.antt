@@ -1,0 +1,11 @@
+pub mod Steps
+pub mod Parts
+pub mod OneByOne
+pub mod TablesAhead
+pub mod ReadNumbers
+pub mod ReadTables
+pub mod ReadSequences
+pub mod ReadService
+pub mod ReadScripts
+pub mod ReadEvents
+pub mod Offered

@@ -1,0 +1,18 @@
+//! How the parts of a document are read from JSON values: tables, sequences, the service, clients and events.
+#![tactic(auto)]
+
+mod built;
+mod event;
+mod number;
+mod script;
+mod sequence;
+mod service;
+mod table;
+mod table_ahead;
+
+pub use built::{LateForm, require_built};
+pub use event::{ScheduleReader, schedule_ahead};
+pub use script::ClientReader;
+pub use sequence::SequencesReader;
+pub use service::{ServiceReader, usual_service};
+pub use table::{TablesReader, tables_ahead};
