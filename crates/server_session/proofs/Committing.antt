@@ -52,7 +52,7 @@ with_last-push (first ∷ next ∷ more) old new = ap (λ (l : List Answer). fir
 
 -- rolled back, a session belongs to its core still
 pub rolled : (core : Core) (seen : SeenSession) (life : Life) (settings : NamedValues) → Belongs core seen → Belongs core (begun_so seen life settings)
-rolled core seen life settings belongs = record { incarnation = belongs.incarnation; number = belongs.number; writes = refl; calls = tt }
+rolled core seen life settings belongs = record { incarnation = belongs.incarnation; number = belongs.number; writes = refl; calls = tt; holds = refl }
 
 -- a step that stores nothing
 pub unstored : (step : Plain → Sess → Plain → Sess → Telling → Type 0) (most : ℕ) (told : Telling) (old new : SeenSession) (core : Core) (disk : DiskState) → Fits core disk → Belongs core new
@@ -166,7 +166,7 @@ module _ (called : Call) (answers : List Answer) (draws : List Draw) (core : Cor
 
   others_stay : HasStored (kept.Commit entry_here) core disk later end → (other : SeenSession) → (other.ltxid.session ≡ old.ltxid.session → ⊥) → Belongs core other → Belongs later other
   others_stay stored other apart stays =
-      belongs_with core later other stored.schemas (ap (λ (o : Opening). o.incarnation) stored.source)
+      belongs_with core later other stored.schemas stored.moves (ap (λ (o : Opening). o.incarnation) stored.source)
       (ap (λ (s : Sessions). (s.state other.ltxid.incarnation other.ltxid.session).next) stored.book
       ∙ next_other (sessions_in core.book) old.ltxid entry_here.completed other.ltxid.incarnation other.ltxid.session (apart_of other apart))
       stays
@@ -177,6 +177,7 @@ module _ (called : Call) (answers : List Answer) (draws : List Draw) (core : Cor
     number = sym (ap (λ (s : Sessions). (s.state old.ltxid.incarnation old.ltxid.session).next) stored.book ∙ next_own (sessions_in core.book) old.ltxid entry_here.completed);
     writes = refl;
     calls = tt;
+    holds = refl;
   }
 
   pub commit_told : (told : Down) (new : SeenSession) → told ≡ down.Reply answers draws (record old.ltxid { number = old.ltxid.number + 1 }) → new ≡ committed_so old

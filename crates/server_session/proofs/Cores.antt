@@ -1,5 +1,5 @@
 -- A core fits its disk with one record more.
-use Rattle.std.proofs.Common.{◌≡◌, ℕ, ◌+◌, ◌&&◌, Bool, true, false, List, [], ◌∷◌, refl, sym, ◌∙◌, ap, subst, arith}
+use Rattle.std.proofs.Common.{◌≡◌, ◌≤◌, ℕ, ◌+◌, ◌&&◌, Bool, true, false, List, [], ◌∷◌, refl, sym, ◌∙◌, ap, subst, arith}
 use Rattle.std.proofs.lemmas.Bool.{le-leb}
 use Rattle.std.proofs.lemmas.Bool.Decides.{nat_tests}
 use Rattle.std.specs.Prelude.{IsTrue, Result, Ok, Err, nat_le, if◌then◌else◌}
@@ -23,10 +23,12 @@ use Rattle.commit_log.specs.Journals.{journal_of}
 use Rattle.commit_log.specs.Rules.{may_block, may_commit, with_record}
 use Rattle.commit_log.proofs.Offered.{may_beside, notes_commit, block_beside, notes_block}
 use Rattle.server_session.specs.declared.shared.Core.{Core}
+use Rattle.server_session.specs.Alone.{MovesOn, counted}
 use Rattle.server_session.specs.Fits.{Fits, Belongs, tables_of}
 use Rattle.server_session.specs.SeenSession.{SeenSession}
 use Rattle.server_session.specs.Stored.{stored_as}
 use Rattle.server_session.specs.Storing.{Stores}
+use Rattle.server_session.proofs.Holding.{holds_later, moves_none, moves_one}
 use Rattle.server_session.proofs.Gaining.{gained_one, halted_one}
 use Rattle.server_session.proofs.Plains.{reads_more, tables_with-more}
 
@@ -54,6 +56,7 @@ line_stores core disk line log end (Ok done) fits adds = record {
   };
   book = refl;
   schemas = refl;
+  moves = moves_none core _ refl refl;
   source = refl;
   grants = refl;
 }
@@ -86,6 +89,7 @@ block_stores core disk x book log end (Ok done) fits may says adds =
       };
       book = says;
       schemas = refl;
+      moves = moves_none core _ refl refl;
       source = refl;
       grants = refl;
     }
@@ -114,11 +118,11 @@ tables_after core journal entry tables are is =
     is ∙ (λ i. record { schemas = (are i).schemas; rows = with_writes (are i).rows entry.writes })
     ∙ (λ i. record { schemas = schemas_of journal.base; rows = sym (tables_with-more (start_of journal.base) journal.entries entry) i })
 
-pub commit_stores : (core : Core) (disk : DiskState) (entry : Entry) (tables : Stored) (book : Contents) (log : Log) (end : DiskState) (answer : Result (Unit {0}) RedoFault) → Fits core disk
+pub commit_stores : (core : Core) (disk : DiskState) (entry : Entry) (tables : Stored) (commits : ℕ) (book : Contents) (log : Log) (end : DiskState) (answer : Result (Unit {0}) RedoFault) → Fits core disk
     → IsTrue (may_note (sessions_in core.book) entry.ltxid) → sessions_in book ≡ after_commit (sessions_in core.book) entry.ltxid entry.completed
     → tables ≡ record { schemas = core.tables.schemas; rows = with_writes core.tables.rows entry.writes }
-    → Adds answer log disk end (kept.Commit entry) → Stores (kept.Commit entry) (stored_as answer) core disk (record core { tables = tables; book = book; log = log }) end
-commit_stores core disk entry tables book log end (Ok done) fits may says wrote adds =
+    → commits ≡ counted core.commits → core.commits ≤ commits → Adds answer log disk end (kept.Commit entry) → Stores (kept.Commit entry) (stored_as answer) core disk (record core { tables = tables; commits = commits; book = book; log = log }) end
+commit_stores core disk entry tables commits book log end (Ok done) fits may says wrote counts rises adds =
     let stands = notes_commit core.book book fits.journal entry fits.book may says in
     record {
       gained = gained_one log disk end (kept.Commit entry) adds;
@@ -133,12 +137,13 @@ commit_stores core disk entry tables book log end (Ok done) fits may says wrote 
       };
       book = says;
       schemas = ap (λ (t : Stored). t.schemas) wrote;
+      moves = moves_one core _ counts rises;
       source = refl;
       grants = refl;
     }
-commit_stores core disk entry tables book log end (Err log_fault.NoMemory) fits may says wrote adds = record { records = kept.Commit entry ∷ []; few = omega arith; moments = adds.any_moment }
-commit_stores core disk entry tables book log end (Err log_fault.Stopped) fits may says wrote adds = halted_one core.log log disk end (kept.Commit entry) fits.log adds
-commit_stores core disk entry tables book log end (Err (log_fault.Damaged place)) fits may says wrote adds = absurd adds.goes_on
+commit_stores core disk entry tables commits book log end (Err log_fault.NoMemory) fits may says wrote counts rises adds = record { records = kept.Commit entry ∷ []; few = omega arith; moments = adds.any_moment }
+commit_stores core disk entry tables commits book log end (Err log_fault.Stopped) fits may says wrote counts rises adds = halted_one core.log log disk end (kept.Commit entry) fits.log adds
+commit_stores core disk entry tables commits book log end (Err (log_fault.Damaged place)) fits may says wrote counts rises adds = absurd adds.goes_on
 
 -- ---- the numbers of sessions
 
@@ -165,12 +170,13 @@ next_own sessions x completed =
     rw own refl
 
 -- a session belongs to a core whose book has its number still
-pub belongs_with : (core later : Core) (seen : SeenSession) → later.tables.schemas ≡ core.tables.schemas → later.source.incarnation ≡ core.source.incarnation
+pub belongs_with : (core later : Core) (seen : SeenSession) → later.tables.schemas ≡ core.tables.schemas → MovesOn core later → later.source.incarnation ≡ core.source.incarnation
     → ((sessions_in later.book).state seen.ltxid.incarnation seen.ltxid.session).next ≡ ((sessions_in core.book).state seen.ltxid.incarnation seen.ltxid.session).next
     → Belongs core seen → Belongs later seen
-belongs_with core later seen schemas incarnation next belongs = record {
+belongs_with core later seen schemas moves incarnation next belongs = record {
   incarnation = belongs.incarnation ∙ sym incarnation;
   number = belongs.number ∙ sym next;
   writes = ap (λ s. writes_fit s seen.txn.writes) schemas ∙ belongs.writes;
   calls = belongs.calls;
+  holds = holds_later core later seen.since seen.txn.readings moves belongs.holds;
 }

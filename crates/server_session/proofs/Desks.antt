@@ -21,6 +21,7 @@ use Rattle.stmt_meaning.specs.Drawing.{DrewAll, Ends, EndedBy, AreAsked, is_firs
 use Rattle.stmt_meaning.specs.Meaning.{Meant}
 use Rattle.stmt_meaning.proofs.Offered.{sequences-few}
 use Rattle.table_txn.specs.declared.txn.Ran.{Ran}
+use Rattle.table_txn.specs.Readings.{StayUnchanged}
 use Rattle.table_txn.specs.Transactions.{Transaction, HasRun, shape_of, meaning}
 use Rattle.server_session.specs.declared.desk.Desk.{Desk}
 use Rattle.server_session.specs.Dealing.{IsPrepared, HasDealt, HasHaltedAt, HasLackedAt, reserving}
@@ -160,13 +161,13 @@ module _ (D : Type 0) (state : D → DiskState) where
 
   pub ran_over : (ground : Ground) (a b : Desk D) (txn : Transaction) (ran : Ran) → IsPrepared a.source.now a.log.now (state a.disk.now)
       → HasRun ground.tables (names_of a.source.now.sequences) ground.settings ground.txn ground.statements ran.answers ran.draws txn × DrewAll (DrewAt state) a ran.draws b → IsTrue (writes_fit ground.tables.schemas txn.writes)
-      → HasRunOver a.tick ground (at_desk state a) ran txn (at_desk state b)
-  ran_over ground a b txn ran prepared done fits = record { dealt = (all_dealt ran.draws a b prepared done.1).1; run = done.0; fits = fits }
+      → StayUnchanged ground.tables.rows ground.txn.readings txn.readings → HasRunOver a.tick ground (at_desk state a) ran txn (at_desk state b)
+  ran_over ground a b txn ran prepared done fits unchanged = record { dealt = (all_dealt ran.draws a b prepared done.1).1; run = done.0; fits = fits; unchanged = unchanged }
 
   -- what the run comes to, as the session tells it
   pub runs_over : (ground : Ground) (a b : Desk D) (txn : Transaction) (result : Result Ran TxnFault) → IsPrepared a.source.now a.log.now (state a.disk.now) → ran_to ground a b txn result → ended_at ground a b result
-      → OnOk result (IsTrue (writes_fit ground.tables.schemas txn.writes))
+      → OnOk result (IsTrue (writes_fit ground.tables.schemas txn.writes)) → OnOk result (StayUnchanged ground.tables.rows ground.txn.readings txn.readings)
       → RunsOver a.tick ground (1 + sequences_in (up.Call true [] (call.Work ground.statements true))) (at_desk state a) (ended_as result) txn (at_desk state b)
-  runs_over ground a b txn (Ok ran) prepared done ended fits = ran_over ground a b txn ran prepared done fits
-  runs_over ground a b txn (Err txn_fault.NoMemory) prepared done ended fits = lacked_after ground a b prepared ended
-  runs_over ground a b txn (Err txn_fault.Stopped) prepared done ended fits = halted_after ground a b prepared ended
+  runs_over ground a b txn (Ok ran) prepared done ended fits unchanged = ran_over ground a b txn ran prepared done fits unchanged
+  runs_over ground a b txn (Err txn_fault.NoMemory) prepared done ended fits unchanged = lacked_after ground a b prepared ended
+  runs_over ground a b txn (Err txn_fault.Stopped) prepared done ended fits unchanged = halted_after ground a b prepared ended

@@ -74,14 +74,14 @@ module _ (line : List ℕ) (replay : Bool) (marks : List Draw) (now : ℕ) (unma
       → HasStored (kept.Alert line) core disk later end → HasServed (called_as replay marks (call.Alter line) now) 1 (Says told) old core disk new later end
   line_told told old new core disk later end fits belongs is seen stored =
       let stays : (other : SeenSession) → Belongs core other → Belongs later other =
-      λ other b. belongs_with core later other stored.schemas (ap (λ (o : Opening). o.incarnation) stored.source) (ap (λ (s : Sessions). (s.state other.ltxid.incarnation other.ltxid.session).next) stored.book) b in
+      λ other b. belongs_with core later other stored.schemas stored.moves (ap (λ (o : Opening). o.incarnation) stored.source) (ap (λ (s : Sessions). (s.state other.ltxid.incarnation other.ltxid.session).next) stored.book) b in
       let own : Belongs later old = stays old belongs in
       rw (is, seen) (record {
         records = kept.Alert line ∷ [];
         few = omega arith;
         gained = stored.gained;
         fits = stored.fits;
-        belongs = record { incarnation = own.incarnation; number = own.number; writes = own.writes; calls = made_more old.txn.pieces _ own.calls refl };
+        belongs = record { incarnation = own.incarnation; number = own.number; writes = own.writes; calls = made_more old.txn.pieces _ own.calls refl; holds = own.holds };
         others = λ other apart b. stays other b;
         steps = λ plain reads stands noted. (
           with_alert plain line,

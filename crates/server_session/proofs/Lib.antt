@@ -6,6 +6,7 @@ mod Drawing
 mod Frames
 mod Framing
 mod Gaining
+mod Holding
 mod Lifting
 mod Plains
 mod Quiet

@@ -26,6 +26,7 @@ belongs_still core old new step told quiet belongs = record {
   number = ap (λ (x : Ltxid). x.number) quiet.ltxid ∙ belongs.number ∙ ap (λ (x : Ltxid). ((sessions_in core.book).state x.incarnation x.session).next) (sym quiet.ltxid);
   writes = quiet.fitting core.tables.schemas belongs.writes;
   calls = quiet.made belongs.calls;
+  holds = quiet.holds core belongs.holds;
 }
 
 -- a step that touches no store

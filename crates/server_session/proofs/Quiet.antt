@@ -31,19 +31,19 @@ made_more [] piece made here = (here, tt)
 made_more (first ∷ pieces) piece made here = (made.0, made_more pieces piece made.1 here)
 
 pub connects : (seen : SeenSession) (now : ℕ) → seen.life ≡ New → Quietly (served_as up.Connect now) (Says (down.Hello seen.ltxid)) seen (record seen { life = Idle })
-connects seen now is = record { steps = λ plain reads noted. record { reads = reads; noted = noted; steps = Connects is }; ltxid = refl; fitting = λ schemas fits. fits; made = λ made. made }
+connects seen now is = record { steps = λ plain reads noted. record { reads = reads; noted = noted; steps = Connects is }; ltxid = refl; fitting = λ schemas fits. fits; made = λ made. made; holds = λ core holds. holds }
 
 pub begins : (seen : SeenSession) (now : ℕ) (settings : NamedValues) → IsTrue (is_serving seen.life) → Quietly (served_as (up.Begin settings) now) Silent seen (begun_so seen Begun settings)
-begins seen now settings serving = record { steps = λ plain reads noted. record { reads = []; noted = no_reads; steps = Begins settings serving }; ltxid = refl; fitting = λ schemas fits. refl; made = λ made. tt }
+begins seen now settings serving = record { steps = λ plain reads noted. record { reads = []; noted = no_reads; steps = Begins settings serving }; ltxid = refl; fitting = λ schemas fits. refl; made = λ made. tt; holds = λ core holds. refl }
 
 pub ends : (seen : SeenSession) (now : ℕ) → IsTrue (is_serving seen.life) → Quietly (served_as up.End now) Silent seen (begun_so seen Idle [])
-ends seen now serving = record { steps = λ plain reads noted. record { reads = []; noted = no_reads; steps = Ends serving }; ltxid = refl; fitting = λ schemas fits. refl; made = λ made. tt }
+ends seen now serving = record { steps = λ plain reads noted. record { reads = []; noted = no_reads; steps = Ends serving }; ltxid = refl; fitting = λ schemas fits. refl; made = λ made. tt; holds = λ core holds. refl }
 
 pub closes : (seen : SeenSession) (now : ℕ) → IsTrue (is_serving seen.life) → Quietly (served_as up.Close now) Silent seen (ended_so seen)
-closes seen now serving = record { steps = λ plain reads noted. record { reads = []; noted = no_reads; steps = Closes serving }; ltxid = refl; fitting = λ schemas fits. refl; made = λ made. tt }
+closes seen now serving = record { steps = λ plain reads noted. record { reads = []; noted = no_reads; steps = Closes serving }; ltxid = refl; fitting = λ schemas fits. refl; made = λ made. tt; holds = λ core holds. refl }
 
 pub refuses : (seen : SeenSession) (now : ℕ) (frame : Up) → IsTrue (is_out_of_order seen.life frame) → Quietly (served_as frame now) (Says (down.Refused 2)) seen (ended_so seen)
-refuses seen now frame out = record { steps = λ plain reads noted. record { reads = []; noted = no_reads; steps = Refuses frame out }; ltxid = refl; fitting = λ schemas fits. refl; made = λ made. tt }
+refuses seen now frame out = record { steps = λ plain reads noted. record { reads = []; noted = no_reads; steps = Refuses frame out }; ltxid = refl; fitting = λ schemas fits. refl; made = λ made. tt; holds = λ core holds. refl }
 
 -- ---- calls
 
@@ -59,6 +59,7 @@ sets seen replay kept now name value = record {
   ltxid = refl;
   fitting = λ schemas fits. fits;
   made = λ made. made_more seen.txn.pieces _ made refl;
+  holds = λ core holds. holds;
 }
 
 pub disables : (seen : SeenSession) (replay : Bool) (kept : List Draw) (now : ℕ)
@@ -68,12 +69,13 @@ disables seen replay kept now = record {
   ltxid = refl;
   fitting = λ schemas fits. fits;
   made = λ made. made_more seen.txn.pieces _ made refl;
+  holds = λ core holds. holds;
 }
 
 pub rolls_back : (seen : SeenSession) (replay : Bool) (kept : List Draw) (now : ℕ)
     → Quietly (called_as replay kept call.Rollback now) (Says (down.Reply (answer.RolledBack ∷ []) [] seen.ltxid)) seen (begun_so seen seen.life seen.settings)
-rolls_back seen replay kept now = record { steps = λ plain reads noted. record { reads = []; noted = no_reads; steps = IsRollback }; ltxid = refl; fitting = λ schemas fits. refl; made = λ made. tt }
+rolls_back seen replay kept now = record { steps = λ plain reads noted. record { reads = []; noted = no_reads; steps = IsRollback }; ltxid = refl; fitting = λ schemas fits. refl; made = λ made. tt; holds = λ core holds. refl }
 
 pub refuses_alter : (seen : SeenSession) (replay : Bool) (kept : List Draw) (now : ℕ) (line : List ℕ) → IsTrue replay
     → Quietly (called_as replay kept (call.Alter line) now) (Says (down.Refused 2)) seen (ended_so seen)
-refuses_alter seen replay kept now line marked = record { steps = λ plain reads noted. record { reads = []; noted = no_reads; steps = AlterMarked line marked }; ltxid = refl; fitting = λ schemas fits. refl; made = λ made. tt }
+refuses_alter seen replay kept now line marked = record { steps = λ plain reads noted. record { reads = []; noted = no_reads; steps = AlterMarked line marked }; ltxid = refl; fitting = λ schemas fits. refl; made = λ made. tt; holds = λ core holds. refl }

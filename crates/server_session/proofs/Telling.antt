@@ -97,7 +97,7 @@ tells_blocked x core disk later end fits is stored = record {
   few = omega arith;
   gained = stored.gained;
   fits = stored.fits;
-  belongs = λ seen belongs. belongs_with core later seen stored.schemas (ap (λ (o : Opening). o.incarnation) stored.source)
+  belongs = λ seen belongs. belongs_with core later seen stored.schemas stored.moves (ap (λ (o : Opening). o.incarnation) stored.source)
       (ap (λ (s : Sessions). (s.state seen.ltxid.incarnation seen.ltxid.session).next) stored.book ∙ next_blocked (sessions_in core.book) x seen.ltxid.incarnation seen.ltxid.session) belongs;
   steps = λ plain stands. (same_verdict plain core disk x fits stands ∙ sym is, plain_with plain (with_block plain x) (kept.Blocked x) core disk later end fits stored stands refl refl (stored_block plain fits.journal x (is_stored plain core disk fits stands)));
 }

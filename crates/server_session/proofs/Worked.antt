@@ -20,6 +20,7 @@ use Rattle.server_model.specs.declared.fault.ServeFault.TheVariants as fault
 use Rattle.server_model.specs.Draws.{brought}
 use Rattle.server_model.specs.Sessions.{piece_of}
 use Rattle.server_session.specs.declared.shared.Core.{Core}
+use Rattle.server_session.specs.Alone.{begun_at}
 use Rattle.server_session.specs.Dealing.{AtDesk}
 use Rattle.server_session.specs.Fits.{Fits, Belongs}
 use Rattle.server_session.specs.Running.{Ground, HasRunOver, RunsOver}
@@ -42,8 +43,13 @@ ground_of core old statements = record { tables = core.tables; settings = old.se
 abbrev pub core_after : Core → AtDesk → Core
 core_after core desk = record core { source = desk.opening; log = desk.log }
 
-abbrev pub seen_after : SeenSession → Transaction → SeenSession
-seen_after old txn = record old { txn = txn }
+abbrev pub seen_after : Core → SeenSession → Transaction → SeenSession
+seen_after core old txn = record old { txn = txn; since = begun_at old.since core.commits }
+
+-- as it stands in the code
+pub seen_is : (core : Core) (inside old : SeenSession) (txn : Transaction) (since : Option ℕ) → inside ≡ old → since ≡ begun_at inside.since core.commits
+    → ◌≡◌ {A = SeenSession} (record inside { txn = txn; since = since }) (seen_after core old txn)
+seen_is core inside old txn since same is = λ i. record (same i) { txn = txn; since = (is ∙ ap (λ (s : SeenSession). begun_at s.since core.commits) same) i }
 
 module _ (statements : List Statement) (commit replay : Bool) (marks : List Draw) (now : ℕ) (old : SeenSession) (core : Core) (disk : DiskState) (fits : Fits core disk) (belongs : Belongs core old)
     (one : Call) (is : one ≡ call.Work statements commit) (left : List Draw) (left_is : left ≡ brought core.grants core.source replay marks) where
@@ -76,20 +82,20 @@ module _ (statements : List Statement) (commit replay : Bool) (marks : List Draw
       pub work_fits : Fits (core_after core desk) desk.disk
       work_fits = fits_then statements commit replay marks now old core disk fits belongs ran txn desk over_here answers closed
 
-      pub work_belongs : Belongs (core_after core desk) (seen_after old txn)
+      pub work_belongs : Belongs (core_after core desk) (seen_after core old txn)
       work_belongs = belongs_then statements commit replay marks now old core disk fits belongs ran txn desk over_here answers closed
 
       -- a commit is reached
       pub work_committed : (result : Result (Option Down) ServeFault) (new : SeenSession) (later : Core) (end : DiskState) → ends_committed answers ≡ true
-          → Serves (commits_as replay one answers ran.draws) 1 result (seen_after old txn) (core_after core desk) desk.disk new later end → Serving result new later end
+          → Serves (commits_as replay one answers ran.draws) 1 result (seen_after core old txn) (core_after core desk) desk.disk new later end → Serving result new later end
       work_committed result new later end ends served =
           by_name result new later end (committed_on statements commit replay marks now old core disk fits belongs ran txn desk over_here answers closed result new later end ends
-          (subst (λ (k : Call). Serves (commits_as replay k answers ran.draws) 1 result (seen_after old txn) (core_after core desk) desk.disk new later end) is served))
+          (subst (λ (k : Call). Serves (commits_as replay k answers ran.draws) 1 result (seen_after core old txn) (core_after core desk) desk.disk new later end) is served))
 
       -- or the transaction goes on
-      pub work_answered : (told : Down) (new : SeenSession) → ends_committed answers ≡ false → IsMade one → told ≡ down.Reply answers ran.draws old.ltxid → new ≡ noting (seen_after old txn) (piece_of one answers ran.draws)
+      pub work_answered : (told : Down) (new : SeenSession) → ends_committed answers ≡ false → IsMade one → told ≡ down.Reply answers ran.draws old.ltxid → new ≡ noting (seen_after core old txn) (piece_of one answers ran.draws)
           → Serving (Ok (Some told)) new (core_after core desk) desk.disk
       work_answered told new open_still made said seen =
           by_name (Ok (Some told)) new (core_after core desk) desk.disk
           (answered statements commit replay marks now old core disk fits belongs ran txn desk over_here answers closed told new open_still (subst IsMade is made) said
-          (seen ∙ ap (λ (k : Call). noting (seen_after old txn) (piece_of k answers ran.draws)) is))
+          (seen ∙ ap (λ (k : Call). noting (seen_after core old txn) (piece_of k answers ran.draws)) is))

@@ -24,7 +24,7 @@ use Rattle.mutable_values.specs.declared.grants.Grants.{Grants}
 use Rattle.mutable_values.specs.Sources.{Opening, names_of, reserved_to}
 use Rattle.table_store.specs.Stored.{Stored}
 use Rattle.table_txn.specs.declared.txn.Ran.{Ran}
-use Rattle.table_txn.specs.Readings.{AreReadings}
+use Rattle.table_txn.specs.Readings.{AreReadings, StayUnchanged}
 use Rattle.table_txn.specs.Transactions.{Transaction, shape_of, meaning}
 use Rattle.commit_log.specs.declared.base.BaseSequence.{BaseSequence}
 use Rattle.commit_log.specs.declared.journal.Journal.{Journal}
@@ -51,6 +51,7 @@ use Rattle.server_model.specs.Serve.{Commits, Means, Works, Answers, Reaches, Ha
 use Rattle.server_session.specs.declared.shared.Core.{Core}
 use Rattle.server_model.specs.declared.fault.ServeFault.{ServeFault}
 use Rattle.server_model.specs.declared.fault.ServeFault.TheVariants as fault
+use Rattle.server_session.specs.Alone.{begun_at}
 use Rattle.server_session.specs.Adding.{HasGained, HasHalted, IsLeftOf}
 use Rattle.server_session.specs.Dealing.{AtDesk, IsPrepared, HasDealt, reserving, reservation_of}
 use Rattle.server_session.specs.Fits.{Fits, Belongs, IsSourceOf, sequence_of, tables_of}
@@ -58,6 +59,7 @@ use Rattle.server_session.specs.Plain.{IsStored, IsPlain}
 use Rattle.server_session.specs.Running.{Ground, HasRunOver, HasHaltedOver, RunsOver}
 use Rattle.server_session.specs.SeenSession.{SeenSession, sess_of}
 use Rattle.server_session.specs.Serving.{HasServed, HasStopped, HasLacked, Serves, called_as, commits_as, told_of}
+use Rattle.server_session.proofs.Holding.{holds_then, moves_none}
 use Rattle.server_session.proofs.Committing.{same_rows}
 use Rattle.server_session.proofs.Cores.{belongs_with, same_journal}
 use Rattle.server_session.proofs.Desks.{given_few, with_meant}
@@ -115,7 +117,7 @@ module _ (statements : List Statement) (commit replay : Bool) (marks : List Draw
   core_at desk = record core { source = desk.opening; log = desk.log }
 
   abbrev pub seen_at : Transaction → SeenSession
-  seen_at txn = record old { txn = txn }
+  seen_at txn = record old { txn = txn; since = begun_at old.since core.commits }
 
   pub prepared_here : IsPrepared core.source core.log disk
   prepared_here = record { ready = fits.log; journal = fits.journal; reads = fits.reads; source = fits.source }
@@ -141,7 +143,7 @@ module _ (statements : List Statement) (commit replay : Bool) (marks : List Draw
     incarnation_at = prepared.source.incarnation ∙ ap (λ (j : Journal). j.incarnation) journal_is ∙ sym fits.source.incarnation
 
     pub others_at : (other : SeenSession) → Belongs core other → Belongs (core_at desk) other
-    others_at other stays = belongs_with core (core_at desk) other refl incarnation_at refl stays
+    others_at other stays = belongs_with core (core_at desk) other refl (moves_none core (core_at desk) refl refl) incarnation_at refl stays
 
     pub plain_at : (plain : Plain) → IsPlain plain core disk → IsPlain (with_opening plain desk.opening) (core_at desk) desk.disk
     plain_at plain is = record {
@@ -150,12 +152,14 @@ module _ (statements : List Statement) (commit replay : Bool) (marks : List Draw
       grants = is.grants;
     }
 
-    pub belongs_at : (txn : Transaction) → IsTrue (writes_fit core.tables.schemas txn.writes) → txn.pieces ≡ old.txn.pieces → Belongs (core_at desk) (seen_at txn)
-    belongs_at txn writes pieces = record {
+    pub belongs_at : (txn : Transaction) → IsTrue (writes_fit core.tables.schemas txn.writes) → txn.pieces ≡ old.txn.pieces → StayUnchanged core.tables.rows old.txn.readings txn.readings
+        → Belongs (core_at desk) (seen_at txn)
+    belongs_at txn writes pieces unchanged = record {
       incarnation = belongs.incarnation ∙ sym incarnation_at;
       number = belongs.number;
       writes = writes;
       calls = subst (AllByRecursion IsMadePiece) (sym pieces) belongs.calls;
+      holds = holds_then core old.since old.txn.readings txn.readings belongs.holds unchanged;
     }
 
   -- ---- what the statements mean to the plain server
@@ -215,7 +219,7 @@ module _ (statements : List Statement) (commit replay : Bool) (marks : List Draw
     fits_then = fits_now
 
     pub belongs_then : Belongs (core_at desk) (seen_at txn)
-    belongs_then = belongs_at desk over.dealt.reservations over.dealt.gained over.dealt.prepared txn over.fits over.run.same_pieces
+    belongs_then = belongs_at desk over.dealt.reservations over.dealt.gained over.dealt.prepared txn over.fits over.run.same_pieces over.unchanged
 
     abbrev reads_then : Plain → List Read → List Read
     reads_then plain reads = reads ++ reads_at (committed plain) over.run.meant.reads
@@ -244,7 +248,7 @@ module _ (statements : List Statement) (commit replay : Bool) (marks : List Draw
           few = simp length-map (omega (arith, few_here));
           gained = over.dealt.gained;
           fits = fits_now;
-          belongs = let own = belongs_then in record { incarnation = own.incarnation; number = own.number; writes = own.writes; calls = made_more txn.pieces (piece_of called answers ran.draws) own.calls made };
+          belongs = let own = belongs_then in record { incarnation = own.incarnation; number = own.number; writes = own.writes; calls = made_more txn.pieces (piece_of called answers ran.draws) own.calls made; holds = own.holds };
           others = λ other apart stays. others_at desk over.dealt.reservations over.dealt.gained over.dealt.prepared other stays;
           steps = λ plain reads is noted. (
             with_opening plain desk.opening,

@@ -13,6 +13,7 @@ use Rattle.stmt_meaning.specs.declared.fault.TxnFault.{TxnFault}
 use Rattle.stmt_meaning.specs.declared.fault.TxnFault.TheVariants as txn_fault
 use Rattle.table_store.specs.Stored.{Stored}
 use Rattle.table_txn.specs.declared.txn.Ran.{Ran}
+use Rattle.table_txn.specs.Readings.{StayUnchanged}
 use Rattle.table_txn.specs.Transactions.{Transaction, HasRun, meaning}
 use Rattle.server_model.specs.declared.fault.ServeFault.{ServeFault}
 use Rattle.server_model.specs.declared.fault.ServeFault.TheVariants as fault
@@ -30,11 +31,13 @@ pub record Ground : Type 0 where
 abbrev pub left_on : Ground → List (List ℕ) → List Draw → Option (List Draw)
 left_on ground names draws = option_map (λ meant. meant.rest) (meaning ground.tables names ground.settings ground.txn ground.statements draws)
 
--- The statements ran: the draws were dealt, and the transaction has what they did.
+-- The statements ran: the draws were dealt, and the transaction has what they did. Where each place that it
+-- had read had what was read there, each that it has read now has.
 pub record HasRunOver (now : ℕ) (ground : Ground) (before : AtDesk) (ran : Ran) (txn : Transaction) (after : AtDesk) : Type 0 where
   pub dealt : HasDealt now before ran.draws after
   pub run : HasRun ground.tables (names_of before.opening.sequences) ground.settings ground.txn ground.statements ran.answers ran.draws txn
   pub fits : IsTrue (writes_fit ground.tables.schemas txn.writes)
+  pub unchanged : StayUnchanged ground.tables.rows ground.txn.readings txn.readings
 
 -- Some of the draws were dealt, and the store was stopped in the next one.
 pub record HasHaltedOver (now : ℕ) (ground : Ground) (before : AtDesk) (end : DiskState) : Type 0 where

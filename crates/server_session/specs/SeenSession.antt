@@ -1,5 +1,5 @@
 -- What is seen of a session.
-use Rattle.std.specs.Prelude.{Bool, true, false, List, [], Option, Some, None}
+use Rattle.std.specs.Prelude.{ℕ, Bool, true, false, List, [], Option, Some, None}
 use Rattle.svc_values.specs.declared.entry.Ltxid.{Ltxid}
 use Rattle.svc_values.specs.SettingsList.{NamedValues}
 use Rattle.stmt_meaning.specs.Reads.{Read}
@@ -7,13 +7,15 @@ use Rattle.table_txn.specs.Transactions.{Transaction, empty}
 use Rattle.server_model.specs.Sessions.{Life, New, Ended, Sess}
 
 -- `ltxid` is the session's next identifier, and `at_start` are the settings before the first call of
--- its transaction.
+-- its transaction. `since` is how many commits the core had applied when the transaction began to read,
+-- where it has read anything.
 pub record SeenSession : Type 0 where
   pub ltxid : Ltxid
   pub life : Life
   pub settings : NamedValues
   pub at_start : NamedValues
   pub txn : Transaction
+  pub since : Option ℕ
 
 -- the settings before a transaction's first call, where a call has changed them, and else those of now
 abbrev pub started_with : Option NamedValues → NamedValues → NamedValues
@@ -22,7 +24,7 @@ started_with (Some earlier) now = earlier
 
 -- as it is made
 abbrev pub begins : Ltxid → SeenSession
-begins ltxid = record { ltxid = ltxid; life = New; settings = []; at_start = []; txn = empty }
+begins ltxid = record { ltxid = ltxid; life = New; settings = []; at_start = []; txn = empty; since = None }
 
 -- the plain server's session, which read this
 abbrev pub sess_of : SeenSession → List Read → Sess
@@ -42,7 +44,7 @@ is_alive _ = true
 
 -- rolled back, with these settings
 abbrev pub begun_so : SeenSession → Life → NamedValues → SeenSession
-begun_so seen life settings = record { ltxid = seen.ltxid; life = life; settings = settings; at_start = settings; txn = empty }
+begun_so seen life settings = record { ltxid = seen.ltxid; life = life; settings = settings; at_start = settings; txn = empty; since = None }
 
 abbrev pub ended_so : SeenSession → SeenSession
 ended_so seen = begun_so seen Ended seen.settings

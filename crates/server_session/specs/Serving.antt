@@ -24,6 +24,7 @@ use Rattle.server_session.specs.declared.shared.Core.{Core}
 use Rattle.server_model.specs.declared.fault.ServeFault.{ServeFault}
 use Rattle.server_model.specs.declared.fault.ServeFault.TheVariants as fault
 use Rattle.server_session.specs.Adding.{HasGained, HasHalted}
+use Rattle.server_session.specs.Alone.{HoldsSince}
 use Rattle.server_session.specs.Fits.{Fits, Belongs}
 use Rattle.server_session.specs.Plain.{IsStored, IsPlain}
 use Rattle.server_session.specs.SeenSession.{SeenSession, sess_of}
@@ -62,6 +63,7 @@ pub record Quietly (step : Plain → Sess → Plain → Sess → Telling → Typ
   pub ltxid : new.ltxid ≡ old.ltxid
   pub fitting : (schemas : List Schema) → IsTrue (writes_fit schemas old.txn.writes) → IsTrue (writes_fit schemas new.txn.writes)
   pub made : AllByRecursion IsMadePiece old.txn.pieces → AllByRecursion IsMadePiece new.txn.pieces
+  pub holds : (core : Core) → HoldsSince core old.since old.txn.readings → HoldsSince core new.since new.txn.readings
 
 -- A step that was answered: it added at most so many records. Everything fits again, the other sessions
 -- too, and the plain server may do the same.

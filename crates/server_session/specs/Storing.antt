@@ -15,6 +15,7 @@ use Rattle.server_session.specs.declared.shared.Core.{Core}
 use Rattle.server_model.specs.declared.fault.ServeFault.{ServeFault}
 use Rattle.server_model.specs.declared.fault.ServeFault.TheVariants as fault
 use Rattle.server_session.specs.Adding.{HasGained, HasHalted}
+use Rattle.server_session.specs.Alone.{MovesOn}
 use Rattle.server_session.specs.Fits.{Fits, Belongs}
 use Rattle.server_session.specs.Plain.{IsStored, IsPlain}
 use Rattle.server_session.specs.SeenSession.{SeenSession}
@@ -34,6 +35,7 @@ pub record HasStored (one : Record) (core : Core) (disk : DiskState) (later : Co
   pub fits : Fits later end
   pub book : sessions_in later.book ≡ noted_by one (sessions_in core.book)
   pub schemas : later.tables.schemas ≡ core.tables.schemas
+  pub moves : MovesOn core later
   pub source : later.source ≡ core.source
   pub grants : later.grants ≡ core.grants
 

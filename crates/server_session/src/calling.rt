@@ -71,8 +71,10 @@ impl Session {
         ensures { Serves (called_as replay kept.now call.now now) (1 + sequences_in (up.Call replay kept.now call.now)) result self.old core.old (D.state disk.old) self.new core.new (D.state disk.new) }
     {
         let mut left = brought(self.alloc, &core.source, &core.grants, replay, kept)?;
+        let is_alone = self.is_alone(core);
         let Ran { answers, draws } = run_over(
             &mut self.txn,
+            is_alone,
             &core.tables,
             &self.state.settings,
             statements,
@@ -82,6 +84,7 @@ impl Session {
             disk,
             now,
         )?;
+        self.since = self.since.or(Some(core.commits));
         let answers = closed(answers, commit)?;
         if ends_committed(answers.as_slice()) {
             return self.commit(core, disk, replay, call, answers, draws);

@@ -1,5 +1,5 @@
 //! A commit that is reached.
-ghost use Rattle.std.specs.Prelude.{◌≡◌, [], IsTrue, IfOk};
+ghost use Rattle.std.specs.Prelude.{◌≡◌, ◌≤◌, [], IsTrue, IfOk};
 ghost use Rattle.svc_values.specs.declared.frame.Down.TheVariants as down;
 ghost use Rattle.svc_values.specs.Calls.{IsMade};
 ghost use Rattle.svc_values.specs.Fitting.{writes_fit};
@@ -9,6 +9,7 @@ ghost use Rattle.commit_log.specs.declared.records.Record.TheVariants as kept;
 ghost use Rattle.stmt_meaning.specs.Laws.{closed_by};
 ghost use Rattle.server_model.specs.Serve.{with_last as with_last_def};
 ghost use Rattle.server_model.specs.Sessions.{entry_of};
+ghost use Rattle.server_session.specs.Alone.{counted as counted_def};
 ghost use Rattle.server_session.specs.Fits.{Fits, Belongs};
 ghost use Rattle.server_session.specs.SeenSession.{begun_so, sess_of, started_with};
 ghost use Rattle.server_session.specs.Serving.{Serves, commits_as, stores_as};
@@ -65,6 +66,14 @@ fn settings_before(
     }
 }
 
+/// One commit more: the largest number stands for all above it.
+fn counted(commits: u64) -> u64
+    ensures counted { result ≡ counted_def commits }
+    ensures rises { commits ≤ result }
+{
+    commits.saturating_add(1)
+}
+
 /// Stores an entry. The tables and the book have it before the record is written: after a stop the
 /// store is opened again, and both are read from it.
 fn store_entry<D: Disk>(core: &mut Core, disk: &mut D, entry: &Entry) -> Result<(), ServeFault>
@@ -76,6 +85,7 @@ fn store_entry<D: Disk>(core: &mut Core, disk: &mut D, entry: &Entry) -> Result<
     ensures { Stores (kept.Commit entry.now) result core.old (D.state disk.old) core.new (D.state disk.new) }
 {
     core.tables.apply(&entry.writes)?;
+    core.commits = counted(core.commits);
     core.book.commit(&entry.ltxid, entry.completed)?;
     stored(core.log.commit(disk, entry))
 }
@@ -106,7 +116,7 @@ impl Session {
             self.close();
             return Ok(Some(Down::Blocked));
         }
-        if self.txn.conflicts(&core.tables).is_some() {
+        if self.conflicts(core).is_some() {
             let told = self.give_up(answers, Answer::Conflict, draws)?;
             return Ok(Some(told));
         }
@@ -174,6 +184,7 @@ impl Session {
         self.txn.note(piece)?;
         let settings = settings_before(self.alloc, self.earlier.take(), &self.state.settings)?;
         let txn = mem::replace(&mut self.txn, Txn::new(self.alloc));
+        self.since = None;
         let (pieces, writes) = txn.into_parts();
         Ok(Entry {
             ltxid: self.ltxid,

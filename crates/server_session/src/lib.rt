@@ -2,6 +2,7 @@
 //! values and the log that all sessions share.
 #![tactic(auto)]
 
+mod alone;
 mod alter;
 mod calling;
 mod calls;

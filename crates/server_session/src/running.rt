@@ -4,6 +4,7 @@ ghost use Rattle.svc_values.specs.declared.call.Call.TheVariants as call_variant
 ghost use Rattle.svc_values.specs.declared.frame.Up.TheVariants as up;
 ghost use Rattle.svc_values.specs.Calls.{sequences_in};
 ghost use Rattle.svc_values.specs.Fitting.{writes_fit};
+ghost use Rattle.table_txn.specs.Readings.{AreUnchanged};
 ghost use Rattle.server_model.specs.Draws.{brought as brought_def};
 ghost use Rattle.server_session.specs.Dealing.{IsPrepared};
 ghost use Rattle.server_session.specs.Desks.{at_desk};
@@ -36,9 +37,11 @@ pub(crate) fn brought(
     }
 }
 
-/// Runs statements, with draws from the source and the kept ones, at a tick.
+/// Runs statements, with draws from the source and the kept ones, at a tick. Where the transaction is
+/// known to be alone, what it read before is not compared.
 pub(crate) fn run_over<D: Disk>(
     txn: &mut Txn,
+    is_alone: bool,
     tables: &Tables,
     settings: &Settings,
     statements: &Statements,
@@ -49,6 +52,7 @@ pub(crate) fn run_over<D: Disk>(
     tick: u64,
 ) -> Result<Ran, ServeFault>
     requires fits { IsTrue (writes_fit tables.now.schemas txn.old.writes) }
+    requires unchanged { IsTrue is_alone → AreUnchanged tables.now.rows txn.old.readings }
     requires prepared { IsPrepared source.old log.old (D.state disk.old) }
     ensures { RunsOver tick (record { tables = tables.now; settings = settings.now; txn = txn.old; statements = statements.now }) (1 + sequences_in (up.Call true [] (call_variant.Work statements.now true))) (record { opening = source.old; left = kept.old; log = log.old; disk = D.state disk.old }) result txn.new (record { opening = source.new; left = kept.new; log = log.new; disk = D.state disk.new }) }
 {
@@ -59,7 +63,7 @@ pub(crate) fn run_over<D: Disk>(
         disk,
         tick,
     };
-    desk.run(txn, tables, settings, statements)
+    desk.run(txn, is_alone, tables, settings, statements)
 }
 
 impl<D: Disk> Desk<'_, D> {
@@ -67,11 +71,13 @@ impl<D: Disk> Desk<'_, D> {
     fn run(
         &mut self,
         txn: &mut Txn,
+        is_alone: bool,
         tables: &Tables,
         settings: &Settings,
         statements: &Statements,
     ) -> Result<Ran, ServeFault>
         requires fits { IsTrue (writes_fit tables.now.schemas txn.old.writes) }
+        requires unchanged { IsTrue is_alone → AreUnchanged tables.now.rows txn.old.readings }
         requires prepared { IsPrepared self.old.source.now self.old.log.now (D.state self.old.disk.now) }
         ensures ran { RunsOver self.old.tick (record { tables = tables.now; settings = settings.now; txn = txn.old; statements = statements.now }) (1 + sequences_in (up.Call true [] (call_variant.Work statements.now true))) (at_desk D.state self.old) result txn.new (at_desk D.state self.new) }
         ensures source { self.new.source.ghost_name ≡ self.old.source.ghost_name }
@@ -79,6 +85,9 @@ impl<D: Disk> Desk<'_, D> {
         ensures log { self.new.log.ghost_name ≡ self.old.log.ghost_name }
         ensures disk { self.new.disk.ghost_name ≡ self.old.disk.ghost_name }
     {
+        if is_alone {
+            return ended_by(txn.run_unchanged(tables, settings, statements, self));
+        }
         ended_by(txn.run(tables, settings, statements, self))
     }
 }

@@ -25,6 +25,8 @@ pub struct Session {
     /// The settings before the transaction's first call, where a call has changed them.
     pub(crate) earlier: Option<Settings>,
     pub(crate) txn: Txn,
+    /// How many commits were applied when the transaction began to read, where it has read anything.
+    pub(crate) since: Option<u64>,
     pub(crate) alloc: Global,
 }
 
@@ -36,7 +38,7 @@ impl Model for Session {
     ghost use Rattle.server_session.specs.Lives.{life_of};
     ghost use Rattle.server_session.specs.SeenSession.{started_with};
 
-    ghost view = { λ s. record { ltxid = s.ltxid; life = life_of s.life; settings = s.state.settings; at_start = started_with s.earlier s.state.settings; txn = s.txn } };
+    ghost view = { λ s. record { ltxid = s.ltxid; life = life_of s.life; settings = s.state.settings; at_start = started_with s.earlier s.state.settings; txn = s.txn; since = s.since } };
 }
 
 impl Session {
@@ -53,6 +55,7 @@ impl Session {
             state: SessionState::new(alloc),
             earlier: None,
             txn: Txn::new(alloc),
+            since: None,
             alloc,
         }
     }
@@ -120,6 +123,7 @@ impl Session {
         ensures no_reads { AreReadings empty.readings [] }
     {
         self.txn.roll_back();
+        self.since = None;
         self.earlier = None;
     }
 }

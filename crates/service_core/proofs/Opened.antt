@@ -134,6 +134,7 @@ opens_soundly old new core stop below keeps off settled sound opening =
         number = unmade_next read.journal below session (keeps old.disk.now.seen read.journal read.reads).commits.earlier ∙ sym (λ i. ((book i).state (number i) session).next);
         writes = refl;
         calls = tt;
+        holds = refl;
       };
       apart = λ connection other session another here there one. none_at old.held connection session down.none here;
     }

@@ -70,6 +70,7 @@ fn core_of(alloc: Global, log: Log, journal: Journal, grants: Grants) -> Result<
     let tables = tables_of(alloc, base, entries.as_slice())?;
     Ok(Core {
         tables,
+        commits: 0,
         book,
         source,
         log,

@@ -19,4 +19,4 @@ commit-requires-2-clause-may g c = may_be_stored c.args.core.now (g.D.Disk.state
 pub returns : goal.returns
 returns g c =
     let state = g.D.Disk.state in
-    rw c.stored.ensures (commit_stores c.args.core.now (state c.args.disk.now) c.args.entry.now c.apply.new.self c.commit.new.self c.commit-2.new.self (state c.commit-2.new.disk) c.commit-2.result c.requires.fits c.requires.may c.in_ok-commit.ensures.ok c.in_ok-apply.ensures.ok c.commit-2.ensures)
+    rw c.stored.ensures (commit_stores c.args.core.now (state c.args.disk.now) c.args.entry.now c.apply.new.self c.counted-core.result c.commit.new.self c.commit-2.new.self (state c.commit-2.new.disk) c.commit-2.result c.requires.fits c.requires.may c.in_ok-commit.ensures.ok c.in_ok-apply.ensures.ok c.counted-core.ensures.counted c.counted-core.ensures.rises c.commit-2.ensures)

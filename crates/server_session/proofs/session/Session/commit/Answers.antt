@@ -1,9 +1,6 @@
-use Rattle.std.proofs.Common.{List, sym, ◌∙◌, ap, subst}
+use Rattle.std.proofs.Common.{sym, ◌∙◌, ap}
 use Rattle.std.proofs.lemmas.Result.{err_from_is_err_and}
-use Rattle.std.specs.Option.{option_copied}
 use Rattle.ltxid_book.specs.Sessions.{sessions_in, can_commit}
-use Rattle.stmt_meaning.specs.Reads.{Read, IsConflict}
-use Rattle.table_txn.specs.Readings.{AreReadings}
 use Rattle.server_session.specs.SeenSession.{SeenSession}
 use Rattle.server_session.proofs.Lifting.{lacked_nothing}
 use Rattle.server_session.proofs.Reaching.{marked_told, blocked_told, conflict_told, stored_so}
@@ -31,7 +28,7 @@ returns-then-is_some g c =
     let at = c.conflicts.result in
     conflict_told c.args.replay c.args.call.now c.args.answers c.args.draws core (g.D.Disk.state c.args.disk.now) c.args.self.now c.requires.fits c.requires.belongs c.in_ok-told-2.told c.give_up-then-is_some.new.self at c.if-replay.false
     (ap (λ (s : SeenSession). can_commit (sessions_in core.book) s.ltxid) (sym c.self.view_is) ∙ sym c.if-not-can_commit.ensures)
-    (subst (λ (s : SeenSession). (reads : List Read) → AreReadings s.txn.readings reads → IsConflict reads core.tables.rows (option_copied at)) c.self.view_is c.conflicts.ensures)
+    c.conflicts.ensures
     (sym c.if-is_some.ensures) c.in_ok-told-2.ensures.told c.in_ok-told-2.ensures.seen
 
 pub returns : goal.returns
@@ -41,5 +38,5 @@ returns g c =
     let at = c.conflicts.result in
     stored_so c.args.replay c.args.call.now c.args.answers c.args.draws core (state c.args.disk.now) c.args.self.now c.requires.fits c.requires.belongs at c.store.result c.store.new.self c.store.new.core (state c.store.new.disk) c.if-replay.false
     (ap (λ (s : SeenSession). can_commit (sessions_in core.book) s.ltxid) (sym c.self.view_is) ∙ sym c.if-not-can_commit.ensures)
-    (subst (λ (s : SeenSession). (reads : List Read) → AreReadings s.txn.readings reads → IsConflict reads core.tables.rows (option_copied at)) c.self.view_is c.conflicts.ensures)
+    c.conflicts.ensures
     (sym c.if-is_some.ensures) c.store.ensures

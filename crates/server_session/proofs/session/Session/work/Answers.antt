@@ -13,7 +13,7 @@ use Rattle.server_session.specs.Running.{HasRunOver, RunsOver}
 use Rattle.server_session.specs.SeenSession.{SeenSession}
 use Rattle.server_session.specs.Serving.{Serves, commits_as}
 use Rattle.server_session.proofs.Quiet.{noting}
-use Rattle.server_session.proofs.Worked.{core_after, err_is, ground_of, seen_after, start_at, work_answered, work_belongs, work_committed, work_ended, work_fits, work_lacked}
+use Rattle.server_session.proofs.Worked.{core_after, err_is, ground_of, seen_is, start_at, work_answered, work_belongs, work_committed, work_ended, work_fits, work_lacked}
 use Rattle.server_session.proofs.session.Session.work.Goals as goal
 
 pub returns-in_err-answers : goal.returns-in_err-answers
@@ -54,10 +54,11 @@ commit-requires g c =
     let desk : AtDesk = record { opening = c.run_over.new.source; left = c.run_over.new.kept; log = c.run_over.new.log; disk = state c.run_over.new.disk } in
     let over = subst (λ (s : SeenSession). HasRunOver c.args.now (ground_of core s statements) (start_at core c.in_ok-left.left disk) c.in_ok-answers.field-0 c.run_over.new.txn desk) c.self.view_is c.in_ok-answers.ensures in
     let answers = c.in_ok-answers-2.answers in
+    let same = seen_is core _ old c.run_over.new.txn c.or-self-inside.result c.self.view_is c.or-self-inside.ensures in
     record {
       fits = work_fits statements c.args.commit c.args.replay c.args.kept.now c.args.now old core disk c.requires.fits c.requires.belongs c.args.call.now c.requires.call c.in_ok-left.left c.in_ok-left.ensures
           c.in_ok-answers.field-0 c.run_over.new.txn desk over answers c.in_ok-answers-2.ensures;
-      belongs = subst (λ (s : SeenSession). Belongs (core_after core desk) (seen_after s c.run_over.new.txn)) (sym c.self.view_is)
+      belongs = subst (λ (s : SeenSession). Belongs (core_after core desk) s) (sym same)
           (work_belongs statements c.args.commit c.args.replay c.args.kept.now c.args.now old core disk c.requires.fits c.requires.belongs c.args.call.now c.requires.call c.in_ok-left.left c.in_ok-left.ensures
           c.in_ok-answers.field-0 c.run_over.new.txn desk over answers c.in_ok-answers-2.ensures);
       made = c.requires.made;
@@ -74,7 +75,8 @@ returns-then-ends_committed g c =
     let over = subst (λ (s : SeenSession). HasRunOver c.args.now (ground_of core s statements) (start_at core c.in_ok-left.left disk) c.in_ok-answers.field-0 c.run_over.new.txn desk) c.self.view_is c.in_ok-answers.ensures in
     let answers = c.in_ok-answers-2.answers in
     let ends : ends_committed answers ≡ true = ap ends_committed (sym c.as_slice.ensures) ∙ (sym c.ends_committed.ensures ∙ c.if-ends_committed.true) in
-    let served = subst (λ (s : SeenSession). Serves (commits_as c.args.replay c.args.call.now answers c.in_ok-answers.field-0.draws) 1 c.commit.result (seen_after s c.run_over.new.txn) (core_after core desk) desk.disk c.commit.new.self c.commit.new.core (state c.commit.new.disk)) c.self.view_is c.commit.ensures in
+    let same = seen_is core _ old c.run_over.new.txn c.or-self-inside.result c.self.view_is c.or-self-inside.ensures in
+    let served = subst (λ (s : SeenSession). Serves (commits_as c.args.replay c.args.call.now answers c.in_ok-answers.field-0.draws) 1 c.commit.result s (core_after core desk) desk.disk c.commit.new.self c.commit.new.core (state c.commit.new.disk)) same c.commit.ensures in
     work_committed statements c.args.commit c.args.replay c.args.kept.now c.args.now old core disk c.requires.fits c.requires.belongs c.args.call.now c.requires.call c.in_ok-left.left c.in_ok-left.ensures
     c.in_ok-answers.field-0 c.run_over.new.txn desk over answers c.in_ok-answers-2.ensures
     c.commit.result c.commit.new.self c.commit.new.core (state c.commit.new.disk) ends served
@@ -105,8 +107,9 @@ returns g c =
     let answers = c.in_ok-answers-2.answers in
     let draws = c.in_ok-answers.field-0.draws in
     let open_still : ends_committed answers ≡ false = ap ends_committed (sym c.as_slice.ensures) ∙ (sym c.ends_committed.ensures ∙ c.if-ends_committed.false) in
-    let seen = subst (λ (s : SeenSession). c.answer.new.self ≡ noting (seen_after s c.run_over.new.txn) (piece_of c.args.call.now answers draws)) c.self.view_is c.in_ok-told.ensures.seen in
-    let said = c.in_ok-told.ensures.told ∙ ap (λ (s : SeenSession). down.Reply answers draws s.ltxid) c.self.view_is in
+    let same = seen_is core _ old c.run_over.new.txn c.or-self-inside.result c.self.view_is c.or-self-inside.ensures in
+    let seen = c.in_ok-told.ensures.seen ∙ ap (λ (s : SeenSession). noting s (piece_of c.args.call.now answers draws)) same in
+    let said = c.in_ok-told.ensures.told ∙ ap (λ (s : SeenSession). down.Reply answers draws s.ltxid) same in
     work_answered statements c.args.commit c.args.replay c.args.kept.now c.args.now old core disk c.requires.fits c.requires.belongs c.args.call.now c.requires.call c.in_ok-left.left c.in_ok-left.ensures
     c.in_ok-answers.field-0 c.run_over.new.txn desk over answers c.in_ok-answers-2.ensures
     c.in_ok-told.told c.answer.new.self open_still c.requires.made said seen
