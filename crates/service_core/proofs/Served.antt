@@ -1,7 +1,7 @@
 -- A frame that was answered.
 use Rattle.std.proofs.Common.{◌≡◌, ◌∙◌, ◌+◌, ◌*◌, ◌^◌, ◌<◌, ◌≤◌, ◌==◌, ℕ, Bool, true, false, refl, sym, ap, subst, List, [], ◌∷◌, ◌++◌, length, arith}
-use Rattle.std.specs.Prelude.{◌≢◌, not, IsTrue, Option, Some, None, Result, IfOk, if◌then◌else◌}
-use Rattle.std.specs.Ordering.{nat_cmp, is_eq}
+use Rattle.std.proofs.lemmas.Bool.Decides.{nat_tests}
+use Rattle.std.specs.Prelude.{nat_eq, ◌≢◌, not, IsTrue, Option, Some, None, Result, IfOk, if◌then◌else◌}
 use Rattle.disk_model.specs.Disk.{DiskState, Lowered}
 use Rattle.svc_values.specs.declared.entry.SessionId.{SessionId}
 use Rattle.svc_values.specs.declared.frame.Up.{Up}
@@ -38,7 +38,7 @@ use Rattle.service_core.proofs.Faulty.{still_none}
 use Rattle.service_core.proofs.Gained.{added_grew, adds_between, grew_base, book_stored, records_more, stored_between, blocks_between}
 use Rattle.service_core.proofs.Limits.{IfMade, Limits, limits_so}
 use Rattle.service_core.proofs.Splits.{stays_between}
-use Rattle.service_core.proofs.Standing.{later_call, living_is, one_less, seen_with}
+use Rattle.service_core.proofs.Standing.{later_call, living_is, none_more, seen_with}
 use Rattle.service_core.proofs.Taken.{IsReady, StaysSo, made_ready, not_fewer, taken_counted, others_apart, session_shown, stays_so, taken_held}
 
 -- ---- stops
@@ -55,10 +55,10 @@ data At (connection : ℕ) (new : Session) (rest : Held) (other : ℕ) (another 
   Other : held_at rest other ≡ Some (Some another) → At connection new rest other another
 
 at_after : (connection : ℕ) (new : Session) (rest after : Held) (other : ℕ) (another : Session) → Holds connection (kept_of new) rest after → held_at after other ≡ Some (Some another) → At connection new rest other another
-at_after connection new rest after other another put at = by (is_eq (nat_cmp connection other)) (same_number connection other) (sym (put other) ∙ at)
+at_after connection new rest after other another put at = by (nat_eq connection other) (same_number connection other) (sym (put other) ∙ at)
   where
-    same_number : (a b : ℕ) → is_eq (nat_cmp a b) ≡ true → b ≡ a
-    same_number a b is = grind arith
+    same_number : (a b : ℕ) → nat_eq a b ≡ true → b ≡ a
+    same_number a b is = grind (arith, nat_tests)
 
     own : (alive : Bool) → is_alive new.life ≡ alive → other ≡ connection → (if alive then Some (Some new) else None) ≡ Some (Some another) → At connection new rest other another
     own true alive number same = Own number (let e : ◌≡◌ {A = Option (Option Session)} (Some (Some new)) (Some (Some another)) = same in cc) alive
@@ -70,7 +70,7 @@ at_after connection new rest after other another put at = by (is_eq (nat_cmp con
 
 -- what is shown of it
 shown_after : (ends alive own : Bool) (new : Session) (session : SessionId) (before : Option (Option SessionId)) → alive ≡ not ends → id_of new ≡ session
-    → (if own then shown (if alive then Some (Some new) else None) else (if own then None else before)) ≡ (if ends then (if own then None else before) else (if own then Some (Some session) else before))
+    → (if own then shown (if alive then Some (Some new) else None) else (if own then Some None else before)) ≡ (if ends then (if own then None else before) else (if own then Some (Some session) else before))
 shown_after true true own new session before is same = absurd (let no : ⊥ = cc in no)
 shown_after true false true new session before is same = refl
 shown_after true false false new session before is same = refl
@@ -110,13 +110,13 @@ module _ (grants : Grants) (disk end : DiskState) (core later : Core) (held rest
       limits.made (omega (arith, few, up.room, served.belongs.incarnation, stay.incarnation), omega (arith, few, up.few, own.numbered, stay.number, more.1), omega (arith, few, number, limits.number))
 
   apart_from : (other : ℕ) (another : Session) → held_at rest other ≡ Some (Some another) → another.ltxid.session ≢ session.ltxid.session
-  apart_from other another at = others_apart grants disk core held rest notes connection other session another made up taken.session_is taken.gone at
+  apart_from other another at = others_apart grants disk core held rest notes connection other session another made up taken.session_is taken.left at
 
   held_after : (other : ℕ) (another : Session) → At connection new rest other another → IsHeld later made another
   held_after other another (Own number is alive) =
       subst (λ (s : Session). IsHeld later made s) (sym is) (record { reads = stay.reads; noted = stay.noted; belongs = served.belongs; lives = alive; numbered = omega (arith, own.numbered, stay.number) })
   held_after other another (Other at) =
-      let one = up.each other another (one_less connection held rest taken.gone other another at) in
+      let one = up.each other another (none_more connection held rest taken.left other another at) in
       let more = not_fewer core held notes.sessions connection session made taken.session_is in
       record { reads = one.reads; noted = one.noted; belongs = served.others another (apart_from other another at) one.belongs; lives = one.lives; numbered = omega (arith, one.numbered, more.0) }
 
@@ -125,13 +125,13 @@ module _ (grants : Grants) (disk end : DiskState) (core later : Core) (held rest
       let before = taken_counted grants disk core held notes connection session made up taken.session_is in
       let same : another.ltxid.number ≡ new.ltxid.number = ap (λ (s : Session). s.ltxid.number) is in
       omega (arith, before, limits.number, same)
-  counted_after other another (Other at) = later_call another.ltxid.number notes.calls (up.counted other another (one_less connection held rest taken.gone other another at))
+  counted_after other another (Other at) = later_call another.ltxid.number notes.calls (up.counted other another (none_more connection held rest taken.left other another at))
 
   apart_after : (one other : ℕ) (a b : Session) → At connection new rest one a → At connection new rest other b → b.ltxid.session ≡ a.ltxid.session → other ≡ one
   apart_after one other a b (Own number is alive) (Own number' is' alive') same = number' ∙ sym number
   apart_after one other a b (Own number is alive) (Other at) same = absurd (apart_from other b at (same ∙ ap (λ (s : Session). s.ltxid.session) is ∙ stay.number))
   apart_after one other a b (Other at) (Own number is alive) same = absurd (apart_from one a at (sym same ∙ ap (λ (s : Session). s.ltxid.session) is ∙ stay.number))
-  apart_after one other a b (Other at) (Other at') same = up.apart one other a b (one_less connection held rest taken.gone one a at) (one_less connection held rest taken.gone other b at') same
+  apart_after one other a b (Other at) (Other at') same = up.apart one other a b (none_more connection held rest taken.left one a at) (none_more connection held rest taken.left other b at') same
 
   unmade_after : (number : ℕ) → made < number → Belongs later (unmade later number)
   unmade_after number above =
@@ -164,7 +164,7 @@ module _ (grants : Grants) (disk end : DiskState) (core later : Core) (held rest
 
   module _ (start : Base) (history : List Happened) (answered : IsTrue (is_answered told)) (came : Came start history (StandsUp disk core held notes.sessions)) where
     ready : Came start history (IsReady disk core rest made session)
-    ready = made_ready grants disk core held rest notes connection session made start history taken.gone taken.session_is came
+    ready = made_ready grants disk core held rest notes connection session made start history taken.left taken.session_is came
 
     one : Happened
     one = Served (session_of session.ltxid) now frame told
@@ -238,7 +238,7 @@ module _ (grants : Grants) (disk end : DiskState) (core later : Core) (held rest
     unfolding old_sess new_sess
     living_so other =
         living_is connection (kept_of new) rest after put other
-        ∙ ap (λ (l : Option (Option SessionId)). if other == connection then shown (kept_of new) else l) (living_is connection None held rest taken.gone other)
+        ∙ ap (λ (l : Option (Option SessionId)). if other == connection then shown (kept_of new) else l) (living_is connection (Some None) held rest taken.left other)
         ∙ shown_after (ends_session frame told) (is_alive new.life) (other == connection) new (session_of session.ltxid) (living_of held other) ends_is stays.session
         ∙ by (ends_session frame told)
       where

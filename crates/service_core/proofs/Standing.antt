@@ -1,7 +1,7 @@
 -- What a service is seen as, after the calls that leave its store and the plain server beside it.
 use Rattle.std.proofs.Common.{◌≡◌, ◌+◌, ◌≤◌, ◌∙◌, ℕ, Bool, true, false, refl, sym, ap, subst, List, [], arith}
-use Rattle.std.specs.Prelude.{◌==◌, Option, Some, None, option_map, is_some, if◌then◌else◌}
-use Rattle.std.specs.Ordering.{nat_cmp, is_eq}
+use Rattle.std.proofs.lemmas.Bool.Decides.{nat_tests}
+use Rattle.std.specs.Prelude.{nat_eq, ◌==◌, Option, Some, None, option_map, is_some, if◌then◌else◌}
 use Rattle.disk_model.specs.Disk.{DiskState}
 use Rattle.mutable_values.specs.declared.grants.Grants.{Grants}
 use Rattle.server_model.specs.Base.{Base}
@@ -86,30 +86,30 @@ fewer_sound : (grants : Grants) (disk : DiskState) (core : Option Core) (held le
 fewer_sound grants disk None held less notes fewer empty down = none_down disk held less notes (empty refl) down
 fewer_sound grants disk (Some core) held less notes fewer empty up = fewer_up grants disk core held less notes fewer up
 
--- a connection that was made has no session yet
-none_more : (connection : ℕ) (old new : Held) → Holds connection (Some None) old new → HasNoMore old new
-none_more connection old new holds other session at = by (is_eq (nat_cmp connection other)) (sym (holds other) ∙ at)
+-- a connection that was made, or from which the session was taken, has none
+pub none_more : (connection : ℕ) (old new : Held) → Holds connection (Some None) old new → HasNoMore old new
+none_more connection old new holds other session at = by (nat_eq connection other) (sym (holds other) ∙ at)
   where
     by : (own : Bool) → (if own then Some None else held_at old other) ≡ Some (Some session) → held_at old other ≡ Some (Some session)
     by true is = absurd (let e : ◌≡◌ {A = Option (Option Session)} (Some None) (Some (Some session)) = is in cc)
     by false is = is
 
-pub one_less : (connection : ℕ) (old new : Held) → Holds connection None old new → HasNoMore old new
-one_less connection old new holds other session at = by (is_eq (nat_cmp connection other)) (sym (holds other) ∙ at)
+one_less : (connection : ℕ) (old new : Held) → Holds connection None old new → HasNoMore old new
+one_less connection old new holds other session at = by (nat_eq connection other) (sym (holds other) ∙ at)
   where
     by : (own : Bool) → (if own then None else held_at old other) ≡ Some (Some session) → held_at old other ≡ Some (Some session)
     by true is = absurd (let e : ◌≡◌ {A = Option (Option Session)} None (Some (Some session)) = is in cc)
     by false is = is
 
 -- the tests of two numbers are one
-same_test : (a b : ℕ) → is_eq (nat_cmp a b) ≡ (b == a)
-same_test a b = grind arith
+same_test : (a b : ℕ) → nat_eq a b ≡ (b == a)
+same_test a b = grind (arith, nat_tests)
 
 -- what the connections show
 pub living_is : (connection : ℕ) (one : Option (Option Session)) (old new : Held) → Holds connection one old new
     → (other : ℕ) → living_of new other ≡ (if other == connection then shown one else living_of old other)
 living_is connection one old new holds other =
-    ap (option_map (option_map id_of)) (holds other) ∙ by (is_eq (nat_cmp connection other)) (other == connection) (same_test connection other)
+    ap (option_map (option_map id_of)) (holds other) ∙ by (nat_eq connection other) (other == connection) (same_test connection other)
   where
     by : (own test : Bool) → own ≡ test → shown (if own then one else held_at old other) ≡ (if test then shown one else living_of old other)
     by true true same = refl

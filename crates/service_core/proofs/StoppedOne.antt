@@ -64,7 +64,7 @@ module _ (grants : Grants) (disk end : DiskState) (core : Core) (held rest : Hel
 
   module _ (start : Base) (history : List Happened) (came : Came start history (StandsUp disk core held notes.sessions)) where
     ready : Came start history (IsReady disk core rest made session)
-    ready = made_ready grants disk core held rest notes connection session made start history taken.gone taken.session_is came
+    ready = made_ready grants disk core held rest notes connection session made start history taken.left taken.session_is came
 
     pub one_came : (image : List ℕ) → MayLeave end.now image → Came start (history ++ Served (session_of session.ltxid) now frame Stopped ∷ []) (StandsDown grants false image)
     one_came image left = stopped_came grants disk end core held notes now frame session own.reads own.noted up stopped reads_now rest made start history ready image left

@@ -1,7 +1,7 @@
 -- The session that serves a connection, and what stands beside it.
 use Rattle.std.proofs.Common.{◌≡◌, ◌≢◌, ◌∙◌, ◌+◌, ◌≤◌, ℕ, Bool, true, refl, sym, ap, subst, List, [], ◌∷◌, ◌++◌, inl, inr, append-nil, arith}
-use Rattle.std.specs.Prelude.{Option, Some, None, Result, IfOk, if◌then◌else◌}
-use Rattle.std.specs.Ordering.{nat_cmp, is_eq}
+use Rattle.std.proofs.lemmas.Bool.Decides.{nat_tests}
+use Rattle.std.specs.Prelude.{nat_eq, Option, Some, None, Result, IfOk, if◌then◌else◌}
 use Rattle.disk_model.specs.Disk.{DiskState}
 use Rattle.svc_values.specs.declared.entry.SessionId.{SessionId}
 use Rattle.svc_values.specs.declared.frame.Up.{Up}
@@ -31,7 +31,7 @@ use Rattle.service_core.specs.Seeing.{Attends, Came, StandsUp, state_of, store_o
 use Rattle.service_core.specs.Sound.{IsHeld, IsUp, unmade}
 use Rattle.service_core.specs.Taking.{IsSessionOf}
 use Rattle.service_core.proofs.Splits.{Between, more_between}
-use Rattle.service_core.proofs.Standing.{HasNoMore, one_less, seen_with}
+use Rattle.service_core.proofs.Standing.{HasNoMore, none_more, seen_with}
 use Rattle.service_core.specs.InnerHonest.{store_is}
 
 -- ---- a plain server's core
@@ -86,25 +86,29 @@ pub not_fewer : (core : Core) (held : Held) (sessions connection : ℕ) (session
 not_fewer core held sessions connection session made (inl is) = (omega (arith, is.1), omega (arith, is.1))
 not_fewer core held sessions connection session made (inr is) = (omega (arith, is.2), omega (arith, is.2))
 
--- it is gone where it was taken out
-pub gone_at : (connection : ℕ) (held rest : Held) → Holds connection None held rest → held_at rest connection ≡ None
-gone_at connection held rest gone = gone connection ∙ ap (λ (b : Bool). if b then None else held_at held connection) (itself connection)
+-- its connection has none where it was taken out
+left_at : (connection : ℕ) (held rest : Held) → Holds connection (Some None) held rest → held_at rest connection ≡ Some None
+left_at connection held rest left = left connection ∙ ap (λ (b : Bool). if b then Some None else held_at held connection) (itself connection)
   where
-    itself : (a : ℕ) → is_eq (nat_cmp a a) ≡ true
-    itself a = grind arith
+    itself : (a : ℕ) → nat_eq a a ≡ true
+    itself a = grind (arith, nat_tests)
 
-none_at : (connection other : ℕ) (session : Session) (held rest : Held) → Holds connection None held rest → held_at rest other ≡ Some (Some session) → other ≡ connection → ⊥
-none_at connection other session held rest gone at same =
-    let e : ◌≡◌ {A = Option (Option Session)} None (Some (Some session)) = sym (gone_at connection held rest gone) ∙ ap (held_at rest) (sym same) ∙ at in
+-- and lives on
+pub lives_on : (connection : ℕ) (held rest : Held) → Holds connection (Some None) held rest → held_at rest connection ≢ None
+lives_on connection held rest left none = let e : ◌≡◌ {A = Option (Option Session)} (Some None) None = sym (left_at connection held rest left) ∙ none in cc
+
+none_at : (connection other : ℕ) (session : Session) (held rest : Held) → Holds connection (Some None) held rest → held_at rest other ≡ Some (Some session) → other ≡ connection → ⊥
+none_at connection other session held rest left at same =
+    let e : ◌≡◌ {A = Option (Option Session)} (Some None) (Some (Some session)) = sym (left_at connection held rest left) ∙ ap (held_at rest) (sym same) ∙ at in
     let none : ⊥ = cc in none
 
 -- the sessions of the other connections are others
 pub others_apart : (grants : Grants) (disk : DiskState) (core : Core) (held rest : Held) (notes : Notes) (connection other : ℕ) (session another : Session) (made : ℕ) → IsUp grants disk core held notes
-    → IsSessionOf core held notes.sessions connection session made → Holds connection None held rest → held_at rest other ≡ Some (Some another) → another.ltxid.session ≢ session.ltxid.session
-others_apart grants disk core held rest notes connection other session another made up (inl is) gone at same =
-    none_at connection other another held rest gone at (up.apart connection other session another is.0 (one_less connection held rest gone other another at) same)
-others_apart grants disk core held rest notes connection other session another made up (inr is) gone at same =
-    let one = up.each other another (one_less connection held rest gone other another at) in
+    → IsSessionOf core held notes.sessions connection session made → Holds connection (Some None) held rest → held_at rest other ≡ Some (Some another) → another.ltxid.session ≢ session.ltxid.session
+others_apart grants disk core held rest notes connection other session another made up (inl is) left at same =
+    none_at connection other another held rest left at (up.apart connection other session another is.0 (none_more connection held rest left other another at) same)
+others_apart grants disk core held rest notes connection other session another made up (inr is) left at same =
+    let one = up.each other another (none_more connection held rest left other another at) in
     let number : session.ltxid.session ≡ notes.sessions + 1 = ap (λ (s : Session). s.ltxid.session) is.1 in
     let none : ⊥ = omega (arith, one.numbered, number, same) in none
 
@@ -171,18 +175,18 @@ next_ready disk core held rest sessions start history fewer came =
     next_is : next_session came.server ≡ sess_of (unmade core (sessions + 1)) []
     next_is = λ i. next_session (record came.server { core = record came.server.core { opening = came.stands.plain.opening i }; count = came.stands.count i })
 
-module _ (grants : Grants) (disk : DiskState) (core : Core) (held rest : Held) (notes : Notes) (connection : ℕ) (session : Session) (made : ℕ) (start : Base) (history : List Happened) (gone : Holds connection None held rest) where
+module _ (grants : Grants) (disk : DiskState) (core : Core) (held rest : Held) (notes : Notes) (connection : ℕ) (session : Session) (made : ℕ) (start : Base) (history : List Happened) (left : Holds connection (Some None) held rest) where
   pub made_ready : IsSessionOf core held notes.sessions connection session made → Came start history (StandsUp disk core held notes.sessions) → Came start history (IsReady disk core rest made session)
   made_ready (inl is) came = record {
     server = came.server;
     runs = came.runs;
     is_base = came.is_base;
     stands = record {
-      stands = record { power = came.stands.power; plain = came.stands.plain; count = came.stands.count ∙ sym is.1; attends = λ other another at. came.stands.attends other another (one_less connection held rest gone other another at) };
+      stands = record { power = came.stands.power; plain = came.stands.plain; count = came.stands.count ∙ sym is.1; attends = λ other another at. came.stands.attends other another (none_more connection held rest left other another at) };
       own = came.stands.attends connection session is.0;
     };
   }
-  made_ready (inr is) came = subst (λ (s : Session). Came start history (IsReady disk core rest made s)) (sym is.1) (subst (λ n. Came start history (IsReady disk core rest n (unmade core (notes.sessions + 1)))) (sym is.2) (next_ready disk core held rest notes.sessions start history (one_less connection held rest gone) came))
+  made_ready (inr is) came = subst (λ (s : Session). Came start history (IsReady disk core rest made s)) (sym is.1) (subst (λ n. Came start history (IsReady disk core rest n (unmade core (notes.sessions + 1)))) (sym is.2) (next_ready disk core held rest notes.sessions start history (none_more connection held rest left) came))
 
 -- ---- what is shown of it
 

@@ -1,24 +1,22 @@
 -- The connections that a service holds, each with its session once a frame was served on it.
-use Rattle.std.specs.Prelude.{◌≡◌, ℕ, List, Option, option_map, if◌then◌else◌}
-use Rattle.std.specs.Ordering.{nat_cmp, is_eq}
-use Rattle.std.specs.BTreeMap.{is_at}
+use Rattle.std.specs.Prelude.{◌≡◌, ℕ, List, Option, nat_eq, option_map, if◌then◌else◌}
 use Rattle.std.specs.Map.{lookup}
 use Rattle.svc_values.specs.declared.entry.SessionId.{SessionId}
 use Rattle.svc_values.specs.Identifiers.{session_of}
 use Rattle.server_model.specs.Seen.{Connections as Living}
 use Rattle.server_session.specs.SeenSession.{SeenSession as Session}
 
--- in order of their numbers
+-- each once, by its number
 abbrev pub Held : Type 0
 Held = List (ℕ × Option Session)
 
 -- the connection of this number, if it lives
 abbrev pub held_at : Held → ℕ → Option (Option Session)
-held_at held connection = lookup (is_at (nat_cmp connection)) held
+held_at held connection = lookup (nat_eq connection) held
 
 -- one connection stands so, or is none, and the others as they stood
 abbrev pub Holds : ℕ → Option (Option Session) → Held → Held → Type 0
-Holds connection one old new = (other : ℕ) → held_at new other ≡ (if is_eq (nat_cmp connection other) then one else held_at old other)
+Holds connection one old new = (other : ℕ) → held_at new other ≡ (if nat_eq connection other then one else held_at old other)
 
 -- the session that a connection has
 abbrev pub id_of : Session → SessionId

@@ -10,10 +10,10 @@ abbrev pub IsSessionOf : Core → Held → (made connection : ℕ) → Session �
 IsSessionOf core held made connection session later =
     ((held_at held connection ≡ Some (Some session)) × (later ≡ made)) ⊎ ((held_at held connection ≡ Some None) × (session ≡ unmade core (made + 1)) × (later ≡ made + 1))
 
--- it was taken out with its connection
+-- it was taken out of its connection, which lives on with none
 pub record IsTaken (core : Core) (held : Held) (made connection : ℕ) (session : Session) (rest : Held) (later : ℕ) : Type 0 where
   pub session_is : IsSessionOf core held made connection session later
-  pub gone : Holds connection None held rest
+  pub left : Holds connection (Some None) held rest
 
 -- what a connection holds behind a frame
 abbrev pub kept_of : Session → Option (Option Session)

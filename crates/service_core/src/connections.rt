@@ -1,17 +1,20 @@
 //! The connections of a service, each with its session once a frame was served on it.
-ghost use Rattle.std.specs.Prelude.{◌≡◌, [], OnOk, Some, None};
+ghost use Rattle.std.specs.Prelude.{◌≡◌, ◌≢◌, [], OnOk, Some, None};
 ghost use Rattle.service_core.specs.Held.{Holds, held_at};
 
+use indexmap::IndexMap;
 use server_session::Session;
 use std::alloc::Global;
-use std::collections::BTreeMap;
 use std::marker::Model;
 use svc_values::NoMemory;
 
-/// The connections that live. Each call takes the logarithm of their number, but that `clear` is linear in it.
+/// The connections that live, by number. A session that is taken out leaves its connection in its
+/// place, so that serving a frame takes and frees no memory here. Each call takes the same time
+/// however many there are, but that `clear` is linear in their number, and so is a `put` that grows
+/// the map.
 #[derive(Drop)]
 pub struct Connections {
-    held: BTreeMap<u64, Option<Session>>,
+    held: IndexMap<u64, Option<Session>>,
 }
 
 impl Model for Connections {
@@ -28,7 +31,7 @@ impl Connections {
         ensures { result ≡ [] }
     {
         Connections {
-            held: BTreeMap::new(alloc),
+            held: IndexMap::new(alloc),
         }
     }
 
@@ -40,13 +43,34 @@ impl Connections {
         Ok(())
     }
 
-    /// Takes a connection out, and gives its session.
+    /// Takes the session of a connection out. The connection lives on, as one that has none yet.
     pub fn take(&mut self, connection: u64) -> Option<Option<Session>>
         ensures taken { result ≡ held_at self.old connection }
+        ensures left { held_at self.old connection ≢ None → Holds connection (Some None) self.old self.new }
+    {
+        match self.held.get_mut(&connection) {
+            Some(session) => Some(session.take()),
+            None => None,
+        }
+    }
+
+    /// Gives a living connection its session.
+    pub fn give(&mut self, connection: u64, session: Session)
+        requires { held_at self.old connection ≢ None }
+        ensures { Holds connection (Some (Some session)) self.old self.new }
+    {
+        match self.held.get_mut(&connection) {
+            Some(place) => *place = Some(session),
+            None => unreachable!(),
+        }
+    }
+
+    /// Ends a connection, with its session.
+    pub fn end(&mut self, connection: u64)
         ensures gone { Holds connection None self.old self.new }
         ensures same { held_at self.old connection ≡ None → self.new ≡ self.old }
     {
-        self.held.remove(&connection)
+        self.held.swap_remove(&connection);
     }
 
     /// Ends all connections.

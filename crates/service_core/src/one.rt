@@ -84,7 +84,7 @@ impl<D: StopDisk> OneService<D> {
         ensures reaped { Goes (SeesIn self.old) (SeesIn self.new) (λ old new. Reaped old connection new) }
         ensures base { HaveOneBase (bytes_in self.old) (bytes_in self.new) }
     {
-        self.held.take(connection);
+        self.held.end(connection);
         self.notes.calls += 1;
     }
 

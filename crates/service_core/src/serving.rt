@@ -1,5 +1,5 @@
 //! A frame, served by its connection's session.
-ghost use Rattle.std.specs.Prelude.{◌≡◌, ◌≢◌, ◌+◌, ◌<◌, ◌^◌, None, Some, OnOk, IfOk, IfSome, false};
+ghost use Rattle.std.specs.Prelude.{◌≡◌, ◌≢◌, ◌+◌, ◌<◌, ◌^◌, None, Some, IfOk, IfSome, false};
 ghost use Rattle.svc_values.specs.Identifiers.{ltxid_of};
 ghost use Rattle.canon_bytes.specs.UpBytes.{IsMadeUp};
 ghost use Rattle.canon_bytes.specs.DownBytes.{IsMadeDown};
@@ -17,7 +17,7 @@ use disk_model::{Disk, StopDisk};
 use server_model::ServeFault;
 use server_session::{Core, Session};
 use std::alloc::Global;
-use svc_values::{Down, Ltxid, NoMemory, Up};
+use svc_values::{Down, Ltxid, Up};
 
 /// The first identifier of the next session, which is counted.
 pub(crate) fn next_ltxid(core: &Core, made: &mut u64) -> Ltxid
@@ -33,7 +33,7 @@ pub(crate) fn next_ltxid(core: &Core, made: &mut u64) -> Ltxid
     }
 }
 
-/// Takes a connection out with its session: the one that it has, or the next, which is made.
+/// Takes the session of a connection out: the one that it has, or the next, which is made.
 fn take_session(
     alloc: Global,
     core: &Core,
@@ -52,15 +52,16 @@ fn take_session(
     }
 }
 
-/// Puts a session back to its connection, if it lives.
-fn put_back(held: &mut Connections, connection: u64, session: Session) -> Result<(), NoMemory>
-    requires { held_at held.old connection ≡ None }
-    ensures { OnOk result (Holds connection (kept_of session) held.old held.new) }
+/// Puts a session back to its connection, which ends with a session that has ended.
+fn put_back(held: &mut Connections, connection: u64, session: Session)
+    requires { held_at held.old connection ≢ None }
+    ensures { Holds connection (kept_of session) held.old held.new }
 {
     if session.is_live() {
-        held.put(connection, Some(session))?;
+        held.give(connection, session);
+    } else {
+        held.end(connection);
     }
-    Ok(())
 }
 
 impl<D: StopDisk> OneService<D> {
@@ -94,16 +95,11 @@ impl<D: StopDisk> OneService<D> {
             connection,
         );
         match session.serve(&mut core, &mut self.disk, frame, now) {
-            Ok(told) => match put_back(&mut self.held, connection, session) {
-                Ok(()) => {
-                    self.core = Some(core);
-                    Ok(told)
-                }
-                Err(NoMemory) => {
-                    self.notes.is_spent = true;
-                    Err(ServeFault::NoMemory)
-                }
-            },
+            Ok(told) => {
+                put_back(&mut self.held, connection, session);
+                self.core = Some(core);
+                Ok(told)
+            }
             Err(ServeFault::Stopped) => {
                 self.held.clear();
                 self.notes.is_settled = false;

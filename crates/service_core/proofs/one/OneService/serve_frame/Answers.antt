@@ -11,7 +11,7 @@ use Rattle.service_core.specs.Seeing.{LeavesIn, SeesIn, bytes_in}
 use Rattle.service_core.specs.Sound.{IsSound, IsUp}
 use Rattle.service_core.specs.Within.{Within}
 use Rattle.service_core.proofs.Serves.{serves, serves_made, serves_on_base, serves_soundly, stops, stops_on_base, stops_soundly, with_served, with_stopped}
-use Rattle.service_core.proofs.Taken.{gone_at, taken_held}
+use Rattle.service_core.proofs.Taken.{lives_on, taken_held}
 use Rattle.service_core.proofs.one.OneService.serve_frame.Goals as goal
 
 pub serve-requires-clause-lives : goal.serve-requires-clause-lives
@@ -29,7 +29,7 @@ serve-requires-clause-belongs g c =
     own.belongs
 
 pub put_back-requires : goal.put_back-requires
-put_back-requires g c = gone_at c.args.connection c.self.inside.held c.take_session-session.new.held c.take_session-session.ensures.gone
+put_back-requires g c = lives_on c.args.connection c.self.inside.held c.take_session-session.new.held c.take_session-session.ensures.left
 
 pub invariant_of-self : goal.invariant_of-self
 invariant_of-self g c live =
@@ -39,10 +39,10 @@ invariant_of-self g c live =
     let session = c.take_session-session.result in
     let taken = c.take_session-session.ensures in
     let is_up : old.core ≡ Some c.in-Some.core = sym c.in-Some.ensures.value in
-    serves_soundly old c.in-Some.core is_up (c.self.invariant live) c.take_session-session.new.held c.take_session-session.new.made c.args.connection c.args.now frame session c.left-self-inside.result c.left-self-inside.ensures taken end c.serve.new.core c.put_back.new.held c.in-Ok.told c.serve.new.self c.in-Ok-put_back.ensures c.in-Ok.ensures.served
+    serves_soundly old c.in-Some.core is_up (c.self.invariant live) c.take_session-session.new.held c.take_session-session.new.made c.args.connection c.args.now frame session c.left-self-inside.result c.left-self-inside.ensures taken end c.serve.new.core c.put_back.new.held c.in-Ok.told c.serve.new.self c.put_back.ensures c.in-Ok.ensures.served
 
-pub returns-in-Ok-put_back-clause-served : goal.returns-in-Ok-put_back-clause-served
-returns-in-Ok-put_back-clause-served g c =
+pub returns-in-Ok-clause-served : goal.returns-in-Ok-clause-served
+returns-in-Ok-clause-served g c =
     let old : Within = record { grants = c.self.inside.grants; disk = g.D.Disk.state c.self.inside.disk; core = c.self.inside.core; held = c.self.inside.held; notes = c.self.inside.notes } in
     let end = g.D.Disk.state c.serve.new.disk in
     let frame = c.args.frame.now in
@@ -50,12 +50,12 @@ returns-in-Ok-put_back-clause-served g c =
     let taken = c.take_session-session.ensures in
     let is_up : old.core ≡ Some c.in-Some.core = sym c.in-Some.ensures.value in
     let live = ap (λ (w : Within). w.notes.is_spent) c.self.view_is ∙ c.requires.live in
-    let new = with_served old c.in-Some.core is_up (c.self.invariant live) c.take_session-session.new.held c.take_session-session.new.made c.args.connection c.args.now frame session c.left-self-inside.result c.left-self-inside.ensures taken end c.serve.new.core c.put_back.new.held c.in-Ok.told c.serve.new.self c.in-Ok-put_back.ensures c.in-Ok.ensures.served in
+    let new = with_served old c.in-Some.core is_up (c.self.invariant live) c.take_session-session.new.held c.take_session-session.new.made c.args.connection c.args.now frame session c.left-self-inside.result c.left-self-inside.ensures taken end c.serve.new.core c.put_back.new.held c.in-Ok.told c.serve.new.self c.put_back.ensures c.in-Ok.ensures.served in
     subst (λ (w : Within). Goes (SeesIn w) (SeesIn new) (λ before behind. ServedOne before c.args.connection c.args.now frame (telling_of c.in-Ok.told) (LeavesIn new) behind)) {x = old} c.self.view_is
-    (serves old c.in-Some.core is_up (c.self.invariant live) c.take_session-session.new.held c.take_session-session.new.made c.args.connection c.args.now frame session c.left-self-inside.result c.left-self-inside.ensures taken end c.serve.new.core c.put_back.new.held c.in-Ok.told c.serve.new.self c.in-Ok-put_back.ensures c.in-Ok.ensures.served live (λ quiet. (c.in-Ok.ensures.silent quiet).0))
+    (serves old c.in-Some.core is_up (c.self.invariant live) c.take_session-session.new.held c.take_session-session.new.made c.args.connection c.args.now frame session c.left-self-inside.result c.left-self-inside.ensures taken end c.serve.new.core c.put_back.new.held c.in-Ok.told c.serve.new.self c.put_back.ensures c.in-Ok.ensures.served live (λ quiet. (c.in-Ok.ensures.silent quiet).0))
 
-pub returns-in-Ok-put_back-clause-made : goal.returns-in-Ok-put_back-clause-made
-returns-in-Ok-put_back-clause-made g c =
+pub returns-in-Ok-clause-made : goal.returns-in-Ok-clause-made
+returns-in-Ok-clause-made g c =
     let old : Within = record { grants = c.self.inside.grants; disk = g.D.Disk.state c.self.inside.disk; core = c.self.inside.core; held = c.self.inside.held; notes = c.self.inside.notes } in
     let end = g.D.Disk.state c.serve.new.disk in
     let frame = c.args.frame.now in
@@ -64,10 +64,10 @@ returns-in-Ok-put_back-clause-made g c =
     let is_up : old.core ≡ Some c.in-Some.core = sym c.in-Some.ensures.value in
     let live = ap (λ (w : Within). w.notes.is_spent) c.self.view_is ∙ c.requires.live in
     let few = subst (λ n. n < 2 ^ 48) (sym (ap (λ (w : Within). w.notes.calls) c.self.view_is)) c.requires.few in
-    serves_made old c.in-Some.core is_up (c.self.invariant live) c.take_session-session.new.held c.take_session-session.new.made c.args.connection c.args.now frame session c.left-self-inside.result c.left-self-inside.ensures taken end c.serve.new.core c.put_back.new.held c.in-Ok.told c.serve.new.self c.in-Ok-put_back.ensures c.in-Ok.ensures.served few
+    serves_made old c.in-Some.core is_up (c.self.invariant live) c.take_session-session.new.held c.take_session-session.new.made c.args.connection c.args.now frame session c.left-self-inside.result c.left-self-inside.ensures taken end c.serve.new.core c.put_back.new.held c.in-Ok.told c.serve.new.self c.put_back.ensures c.in-Ok.ensures.served few
 
-pub returns-in-Ok-put_back-clause-base : goal.returns-in-Ok-put_back-clause-base
-returns-in-Ok-put_back-clause-base g c =
+pub returns-in-Ok-clause-base : goal.returns-in-Ok-clause-base
+returns-in-Ok-clause-base g c =
     let old : Within = record { grants = c.self.inside.grants; disk = g.D.Disk.state c.self.inside.disk; core = c.self.inside.core; held = c.self.inside.held; notes = c.self.inside.notes } in
     let end = g.D.Disk.state c.serve.new.disk in
     let frame = c.args.frame.now in
@@ -75,7 +75,7 @@ returns-in-Ok-put_back-clause-base g c =
     let taken = c.take_session-session.ensures in
     let is_up : old.core ≡ Some c.in-Some.core = sym c.in-Some.ensures.value in
     let live = ap (λ (w : Within). w.notes.is_spent) c.self.view_is ∙ c.requires.live in
-    subst (λ (w : Within). HaveOneBase (bytes_in w) end.now.seen) {x = old} c.self.view_is (serves_on_base old c.in-Some.core is_up (c.self.invariant live) c.take_session-session.new.held c.take_session-session.new.made c.args.connection c.args.now frame session c.left-self-inside.result c.left-self-inside.ensures taken end c.serve.new.core c.put_back.new.held c.in-Ok.told c.serve.new.self c.in-Ok-put_back.ensures c.in-Ok.ensures.served)
+    subst (λ (w : Within). HaveOneBase (bytes_in w) end.now.seen) {x = old} c.self.view_is (serves_on_base old c.in-Some.core is_up (c.self.invariant live) c.take_session-session.new.held c.take_session-session.new.made c.args.connection c.args.now frame session c.left-self-inside.result c.left-self-inside.ensures taken end c.serve.new.core c.put_back.new.held c.in-Ok.told c.serve.new.self c.put_back.ensures c.in-Ok.ensures.served)
 
 pub invariant_of-self-in-Err-Stopped : goal.invariant_of-self-in-Err-Stopped
 invariant_of-self-in-Err-Stopped g c live =
