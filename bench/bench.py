@@ -103,6 +103,23 @@ def commits_document(commits, rows):
     return one_request([accounts(rows)], script)
 
 
+def beside_document(reads, every, rows):
+    """A transaction that reads a whole table so often, and a client that commits into another table beside it, which takes
+    part in each so manieth round: what does a read cost where others have committed since the one before?"""
+    reader = [[["count", "acc"]] for _ in range(reads)] + [[["commit"]]]
+    writer = [{"calls": [[["update", "log", n % 64, "bal", "plus", 1], ["commit"]]]} for n in range(reads // every)]
+    step = lambda client: [["go", client], ["serve", client], ["serve", client]]
+    schedule = [event for n in range(reads) for event in step(1) + (step(2) if n % every == 0 else [])]
+    return compact(
+        {
+            "service": {"pool": {"max": 2}},
+            "tables": [accounts(rows), {**accounts(64), "name": "log"}],
+            "clients": [{"requests": [{"calls": reader}]}, {"requests": writer}],
+            "schedule": schedule,
+        }
+    )
+
+
 def transfers(clients, calls):
     """So many clients that each submit so many transactions of one call."""
     call = lambda client, n: [["update", "acc", (client * calls + n) % 64, "bal", "plus", 1], ["commit"]]
@@ -244,6 +261,7 @@ CASES = {
     "updates": lambda: document_case("one transaction of updates", updates_document, [(256,), (1_023,)]),
     "reads": lambda: document_case("reads of a whole table in one transaction", reads_document, [(512, 1_000), (512, 10_000)]),
     "whole": lambda: document_case("a whole-table read, an update and a commit", commits_document, [(512, 1_000), (512, 10_000)]),
+    "beside": lambda: document_case("reads beside commits of others", beside_document, [(512, 64, 10_000), (512, 1, 10_000)]),
     "events": lambda: document_case("events of a schedule", events_document, [(1_000,), (10_000,), (100_000,)], 5),
     "crashes": lambda: document_case("calls of clients under crashes", crashes_document, [(16,), (64,)], 5),
     "openings": lambda: document_case("openings of a store", openings_document, [(200, 5_000), (2_000, 5_000)]),

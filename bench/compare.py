@@ -25,6 +25,8 @@ JOBS = {
     "one transaction of 8,184 updates": (bench.updates_document, (1_023,)),
     "512 reads of a whole table in one transaction": (bench.reads_document, (512, 10_000)),
     "512 times a count, an update and a commit": (bench.commits_document, (512, 10_000)),
+    "512 reads of a whole table beside commits of others": (bench.beside_document, (512, 1, 10_000)),
+    "the same beside few of them": (bench.beside_document, (512, 64, 10_000)),
 }
 
 
