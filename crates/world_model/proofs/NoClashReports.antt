@@ -23,7 +23,7 @@ use Rattle.server_model.specs.Runs.{Server}
 use Rattle.server_model.specs.Seen.{Seen}
 use Rattle.world_model.specs.Basic.{is_named}
 use Rattle.world_model.specs.Clients.{Client, Doing, Past, is_unfinished, reports_of, script_at}
-use Rattle.world_model.specs.Followed.{same_outcome, tells_steps}
+use Rattle.world_model.specs.Followed.{tells_steps}
 use Rattle.world_model.specs.Frames.{Sent}
 use Rattle.world_model.specs.Invariant.{Invariant, Orderly}
 use Rattle.world_model.specs.KeptLaws.{WholeRunsKeepInvariant}
@@ -130,7 +130,7 @@ module _ (orderly : RunsAreOrderly) (keeps : WholeRunsKeepInvariant) (document :
 
     sessions : pointwise same_session told.sessions course.report.sessions ≡ true
     sessions =
-        (and_parts (pointwise same_session told.sessions course.report.sessions) (pointwise same_outcome told.outcomes course.report.outcomes)
+        (and_parts (pointwise same_session told.sessions course.report.sessions) _
         (and_parts (tells_steps told course.report) (same_bool (is_some told.failed) (is_some course.report.failed)) (and_parts (length told.calls == length course.report.calls) _ right).1).0).0
 
     digests : (one other : List Answer) → do_not_clash one other ≡ (not (bytes_eq (t.setting.terms.digest one) (t.setting.terms.digest other)) || same_answers one other)

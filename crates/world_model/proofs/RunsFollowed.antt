@@ -1,7 +1,6 @@
 -- A whole run is followed: event by event through the schedule, and then through the finish.
 use Rattle.std.proofs.Common.{◌≡◌, refl, sym, ap, subst, ◌∙◌, append_assoc, append-nil, true, List, [], ◌∷◌, ◌++◌, Option, Some, None, if◌then◌else◌}
 use Rattle.std.specs.Prelude.{is_none, option_and_then}
-use Rattle.std.proofs.lemmas.Bool.{and_from}
 use Rattle.std.specs.Cmp.Lexicographic.{pointwise}
 use Rattle.outage_schedule.specs.declared.document.Document.{Document}
 use Rattle.outage_schedule.specs.declared.event.Event.{Event}
@@ -9,9 +8,8 @@ use Rattle.outage_schedule.specs.declared.item.Served.{Served}
 use Rattle.outage_schedule.specs.declared.note.Note.{Note}
 use Rattle.outage_schedule.specs.declared.request.RequestReport.{RequestReport}
 use Rattle.server_model.specs.Seen.{Seen}
-use Rattle.svc_values.specs.Identifiers.{same_session}
 use Rattle.world_model.specs.Finishing.{Place, AtServer, Finished, walk_finish}
-use Rattle.world_model.specs.Followed.{run_of, transcripts_of, same_outcome, tells_steps, ends_so}
+use Rattle.world_model.specs.Followed.{run_of, transcripts_of, tells_steps, ends_so}
 use Rattle.world_model.specs.KeptLaws.{OrderlyIsKept}
 use Rattle.world_model.specs.Machines.{start_of}
 use Rattle.world_model.specs.Reached.{Reached, Begins, GoesOn, IsFinishing, Scheduled, Finishes}
@@ -21,8 +19,7 @@ use Rattle.world_model.specs.Traced.{Traced}
 use Rattle.world_model.specs.Walking.{Walked, follow, walk}
 use Rattle.world_model.proofs.Items.{walk_more, finish_step}
 use Rattle.world_model.proofs.SameSelf.{each_self}
-use Rattle.world_model.proofs.TalkTests.{outcome_self}
-use Rattle.world_model.proofs.Tests.{session_self}
+use Rattle.world_model.proofs.TalkTests.{steps_self}
 
 -- THE SCHEDULE ------------------------------------------------------------------------------------
 
@@ -63,14 +60,10 @@ finishing_walk document _ _ _ _ _ (Finishes place later notes items more before 
 
 -- THE REPORT --------------------------------------------------------------------------------------
 
-report_self : (report : RequestReport) → tells_steps report report ≡ true
-report_self report =
-    and_from (pointwise same_session report.sessions report.sessions) (pointwise same_outcome report.outcomes report.outcomes) (each_self same_session session_self report.sessions) (each_self same_outcome outcome_self report.outcomes)
-
 pub runs_followed : RunsAreFollowed
 runs_followed document report seen t run shown =
     ap (ends_so report) ends ∙ ap (λ (told : List (List RequestReport)). pointwise (pointwise tells_steps) (transcripts_of t.machine) told) shown
-    ∙ each_self (pointwise tells_steps) (each_self tells_steps report_self) (transcripts_of t.machine)
+    ∙ each_self (pointwise tells_steps) (each_self tells_steps steps_self) (transcripts_of t.machine)
   where
     ends : run_of document report ≡ Some (t.machine, [])
     ends =

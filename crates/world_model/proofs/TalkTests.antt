@@ -15,7 +15,7 @@ use Rattle.world_model.specs.Settings.{Setting}
 use Rattle.world_model.specs.Clients.{Step, Doing, Past, Client}
 use Rattle.world_model.specs.Traced.{Traced, Course, course_over, course_now, courses_from, courses_of_clients, courses_of}
 use Rattle.world_model.specs.Conversing.{timed, inputs_of, first_talk, Converses, Talks, IsThrough, AreThrough, IsTalking, AllTalk}
-use Rattle.world_model.specs.Followed.{same_outcome, tells_steps}
+use Rattle.world_model.specs.Followed.{same_outcome, same_lists, tells_steps}
 use Rattle.run_clauses.specs.Reports.{report_of}
 use Rattle.world_model.specs.Script.{same_sends, is_act_of, may_all_come, acts_follow, place_of, is_conversation, are_conversations, reports_rightly, report_rightly}
 use Rattle.world_model.specs.Words.{dones_of}
@@ -85,17 +85,20 @@ talks_converse t all =
 abbrev reports_so : RequestReport → RequestReport → Bool
 reports_so told report = (length told.calls == length report.calls) && (tells_steps told report && same_bool (is_some told.failed) (is_some report.failed))
 
-pub outcome_self : (one : Outcome) → same_outcome one one ≡ true
+outcome_self : (one : Outcome) → same_outcome one one ≡ true
 outcome_self one =
     and_from (same_ltxid one.ltxid one.ltxid) (same_bool one.committed one.committed && same_bool one.completed one.completed) (ltxid_self one.ltxid)
     (and_from (same_bool one.committed one.committed) (same_bool one.completed one.completed) (bool_self one.committed) (bool_self one.completed))
 
+pub steps_self : (report : RequestReport) → tells_steps report report ≡ true
+steps_self report =
+    and_from (pointwise same_session report.sessions report.sessions) (pointwise same_outcome report.outcomes report.outcomes && same_lists report.tried report.tried) (each_self same_session session_self report.sessions)
+    (and_from (pointwise same_outcome report.outcomes report.outcomes) (same_lists report.tried report.tried) (each_self same_outcome outcome_self report.outcomes) (each_self (pointwise same_ltxid) (each_self same_ltxid ltxid_self) report.tried))
+
 report_self : (report : RequestReport) → reports_so report report ≡ true
 report_self report =
     and_from (length report.calls == length report.calls) (tells_steps report report && same_bool (is_some report.failed) (is_some report.failed)) (eq_to (length report.calls) (length report.calls) refl)
-    (and_from (tells_steps report report) (same_bool (is_some report.failed) (is_some report.failed))
-    (and_from (pointwise same_session report.sessions report.sessions) (pointwise same_outcome report.outcomes report.outcomes) (each_self _ session_self report.sessions) (each_self same_outcome outcome_self report.outcomes))
-    (bool_self (is_some report.failed)))
+    (and_from (tells_steps report report) (same_bool (is_some report.failed) (is_some report.failed)) (steps_self report) (bool_self (is_some report.failed)))
 
 pub talks_report : (t : Traced) → AllTalk t.setting.terms t.machine.clients → report_rightly t ≡ true
 talks_report t all =

@@ -1,6 +1,7 @@
 -- `Followed`: the notes and the served items of a report are those that its events lead to.
 use Rattle.std.specs.Prelude.{◌&&◌, Bool, false, List, [], ◌∷◌, map, Some, None, option_and_then}
 use Rattle.std.specs.Cmp.Lexicographic.{pointwise}
+use Rattle.svc_values.specs.declared.entry.Ltxid.{Ltxid}
 use Rattle.svc_values.specs.Identifiers.{same_ltxid, same_session}
 use Rattle.outage_schedule.specs.declared.document.Document.{Document}
 use Rattle.outage_schedule.specs.declared.request.Outcome.{Outcome}
@@ -26,10 +27,17 @@ transcripts_of m = map (λ client. reports_of client.past) m.clients
 abbrev pub same_outcome : Outcome → Outcome → Bool
 same_outcome a b = same_ltxid a.ltxid b.ltxid && (same_bool a.committed b.committed && same_bool a.completed b.completed)
 
--- A request's `sessions` are those that were lent to it or whose Hello it took, and its `outcomes` are the answers that it took, each with
--- the identifier that was asked.
+-- as many lists, each with the same identifiers in the same order
+abbrev pub same_lists : List (List Ltxid) → List (List Ltxid) → Bool
+same_lists lists others = pointwise (pointwise same_ltxid) lists others
+
+-- A request's `sessions` are those that were lent to it or whose Hello it took, its `outcomes` are the answers that it took, each with
+-- the identifier that was asked, and its `tried` are, transaction by transaction, the identifiers under which it may have committed: those
+-- of the calls with a commit that it sent without the mark and that have no reply, or one that ends with Committed (`tried_of` of
+-- client_model, which is that of run_clauses).
 abbrev pub tells_steps : RequestReport → RequestReport → Bool
-tells_steps told reported = pointwise same_session told.sessions reported.sessions && pointwise same_outcome told.outcomes reported.outcomes
+tells_steps told reported =
+    pointwise same_session told.sessions reported.sessions && (pointwise same_outcome told.outcomes reported.outcomes && same_lists told.tried reported.tried)
 
 abbrev pub tell_steps : List (List RequestReport) → List (List RequestReport) → Bool
 tell_steps told reported = pointwise (pointwise tells_steps) told reported

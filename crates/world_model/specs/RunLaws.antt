@@ -9,6 +9,7 @@ use Rattle.run_clauses.specs.Horizons.{last_horizon}
 use Rattle.server_model.specs.Seen.{Seen}
 use Rattle.world_model.specs.Followed.{transcripts_of, followed}
 use Rattle.world_model.specs.Invariant.{Orderly}
+use Rattle.world_model.specs.Once.{tell_tried}
 use Rattle.world_model.specs.Reached.{Reached, IsRun}
 use Rattle.world_model.specs.Ready.{all_requests_right}
 use Rattle.world_model.specs.Traced.{Traced}
@@ -17,6 +18,10 @@ use Rattle.world_model.specs.Traced.{Traced}
 abbrev pub RunsAreFollowed : Type 0
 RunsAreFollowed =
     (document : Document) (report : Report) (seen : Seen) (t : Traced) → IsRun document report.notes report.served seen t → report.clients ≡ transcripts_of t.machine → IsTrue (followed document report)
+
+-- The lists of `tried` that a run ends with are those of the rule of run_clauses, by the sendings that the steps of each request tell.
+abbrev pub RunsTellTried : Type 0
+RunsTellTried = (document : Document) (notes : List Note) (items : List Served) (seen : Seen) (t : Traced) → IsTrue (all_requests_right document) → IsRun document notes items seen t → IsTrue (tell_tried t)
 
 -- wherever a run has come to, it is orderly
 abbrev pub RunsAreOrderly : Type 0
