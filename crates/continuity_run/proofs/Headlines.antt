@@ -1,6 +1,9 @@
 -- What the report of a run that is over says of its document.
-use Rattle.std.proofs.Common.{◌≡◌, arith, ◌∙◌, refl, sym, ap, ap₂, subst, ℕ, Bool, true, false, List, [], ◌∷◌, ◌++◌, length, drop, Option, Some, None, Result, Ok, Err}
-use Rattle.std.specs.Prelude.{IfOk, ◌==◌, ◌≤◌}
+use Rattle.std.proofs.Common.{◌≡◌, arith, ◌∙◌, refl, sym, ap, ap₂, subst, ℕ, Bool, true, false, List, [], ◌∷◌, ◌++◌, length, drop, map, Option, Some, None, Result, Ok, Err}
+use Rattle.std.specs.Prelude.{IfOk, ◌==◌, ◌≤◌, ℤ, if◌then◌else◌}
+use Rattle.std.specs.Option.{option_map}
+use Rattle.std.specs.Str.{bytes_eq}
+use Rattle.std.proofs.Math.Path.{fun_ext}
 use Rattle.std.proofs.lemmas.Bool.Decides.{nat_tests}
 use Rattle.disk_model.specs.Disk.{DiskState}
 use Rattle.json_form.proofs.Offered.{both_true}
@@ -8,6 +11,8 @@ use Rattle.svc_values.specs.declared.entry.Entry.{Entry}
 use Rattle.svc_values.specs.declared.entry.Ltxid.{Ltxid}
 use Rattle.stmt_meaning.specs.Serial.{Serial}
 use Rattle.mutable_values.specs.declared.grants.Grants.{Grants}
+use Rattle.mutable_values.specs.declared.source.SeqState.{SeqState}
+use Rattle.mutable_values.specs.Sources.{Opening, sequence_of}
 use Rattle.commit_log.specs.declared.journal.Journal.{Journal}
 use Rattle.commit_log.specs.Journals.{journal_of}
 use Rattle.outage_schedule.specs.declared.document.Document.{Document}
@@ -17,14 +22,16 @@ use Rattle.outage_schedule.specs.declared.report.Report.{Report}
 use Rattle.run_clauses.specs.Before.{journal_before, tables_of, start, shape}
 use Rattle.run_clauses.specs.Serial.{IsSerial, printed_tables}
 use Rattle.run_clauses.specs.Horizons.{last_horizon}
-use Rattle.run_clauses.specs.ServiceBase.{service_base}
+use Rattle.run_clauses.specs.ServiceBase.{sequences_of, service_base}
 use Rattle.run_clauses.specs.Stored.{stored}
-use Rattle.server_model.specs.Base.{Base, IsSound}
+use Rattle.server_model.specs.Base.{Base, Sequence, IsSound}
 use Rattle.server_model.specs.Core.{committed}
 use Rattle.server_model.specs.Laws.{RunsSerial}
 use Rattle.server_model.specs.Runs.{Happened, Server, Runs}
 use Rattle.server_model.specs.Seen.{ServiceState}
+use Rattle.server_model.specs.SetAside.{SetAside, ends_in, ends_of}
 use Rattle.server_session.specs.declared.shared.Core.{Core}
+use Rattle.server_session.specs.Fits.{IsSourceOf, sequence_in}
 use Rattle.server_session.specs.Plain.{IsStored}
 use Rattle.service_calls.specs.Kept.{HaveOneBase}
 use Rattle.service_core.specs.declared.notes.Notes.{Notes}
@@ -32,15 +39,16 @@ use Rattle.service_core.specs.Held.{Held}
 use Rattle.service_core.specs.Seeing.{Stands, SeesIn, bytes_in, store_in}
 use Rattle.service_core.specs.Sound.{IsSound as IsSoundIn}
 use Rattle.service_core.specs.Within.{Within}
+use Rattle.world_model.specs.Judged.{drawn_in}
 use Rattle.world_model.specs.Reached.{IsRun}
 use Rattle.world_model.specs.Reported.{IsReported}
 use Rattle.world_model.specs.Ready.{all_requests_right}
 use Rattle.world_model.proofs.Offered.{finishing_start}
 use Rattle.world_run.specs.declared.world.Ran.{Ran}
 use Rattle.continuity_run.specs.declared.store.Before.{Before}
-use Rattle.continuity_run.specs.Headline.{Headline, IsPrinted, IsReadFrom}
+use Rattle.continuity_run.specs.Headline.{Headline, IsReadFrom, image_if}
 use Rattle.continuity_run.proofs.Images.{image_is}
-use Rattle.continuity_run.specs.Reading.{IsReadOff, image_if}
+use Rattle.continuity_run.specs.Reading.{IsReadOff}
 use Rattle.continuity_run.specs.RunLaws.{RunsHold}
 use Rattle.continuity_run.specs.Runs.{HasRun}
 use Rattle.continuity_run.specs.Stores.{Counts}
@@ -55,6 +63,7 @@ record HasGained (start : Base) (history : List Happened) (journal : Journal) : 
   blocked : journal.blocked ≡ start.blocked ++ server.core.blocked
   alerts : journal.alerts ≡ start.alerts ++ server.core.alerts
   tables : committed server.core ≡ tables_of journal
+  source : IsSourceOf server.core.opening journal
   begins : server.core.base ≡ start
 
 gained_by : (start : Base) (history : List Happened) (server : Server) (journal : Journal) → Runs start history server → server.core.base ≡ start → IsStored server.core journal → HasGained start history journal
@@ -65,6 +74,7 @@ gained_by start history server journal runs begins stored = record {
   blocked = sym stored.blocked ∙ ap (λ (base : Base). base.blocked ++ server.core.blocked) begins;
   alerts = sym stored.alerts ∙ ap (λ (base : Base). base.alerts ++ server.core.alerts) begins;
   tables = stored.tables;
+  source = stored.source;
   begins = begins;
 }
 
@@ -86,9 +96,25 @@ drop_front (one ∷ front) back = drop_front front back
 behind : {A : Type 0} (front back all later : List A) (count : ℕ) → all ≡ front ++ back → count ≡ length front → later ≡ drop count all → later ≡ back
 behind front back all later count is many dropped = dropped ∙ (ap (λ (n : ℕ). drop n all) many ∙ (ap (λ (one : List _). drop (length front) one) is ∙ drop_front front back))
 
--- the store has the horizon and the entries of its journal
+-- where the values end that a source has set aside
+ends_as : (sequences : List SeqState) (name : List ℕ) → option_map (λ (sequence : SeqState). sequence.upto) (sequence_of sequences name) ≡ ends_in (map sequence_in sequences) name
+ends_as [] name = refl
+ends_as (sequence ∷ sequences) name = by (bytes_eq sequence.name name) (ends_as sequences name)
+  where
+    by : (own : Bool) → option_map (λ (one : SeqState). one.upto) (sequence_of sequences name) ≡ ends_in (map sequence_in sequences) name
+        → option_map (λ (one : SeqState). one.upto) (if own then Some sequence else sequence_of sequences name) ≡ (if own then Some sequence.upto else ends_in (map sequence_in sequences) name)
+    by true more = refl
+    by false more = more
+
+ends_same : (opening : Opening) (journal : Journal) → IsSourceOf opening journal → ends_of opening ≡ ends_in (sequences_of journal)
+ends_same opening journal source = fun_ext (λ name. ends_as opening.sequences name ∙ ap (λ (sequences : List Sequence). ends_in sequences name) source.sequences)
+
+-- the store has the horizon, the incarnation and the entries of its journal
 horizon_in : (read : Result Journal ℕ) (records : ℕ) (journal : Journal) → read ≡ Ok journal → (store_in read records).horizon ≡ journal.horizon
 horizon_in read records journal is = ap (λ (found : Result Journal ℕ). (store_in found records).horizon) is
+
+incarnation_in : (read : Result Journal ℕ) (records : ℕ) (journal : Journal) → read ≡ Ok journal → (store_in read records).incarnation ≡ journal.incarnation
+incarnation_in read records journal is = ap (λ (found : Result Journal ℕ). (store_in found records).incarnation) is
 
 entries_in : (read : Result Journal ℕ) (records : ℕ) (journal : Journal) → read ≡ Ok journal → (store_in read records).entries ≡ journal.entries
 entries_in read records journal is = ap (λ (found : Result Journal ℕ). (store_in found records).entries) is
@@ -135,26 +161,23 @@ module _ (document : Document) (ran : Ran Within) (before : Before) (report : Re
     printed = printed;
   }
 
-  -- what the journal at the end says of the report
-  read_from : IsReadFrom document report off.journal
-  read_from = record {
-    base = base;
-    entries = gained.entries ∙ ap (λ (entries : List Entry). (journal_before document).entries ++ entries) (sym entries_are);
-    blocked = gained.blocked ∙ ap (λ (blocked : List Ltxid). (journal_before document).blocked ++ blocked) (sym blocked_are);
-    alerts = gained.alerts ∙ ap (λ (alerts : List (List ℕ)). (journal_before document).alerts ++ alerts) (sym alerts_are);
-    tables = off.tables;
-    horizon = off.forgotten;
-  }
-
   store_horizon : has.seen.state.store.horizon ≡ off.journal.horizon
   store_horizon =
       ap (λ (state : ServiceState). state.store.horizon) has.place.seen_so.sees.state_is
       ∙ horizon_in (journal_of (bytes_in ran.service)) _ off.journal off.reads
 
+  store_incarnation : has.seen.state.store.incarnation ≡ off.journal.incarnation
+  store_incarnation =
+      ap (λ (state : ServiceState). state.store.incarnation) has.place.seen_so.sees.state_is
+      ∙ incarnation_in (journal_of (bytes_in ran.service)) _ off.journal off.reads
+
   store_entries : has.seen.state.store.entries ≡ off.journal.entries
   store_entries =
       ap (λ (state : ServiceState). state.store.entries) has.place.seen_so.sees.state_is
       ∙ entries_in (journal_of (bytes_in ran.service)) _ off.journal off.reads
+
+  entries_read : off.journal.entries ≡ (journal_before document).entries ++ report.entries
+  entries_read = gained.entries ∙ ap (λ (entries : List Entry). (journal_before document).entries ++ entries) (sym entries_are)
 
   reported : IsReported document report has.seen has.traced gained.server
   reported = record {
@@ -162,15 +185,26 @@ module _ (document : Document) (ran : Ran Within) (before : Before) (report : Re
     clients = off.clients ∙ has.clients;
     runs = gained.runs;
     entries = entries_are;
-    gained = store_entries ∙ read_from.entries;
+    gained = store_entries ∙ entries_read;
     blocked = blocked_are;
     alerts = alerts_are;
     forgotten = off.forgotten ∙ sym store_horizon;
   }
 
-  printed_as : (print : Bool) → report.image ≡ image_if print (bytes_in ran.service) → IsPrinted off.journal print report.image
-  printed_as true is = (bytes_in ran.service, (is, off.reads))
-  printed_as false is = is
+  -- what the journal at the end says of the report
+  read_from : RunsHold → IsReadFrom document report off.journal
+  read_from laws = record {
+    base = base;
+    entries = entries_read;
+    blocked = gained.blocked ∙ ap (λ (blocked : List Ltxid). (journal_before document).blocked ++ blocked) (sym blocked_are);
+    alerts = gained.alerts ∙ ap (λ (alerts : List (List ℕ)). (journal_before document).alerts ++ alerts) (sym alerts_are);
+    tables = off.tables;
+    horizon = off.forgotten;
+    incarnation = sym store_incarnation ∙ laws.incarnations document report has.seen has.traced is_run;
+    set_aside =
+        subst (λ (ends : List ℕ → Option ℤ). SetAside (sequences_of (journal_before document)) ends (drawn_in document report)) (ends_same gained.server.core.opening off.journal gained.source)
+        (laws.set_aside document report has.seen has.traced gained.server reported);
+  }
 
   stored_so : RunsHold → all_requests_right document ≡ true → stored document report ≡ true
   stored_so laws calls =
@@ -181,7 +215,7 @@ module _ (document : Document) (ran : Ran Within) (before : Before) (report : Re
       (both_true _ _ (laws.apart document report has.seen has.traced gained.server reported)
       (both_true _ _
       (both_true _ _ (laws.answered document report has.seen has.traced gained.server reported) (laws.ordered document report has.seen has.traced gained.server reported))
-      (image_is document report off.journal read_from (sym off.forgotten ∙ same_number report.forgotten (last_horizon document report) told) (printed_as document.print_image off.image))))))
+      (image_is document report off.journal (read_from laws) (sym off.forgotten ∙ same_number report.forgotten (last_horizon document report) told) (bytes_in ran.service) off.reads off.image)))))
 
   headline : RunsHold → all_requests_right document ≡ true → 1 ≤ document.service.retries → Headline document report
   headline laws calls tries = record {
@@ -196,9 +230,11 @@ module _ (document : Document) (ran : Ran Within) (before : Before) (report : Re
     stored_so = stored_so laws calls;
     caused_so = laws.caused document report has.seen has.traced gained.server calls tries reported;
     whole_so = laws.whole document report has.seen has.traced gained.server calls reported;
+    bytes = bytes_in ran.service;
     journal = off.journal;
-    read = read_from;
-    image = printed_as document.print_image off.image;
+    holds = off.reads;
+    read = read_from laws;
+    image = off.image;
   }
 
 pub headline_if : {E : Type 0} (document : Document) (ran : Ran Within) (before : Before) (result : Result Report E) → HasRun SeesIn document ran → Counts (journal_before document) before

@@ -1,5 +1,5 @@
 -- The image that a report prints is one of the journal after the run.
-use Rattle.std.proofs.Common.{◌≡◌, ◌∙◌, refl, ap, subst, eq-eqb, Bool, true, false, List, [], ◌∷◌, ◌++◌, ℕ, Option}
+use Rattle.std.proofs.Common.{◌≡◌, ◌∙◌, refl, ap, subst, eq-eqb, Bool, true, false, List, [], ◌∷◌, ◌++◌, ℕ, Option, Ok}
 use Rattle.std.specs.Prelude.{◌||◌, not}
 use Rattle.std.specs.Str.{bytes_eq}
 use Rattle.std.specs.Cmp.{signed_Decides}
@@ -20,6 +20,7 @@ use Rattle.commit_log.specs.declared.base.Base.{Base}
 use Rattle.commit_log.specs.declared.base.BaseSequence.{BaseSequence}
 use Rattle.commit_log.specs.declared.base.BaseTable.{BaseTable}
 use Rattle.commit_log.specs.declared.journal.Journal.{Journal}
+use Rattle.commit_log.specs.Journals.{journal_of}
 use Rattle.outage_schedule.specs.declared.document.Document.{Document}
 use Rattle.outage_schedule.specs.declared.report.Report.{Report}
 use Rattle.outage_schedule.specs.declared.report.ReportTable.{ReportTable}
@@ -28,7 +29,7 @@ use Rattle.run_clauses.specs.Comparing.{same_base, same_base_sequence, same_base
 use Rattle.run_clauses.specs.Horizons.{last_horizon}
 use Rattle.run_clauses.specs.Images.{follows, has_journal, image_fits, is_after_run}
 use Rattle.run_clauses.specs.Serial.{printed_tables, same_report_table}
-use Rattle.continuity_run.specs.Headline.{IsReadFrom, IsPrinted}
+use Rattle.continuity_run.specs.Headline.{IsReadFrom, image_if}
 
 -- WHAT IS ONE PASSES THE TESTS --------------------------------------------------------------------
 
@@ -89,10 +90,10 @@ module _ (document : Document) (report : Report) (journal : Journal) (read : IsR
       (alike_so (pointwise same_report_table) (each_alike same_report_table printed_alike) report.tables (printed_tables before.base (tables_of journal)) (read.tables ∙ ap (λ (base : Base). printed_tables base (tables_of journal)) read.base)))))
 
   -- It is, where the store forgot what the report's openings ask for.
-  pub image_is : (horizon : journal.horizon ≡ last_horizon document report) → IsPrinted journal document.print_image report.image → image_fits document report ≡ true
-  image_is horizon = by document.print_image report.image
+  pub image_is : (horizon : journal.horizon ≡ last_horizon document report) (bytes : List ℕ) → journal_of bytes ≡ Ok journal → report.image ≡ image_if document.print_image bytes → image_fits document report ≡ true
+  image_is horizon bytes reads = by document.print_image report.image
     where
-      by : (print : Bool) (image : Option (List ℕ)) → IsPrinted journal print image → (not print || has_journal document report image) ≡ true
-      by false image none = refl
-      by true image (bytes, (is, reads)) =
+      by : (print : Bool) (image : Option (List ℕ)) → image ≡ image_if print bytes → (not print || has_journal document report image) ≡ true
+      by false image is = refl
+      by true image is =
           ap (has_journal document report) is ∙ ap (is_after_run document report) reads ∙ both_true _ _ follows_so (eq-eqb journal.horizon (last_horizon document report) horizon)

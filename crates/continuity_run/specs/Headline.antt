@@ -1,25 +1,30 @@
 -- What a report says of its document.
-use Rattle.std.specs.Prelude.{◌≡◌, ◌++◌, ℕ, Bool, true, false, IsTrue, List, Option, Some, None, Ok}
+use Rattle.std.specs.Prelude.{◌≡◌, ◌++◌, ℕ, Bool, IsTrue, List, Option, Some, None, Ok, if◌then◌else◌}
 use Rattle.commit_log.specs.declared.journal.Journal.{Journal}
 use Rattle.commit_log.specs.Journals.{journal_of}
 use Rattle.outage_schedule.specs.declared.document.Document.{Document}
 use Rattle.outage_schedule.specs.declared.report.Report.{Report}
 use Rattle.run_clauses.specs.Before.{journal_before, tables_of}
 use Rattle.run_clauses.specs.Fresh.{fresh}
+use Rattle.run_clauses.specs.Horizons.{last_incarnation}
 use Rattle.run_clauses.specs.NoClash.{no_clash}
 use Rattle.run_clauses.specs.Once.{once}
 use Rattle.run_clauses.specs.Same.{same}
 use Rattle.run_clauses.specs.Serial.{IsSerial, printed_tables}
+use Rattle.run_clauses.specs.ServiceBase.{sequences_of}
 use Rattle.run_clauses.specs.Stored.{stored}
+use Rattle.server_model.specs.SetAside.{SetAside, ends_in}
 use Rattle.shown_clauses.specs.Caused.{caused}
 use Rattle.shown_clauses.specs.Legal.{legal_of}
 use Rattle.shown_clauses.specs.Whole.{whole}
 use Rattle.world_model.specs.Followed.{followed}
-use Rattle.world_model.specs.Judged.{is_legal, is_fresh_new}
+use Rattle.world_model.specs.Judged.{drawn_in, is_legal, is_fresh_new}
 
 -- The journal at the end has the base of the one before event 1, its tables with their rows and its sequences, and its entries, blocks and
 -- alert lines are those from before with those of the report behind them. The report's tables are those after the last entry. What the
--- journal says of sessions below the report's horizon is forgotten.
+-- journal says of sessions below the report's horizon is forgotten. The next opening goes on from it: its last incarnation is that of the
+-- last opening that the notes tell, and what it has set aside of the sequences ends behind every value that the run drew anew, and no earlier
+-- than before event 1.
 pub record IsReadFrom (document : Document) (report : Report) (journal : Journal) : Type 0 where
   pub base : journal.base ≡ (journal_before document).base
   pub entries : journal.entries ≡ (journal_before document).entries ++ report.entries
@@ -27,11 +32,12 @@ pub record IsReadFrom (document : Document) (report : Report) (journal : Journal
   pub alerts : journal.alerts ≡ (journal_before document).alerts ++ report.alerts
   pub tables : report.tables ≡ printed_tables journal.base (tables_of journal)
   pub horizon : report.forgotten ≡ journal.horizon
+  pub incarnation : journal.incarnation ≡ last_incarnation document report
+  pub set_aside : SetAside (sequences_of (journal_before document)) (ends_in (sequences_of journal)) (drawn_in document report)
 
--- The bytes of the store are in the report where the document asks for them, and an opening reads this journal in them.
-abbrev pub IsPrinted : Journal → Bool → Option (List ℕ) → Type 0
-IsPrinted journal true image = (bytes : List ℕ) × (image ≡ Some bytes × journal_of bytes ≡ Ok journal)
-IsPrinted journal false image = image ≡ None
+-- the bytes of the store, where they are asked for
+abbrev pub image_if : Bool → List ℕ → Option (List ℕ)
+image_if print_image bytes = if print_image then Some bytes else None
 
 pub record Headline (document : Document) (report : Report) : Type 0 where
   -- The events of the document, and those of the finish behind them, lead to its notes and to what was served, and its clients were shown
@@ -60,7 +66,10 @@ pub record Headline (document : Document) (report : Report) : Type 0 where
   -- each request was shown its script's calls in order, by replies of sessions of its own or by outcomes of its identifiers, and what a session
   -- served since a Begin is what that request sent
   pub whole_so : IsTrue (whole document report)
-  -- it is read from what the store holds at the end
+  -- it is read from what the store holds at the end: these bytes, in which an opening reads this journal
+  pub bytes : List ℕ
   pub journal : Journal
+  pub holds : journal_of bytes ≡ Ok journal
   pub read : IsReadFrom document report journal
-  pub image : IsPrinted journal document.print_image report.image
+  -- and has the bytes where the document asks for them
+  pub image : report.image ≡ image_if document.print_image bytes

@@ -1,5 +1,5 @@
 -- The report of a run, read off the store at its end.
-use Rattle.std.specs.Prelude.{◌≡◌, ◌+◌, ◌<◌, ◌^◌, ℕ, Bool, true, false, List, drop, map, Option, Some, None, Ok, if◌then◌else◌}
+use Rattle.std.specs.Prelude.{◌≡◌, ◌+◌, ◌<◌, ◌^◌, ℕ, Bool, true, false, List, drop, map, None, Ok}
 use Rattle.svc_values.specs.declared.schema.Schema.{Schema}
 use Rattle.svc_values.specs.declared.tables.PlainRow.{PlainRow}
 use Rattle.svc_values.specs.declared.tables.Place.TheVariants as place
@@ -12,6 +12,7 @@ use Rattle.run_clauses.specs.Before.{tables_of}
 use Rattle.run_clauses.specs.Serial.{printed_tables}
 use Rattle.server_model.specs.Seen.{Seen}
 use Rattle.continuity_run.specs.declared.store.Before.{Before}
+use Rattle.continuity_run.specs.Headline.{image_if}
 use Rattle.world_run.specs.declared.world.Ran.{Ran}
 
 -- So many calls more may be made on the service, and none of them is stopped: nothing but a stop makes its disk fail, and none is set.
@@ -26,10 +27,6 @@ pub record MayBeRead (sees : Seen → Type 0) (calls : ℕ) : Type 0 where
 -- a declared table as a report prints it: its rows in order of key
 abbrev pub printed_by : List PlainRow → Schema → ReportTable
 printed_by tables schema = record { name = schema.name; rows = map (λ one. one.row) (rows_at tables (place.Table schema.name)) }
-
--- the bytes of the store, where they are asked for
-abbrev pub image_if : Bool → List ℕ → Option (List ℕ)
-image_if print_image bytes = if print_image then Some bytes else None
 
 -- The store of a run that is over has these bytes. The report has what their journal has more than stood there before event 1, the horizon,
 -- and the tables after the last entry; what the events did, what was served, and what clients were shown are those of the run.

@@ -4,8 +4,8 @@ use Rattle.server_model.specs.Laws.{RunsSerial}
 use Rattle.shown_laws.specs.CausedRuns.{RunsAreCaused}
 use Rattle.shown_laws.specs.WholeRuns.{RunsAreWhole}
 use Rattle.world_model.specs.OnceLaws.{ReportsAreOnce}
-use Rattle.world_model.specs.Reported.{RunsAreLegal, RunsAreFreshNew, RunsAreFresh, RunsAreSame}
-use Rattle.world_model.specs.RunLaws.{RunsAreFollowed}
+use Rattle.world_model.specs.Reported.{RunsAreLegal, RunsAreFreshNew, RunsAreSetAside, RunsAreFresh, RunsAreSame}
+use Rattle.world_model.specs.RunLaws.{RunsAreFollowed, IncarnationsAreStored}
 use Rattle.world_model.specs.StoredLaws.{OutcomesAreStored, AnswersAreRight, HorizonsAreTold, BlocksStayApart, BlocksAreAnswered, BlocksComeInOrder}
 
 pub record RunsHold : Type 0 where
@@ -14,12 +14,14 @@ pub record RunsHold : Type 0 where
   pub legal : RunsAreLegal
   pub legal_told : RunsAreLegalTold
   pub fresh_new : RunsAreFreshNew
+  pub set_aside : RunsAreSetAside
   pub fresh : RunsAreFresh
   pub once : ReportsAreOnce
   pub same : RunsAreSame
   pub outcomes : OutcomesAreStored
   pub answers : AnswersAreRight
   pub horizons : HorizonsAreTold
+  pub incarnations : IncarnationsAreStored
   pub apart : BlocksStayApart
   pub answered : BlocksAreAnswered
   pub ordered : BlocksComeInOrder

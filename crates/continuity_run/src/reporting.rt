@@ -1,7 +1,8 @@
 //! The report of a run that is over.
 ghost use Rattle.std.specs.Prelude.{◌≡◌, IfOk, OnOk, Ok, drop, map};
 ghost use Rattle.commit_log.specs.Journals.{journal_of as journal_def};
-ghost use Rattle.continuity_run.specs.Reading.{IsReadOff, MayBeRead, image_if, printed_by};
+ghost use Rattle.continuity_run.specs.Headline.{image_if};
+ghost use Rattle.continuity_run.specs.Reading.{IsReadOff, MayBeRead, printed_by};
 
 use crate::store::Before;
 use commit_log::Journal;

@@ -23,11 +23,14 @@ use shown_laws::laws::runs_are_caused;
 use shown_laws::reports::runs_are_whole;
 use std::alloc::Global;
 use svc_values::NoMemory;
+use world_model::horizon_laws::incarnations_are_stored;
 use world_model::laws::{
     finish_falls, finish_goes_on, finish_is_short, runs_are_followed, runs_are_orderly,
 };
 use world_model::once_end_laws::reports_are_once;
-use world_model::run_laws::{runs_are_fresh, runs_are_fresh_new, runs_are_legal, runs_are_same};
+use world_model::run_laws::{
+    runs_are_fresh, runs_are_fresh_new, runs_are_legal, runs_are_same, runs_are_set_aside,
+};
 use world_model::stored_laws::{
     answers_are_right, blocks_are_answered, blocks_stay_apart, horizons_are_told,
     outcomes_are_stored,
@@ -102,12 +105,14 @@ fn runs_hold()
     runs_are_legal();
     runs_are_legal_told();
     runs_are_fresh_new();
+    runs_are_set_aside();
     runs_are_fresh();
     reports_are_once();
     runs_are_same();
     outcomes_are_stored();
     answers_are_right();
     horizons_are_told();
+    incarnations_are_stored();
     blocks_stay_apart();
     blocks_are_answered();
     runs_are_caused();

@@ -96,7 +96,7 @@ keeps-opened history core after walk within same keeps = record {
       (subst (λ n. Tracks n (opening_after core.opening (core.opening.incarnation + 1))) (sym (numbers-next walk.numbers core.opening.incarnation within)) (spent-opened walk.numbers core.opening (core.opening.incarnation + 1) keeps.spent));
 }
 
-ask-numbers : (base : Base) (walk : Walk) (x : Ltxid) (told : Telling) → (walk_behind base walk (Asked x told)).numbers ≡ walk.numbers
+pub ask-numbers : (base : Base) (walk : Walk) (x : Ltxid) (told : Telling) → (walk_behind base walk (Asked x told)).numbers ≡ walk.numbers
 ask-numbers base walk x Silent = refl
 ask-numbers base walk x Stopped = refl
 ask-numbers base walk x (Says (down.Hello y)) = refl

@@ -14,7 +14,7 @@ use Rattle.server_model.proofs.NewLater.{WithinOne, le-self}
 use Rattle.server_model.proofs.NewOnce.{items-once}
 use Rattle.server_model.proofs.RoomRuns.{runs_have_room}
 
-start-within : (sequences : List Sequence) (name : List ℕ) → WithinOne (count_in (map count_of sequences) name)
+pub start-within : (sequences : List Sequence) (name : List ℕ) → WithinOne (count_in (map count_of sequences) name)
 start-within [] name = tt
 start-within (sequence ∷ sequences) name = by (bytes_eq sequence.name name) (start-within sequences name)
   where

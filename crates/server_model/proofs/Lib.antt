@@ -1,6 +1,7 @@
 mod TwoSessions
 pub mod Alerts
 pub mod Answered
+pub mod BelowEnds
 pub mod Counts
 pub mod BlockedFrames
 pub mod BlocksTold

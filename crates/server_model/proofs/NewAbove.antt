@@ -1,4 +1,4 @@
--- A new value is above all that were drawn anew before it.
+-- A new value is above all that were drawn anew before it, and lies in a block that is set aside.
 use Rattle.std.specs.Prelude.{◌≡◌, ◌⊎◌, ◌+◌, ◌<◌, ◌≤◌, ◌^◌, ◌&&◌, ◌==◌, ◌+ℤ◌, ℕ, zero, suc, ℤ, pos, int_le, Bool, true, false, List, map, Option, Some, None, if◌then◌else◌}
 use Rattle.std.specs.Option.{option_map, option_and_then}
 use Rattle.std.specs.Ordering.{int_eq}
@@ -12,9 +12,9 @@ use Rattle.mutable_values.specs.Sources.{identifier}
 use Rattle.mutable_values.proofs.Offered.{same_incarnation, same_counter}
 use Rattle.server_model.specs.NewValues.{Count, Numbers, gave, gave_first, gave_often, if_gave, settled, shifted, ways_from, reopened, opened, if_next, with_counts, next_identifier, counted}
 use Rattle.server_model.specs.Fresh.{is_single}
-use Rattle.server_model.proofs.Takings.{names_are, some_same, none_some}
+use Rattle.server_model.proofs.Takings.{same_name, names_are, some_same, none_some}
 use Rattle.server_model.proofs.Tracking.{count_in, count_name, count_mapped, put_count, after_put, found_put}
-use Rattle.server_model.proofs.NewLater.{le-trans, le-self, le-same, le-more, le-block, le-up, le-down, le-next, not-equal, AboveOne, Above, LaterOne, Later, WithinOne, AllWithin, OnDraws, later-self, on-same}
+use Rattle.server_model.proofs.NewLater.{le-trans, le-self, le-same, le-more, le-block, le-up, le-down, le-next, le-far, le-self-far, not-equal, AboveOne, Above, BelowOne, Below, LaterOne, Later, WithinOne, AllWithin, OnDraws, later-self, on-same}
 
 -- ---- a sequence gives a value
 
@@ -23,6 +23,8 @@ record IsGiven (count : Count) (value : ℤ) (after : Count) : Type 0 where
   name : after.name ≡ count.name
   above : int_le count.next value ≡ true
   next : after.next ≡ value +ℤ pos 1
+  upto : int_le count.upto after.upto ≡ true
+  below : int_le count.next (count.upto +ℤ pos 1) ≡ true → int_le value after.upto ≡ true
   within : int_le count.next (count.upto +ℤ pos 1) ≡ true → int_le after.next (after.upto +ℤ pos 1) ≡ true
 
 gave-within : (count : Count) → int_le count.next (count.upto +ℤ pos 1) ≡ true → int_le (gave count).next ((gave count).upto +ℤ pos 1) ≡ true
@@ -32,11 +34,39 @@ gave-within count within = by (int_le count.next count.upto) refl
     by true e = le-more count.next count.upto e
     by false e = le-block count.next count.upto within
 
+gave-upto : (count : Count) → int_le count.upto (gave count).upto ≡ true
+gave-upto count = by (int_le count.next count.upto)
+  where
+    by : (b : Bool) → int_le count.upto (if b then count.upto else count.upto +ℤ pos 16) ≡ true
+    by true = le-self count.upto
+    by false = le-self-far count.upto
+
+gave-below : (count : Count) → int_le count.next (count.upto +ℤ pos 1) ≡ true → int_le count.next (gave count).upto ≡ true
+gave-below count within = by (int_le count.next count.upto) refl
+  where
+    by : (b : Bool) → int_le count.next count.upto ≡ b → int_le count.next (if b then count.upto else count.upto +ℤ pos 16) ≡ true
+    by true e = e
+    by false e = le-far count.next count.upto within
+
 given-here : (count : Count) (value : ℤ) → value ≡ count.next → IsGiven count value (gave (settled count))
-given-here count value same = record { name = refl; above = le-same count.next value same; next = ap (λ n. n +ℤ pos 1) (sym same); within = λ w. gave-within (settled count) w }
+given-here count value same = record {
+  name = refl;
+  above = le-same count.next value same;
+  next = ap (λ n. n +ℤ pos 1) (sym same);
+  upto = gave-upto (settled count);
+  below = λ w. subst (λ v. int_le v (gave (settled count)).upto ≡ true) (sym same) (gave-below (settled count) w);
+  within = λ w. gave-within (settled count) w;
+}
 
 given-later : (count : Count) (maybe : ℕ) (value : ℤ) (after : Count) → IsGiven (shifted count maybe) value after → IsGiven count value after
-given-later count maybe value after given = record { name = given.name; above = le-down count.next value given.above; next = given.next; within = λ w. given.within (le-up count.next count.upto w) }
+given-later count maybe value after given = record {
+  name = given.name;
+  above = le-down count.next value given.above;
+  next = given.next;
+  upto = le-down count.upto after.upto given.upto;
+  below = λ w. given.below (le-up count.next count.upto w);
+  within = λ w. given.within (le-up count.next count.upto w);
+}
 
 given-by : (maybe : ℕ) (count : Count) (value : ℤ) (after : Count) → gave_first value (ways_from maybe count) ≡ Some after → IsGiven count value after
 given-by zero count value after is = by (int_eq value count.next) refl is
@@ -53,10 +83,11 @@ given-by (suc maybe) count value after is = by (int_eq value count.next) refl is
 
 -- ---- a new value
 
--- the numbers behind a new value: it was above those before, and is not among what is above those after
+-- the numbers behind a new value: it was above those before, is not among what is above those after, and lies in one of their blocks
 pub record Stepped (numbers : Numbers) (given : Draw) (after : Numbers) : Type 0 where
   pub on : OnDraws numbers after
   pub above : after.incarnation < 2 ^ 64 → after.identifiers < 2 ^ 64 → Above numbers given
+  pub below : AllWithin numbers → Below after given
   pub apart : after.incarnation < 2 ^ 64 → after.identifiers < 2 ^ 64 → (other : Draw) → Above after other → (is_single given && same_draw given other) ≡ false
 
 never-same : (b : Bool) → (b ≡ true → ⊥) → b ≡ false
@@ -65,7 +96,7 @@ never-same false never = refl
 
 module _ (numbers : Numbers) where
   by-tick : (now tick : ℕ) (after : Numbers) (b : Bool) → (if b then Some numbers else None) ≡ Some after → Stepped numbers (draw.Clock tick) after
-  by-tick now tick after true is = subst (Stepped numbers (draw.Clock tick)) (some_same numbers after is) (record { on = on-same numbers; above = λ small few. tt; apart = λ small few other above. refl })
+  by-tick now tick after true is = subst (Stepped numbers (draw.Clock tick)) (some_same numbers after is) (record { on = on-same numbers; above = λ small few. tt; below = λ all. tt; apart = λ small few other above. refl })
   by-tick now tick after false is = absurd (none_some after is)
 
   named-on : OnDraws numbers (counted numbers)
@@ -92,6 +123,7 @@ module _ (numbers : Numbers) where
       subst (Stepped numbers (draw.Id id)) (some_same (counted numbers) after is) (record {
         on = named-on;
         above = λ small few. record { own = numbers.incarnation; counter = numbers.identifiers + 1; is = same; small = small; few = few; comes = inr (refl, below numbers.identifiers) };
+        below = λ all. tt;
         apart = λ small few other above. named-apart id same small few other above;
       })
     where
@@ -112,7 +144,7 @@ module _ (numbers : Numbers) where
     }
       where
         later : (other : List ℕ) (b : Bool) → bytes_eq name other ≡ b → LaterOne (count_in numbers.counts other) (if b then Some put else count_in numbers.counts other)
-        later other true e = subst (λ c. LaterOne c (Some put)) (sym (ap (count_in numbers.counts) (sym (names_are name other e)) ∙ at)) (le-next count.next value put.next given.above given.next)
+        later other true e = subst (λ c. LaterOne c (Some put)) (sym (ap (count_in numbers.counts) (sym (names_are name other e)) ∙ at)) (le-next count.next value put.next given.above given.next, given.upto)
         later other false e = later-self (count_in numbers.counts other)
 
         within : AllWithin numbers → (other : List ℕ) (b : Bool) → WithinOne (if b then Some put else count_in numbers.counts other)
@@ -132,6 +164,7 @@ module _ (numbers : Numbers) where
     value-stepped = record {
       on = value-on;
       above = λ small few. subst (λ c. AboveOne c value) (sym at) given.above;
+      below = λ all. subst (λ c. BelowOne c value) (sym (found name ∙ ap (λ b. if b then Some put else count_in numbers.counts name) (same_name name))) (given.below (subst WithinOne at (all name)));
       apart = λ small few other above. value-apart other above;
     }
 
@@ -152,7 +185,7 @@ module _ (numbers : Numbers) where
 
 -- ---- numbers that nobody sees
 
-one-mapped : (change : Count → Count) → ((c : Count) → int_le c.next (change c).next ≡ true) → (count : Option Count) → LaterOne count (option_map change count)
+one-mapped : (change : Count → Count) → ((c : Count) → LaterOne (Some c) (Some (change c))) → (count : Option Count) → LaterOne count (option_map change count)
 one-mapped change more None = tt
 one-mapped change more (Some count) = more count
 
@@ -161,7 +194,7 @@ within-mapped change keeps None within = tt
 within-mapped change keeps (Some count) within = keeps count within
 
 -- all counts changed, and perhaps more identifiers
-pub on-mapped : (numbers : Numbers) (change : Count → Count) (identifiers : ℕ) → ((c : Count) → (change c).name ≡ c.name) → ((c : Count) → int_le c.next (change c).next ≡ true)
+pub on-mapped : (numbers : Numbers) (change : Count → Count) (identifiers : ℕ) → ((c : Count) → (change c).name ≡ c.name) → ((c : Count) → LaterOne (Some c) (Some (change c)))
     → ((c : Count) → int_le c.next (c.upto +ℤ pos 1) ≡ true → int_le (change c).next ((change c).upto +ℤ pos 1) ≡ true) → numbers.identifiers ≤ identifiers
     → OnDraws numbers (record numbers { identifiers = identifiers; counts = map change numbers.counts })
 on-mapped numbers change identifiers names more keeps given = record {
@@ -171,9 +204,13 @@ on-mapped numbers change identifiers names more keeps given = record {
   within = λ all name. subst WithinOne (sym (count_mapped change names numbers.counts name)) (within-mapped change keeps (count_in numbers.counts name) (all name));
 }
 
-pub often-later : (often : ℕ) (count : Count) → int_le count.next (gave_often often count).next ≡ true
-often-later zero count = le-self count.next
-often-later (suc more) count = le-trans count.next (count.next +ℤ pos 1) (gave_often more (gave count)).next (le-next count.next count.next (count.next +ℤ pos 1) (le-self count.next) refl) (often-later more (gave count))
+pub often-later : (often : ℕ) (count : Count) → LaterOne (Some count) (Some (gave_often often count))
+often-later zero count = (le-self count.next, le-self count.upto)
+often-later (suc more) count =
+    let rest = often-later more (gave count) in (
+      le-trans count.next (count.next +ℤ pos 1) (gave_often more (gave count)).next (le-next count.next count.next (count.next +ℤ pos 1) (le-self count.next) refl) rest.0,
+      le-trans count.upto (gave count).upto (gave_often more (gave count)).upto (gave-upto count) rest.1,
+    )
 
 pub often-within : (often : ℕ) (count : Count) → int_le count.next (count.upto +ℤ pos 1) ≡ true → int_le (gave_often often count).next ((gave_often often count).upto +ℤ pos 1) ≡ true
 often-within zero count within = within
@@ -183,7 +220,7 @@ often-within (suc more) count within = often-within more (gave count) (gave-with
 
 one-opened : (count : Option Count) → WithinOne count → LaterOne count (option_map reopened count)
 one-opened None within = tt
-one-opened (Some count) within = within
+one-opened (Some count) within = (within, le-self count.upto)
 
 within-opened : (count : Option Count) → WithinOne (option_map reopened count)
 within-opened None = tt

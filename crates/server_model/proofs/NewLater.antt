@@ -1,4 +1,5 @@
--- Values that are still to come: what is above the numbers of a walk, which only rise.
+-- Values that are still to come and those that came: what is above the numbers of a walk, which only rise, and what lies below the ends of
+-- its blocks.
 use Rattle.std.specs.Prelude.{◌≡◌, ◌⊎◌, ◌<◌, ◌≤◌, ◌^◌, ◌+ℤ◌, ℕ, ℤ, pos, int_le, Bool, true, false, List, Option, Some, None}
 use Rattle.std.specs.Ordering.{int_eq}
 use Rattle.std.proofs.Common.{refl, inl, inr, ◌∙◌, arith}
@@ -36,6 +37,12 @@ le-down a b p = grind (arith, ints)
 pub le-next : (a b c : ℤ) → int_le a b ≡ true → c ≡ b +ℤ pos 1 → int_le a c ≡ true
 le-next a b c p e = grind (arith, ints)
 
+pub le-far : (a b : ℤ) → int_le a (b +ℤ pos 1) ≡ true → int_le a (b +ℤ pos 16) ≡ true
+le-far a b p = grind (arith, ints)
+
+pub le-self-far : (a : ℤ) → int_le a (a +ℤ pos 16) ≡ true
+le-self-far a = grind (arith, ints)
+
 above-not : (a b c : ℤ) → c ≡ a +ℤ pos 1 → int_le c b ≡ true → a ≡ b → ⊥
 above-not a b c e p same = omega (arith, ints)
 
@@ -72,12 +79,22 @@ abbrev pub LaterOne : Option Count → Option Count → Type 0
 LaterOne None None = Unit {0}
 LaterOne None (Some after) = ⊥
 LaterOne (Some count) None = ⊥
-LaterOne (Some count) (Some after) = int_le count.next after.next ≡ true
+LaterOne (Some count) (Some after) = (int_le count.next after.next ≡ true) × (int_le count.upto after.upto ≡ true)
 
 -- numbers that come later
 pub record Later (numbers after : Numbers) : Type 0 where
   pub ahead : (numbers.incarnation < after.incarnation) ⊎ ((after.incarnation ≡ numbers.incarnation) × (numbers.identifiers ≤ after.identifiers))
   pub counts : (name : List ℕ) → LaterOne (count_in numbers.counts name) (count_in after.counts name)
+
+-- the value lies in a block that was set aside
+abbrev pub BelowOne : Option Count → ℤ → Type 0
+BelowOne None value = ⊥
+BelowOne (Some count) value = int_le value count.upto ≡ true
+
+abbrev pub Below : Numbers → Draw → Type 0
+Below numbers (draw.Seq name value) = BelowOne (count_in numbers.counts name) value
+Below numbers (draw.Clock tick) = Unit {0}
+Below numbers (draw.Id id) = Unit {0}
 
 abbrev pub WithinOne : Option Count → Type 0
 WithinOne None = Unit {0}
@@ -99,15 +116,15 @@ on-later numbers after on = record { ahead = inr (on.opened_as, on.given); count
 
 pub later-self : (count : Option Count) → LaterOne count count
 later-self None = tt
-later-self (Some count) = le-self count.next
+later-self (Some count) = (le-self count.next, le-self count.upto)
 
-later-one : (a b c : Option Count) → LaterOne a b → LaterOne b c → LaterOne a c
+pub later-one : (a b c : Option Count) → LaterOne a b → LaterOne b c → LaterOne a c
 later-one None None None one other = tt
 later-one None None (Some c) one other = other
 later-one None (Some b) c one other = absurd one
 later-one (Some a) None c one other = absurd one
 later-one (Some a) (Some b) None one other = other
-later-one (Some a) (Some b) (Some c) one other = le-trans a.next b.next c.next one other
+later-one (Some a) (Some b) (Some c) one other = (le-trans a.next b.next c.next one.0 other.0, le-trans a.upto b.upto c.upto one.1 other.1)
 
 pub on-same : (numbers : Numbers) → OnDraws numbers numbers
 on-same numbers = record { opened_as = refl; given = omega arith; counts = λ name. later-self (count_in numbers.counts name); within = λ all. all }
@@ -127,7 +144,18 @@ one-above : (count after : Option Count) (value : ℤ) → LaterOne count after 
 one-above None None value later above = above
 one-above None (Some after) value later above = absurd later
 one-above (Some count) None value later above = absurd later
-one-above (Some count) (Some after) value later above = le-trans count.next after.next value later above
+one-above (Some count) (Some after) value later above = le-trans count.next after.next value later.0 above
+
+one-below : (count after : Option Count) (value : ℤ) → LaterOne count after → BelowOne count value → BelowOne after value
+one-below None after value later below = absurd below
+one-below (Some count) None value later below = absurd later
+one-below (Some count) (Some after) value later below = le-trans value count.upto after.upto below later.1
+
+-- what lies in a block lies in one of later numbers
+pub below-later : (numbers after : Numbers) (one : Draw) → ((name : List ℕ) → LaterOne (count_in numbers.counts name) (count_in after.counts name)) → Below numbers one → Below after one
+below-later numbers after (draw.Seq name value) later below = one-below (count_in numbers.counts name) (count_in after.counts name) value (later name) below
+below-later numbers after (draw.Clock tick) later below = tt
+below-later numbers after (draw.Id id) later below = tt
 
 -- what is above later numbers is above the earlier ones
 pub above-earlier : (numbers after : Numbers) (one : Draw) → Later numbers after → Above after one → Above numbers one

@@ -119,7 +119,7 @@ more-given : (m n : ℕ) → m ≤ m + n
 more-given m n = omega arith
 
 on-nothing : (did : Deed) (walk : Walk) (called : Call) → OnDraws walk.numbers (if_nothing did walk called).numbers
-on-nothing Nothing walk called = on-mapped walk.numbers (stopped_count called) walk.numbers.identifiers (λ c. refl) (λ c. le-self c.next) (λ c within. within) (omega arith)
+on-nothing Nothing walk called = on-mapped walk.numbers (stopped_count called) walk.numbers.identifiers (λ c. refl) (λ c. (le-self c.next, le-self c.upto)) (λ c within. within) (omega arith)
 on-nothing Meaningless walk called = on-same walk.numbers
 on-nothing (Ran performed meant) walk called = on-same walk.numbers
 
@@ -130,7 +130,7 @@ on-told walk x (ServerAhead next) = on-same walk.numbers
 on-told walk x (ClientAhead next) = on-same walk.numbers
 on-told walk x (Forgotten horizon) = on-same walk.numbers
 
-on-thing : (walk : Walk) (session : SessionId) (did : Deed) (thing : Thing) → OnDraws walk.numbers (after_thing walk session did thing).numbers
+pub on-thing : (walk : Walk) (session : SessionId) (did : Deed) (thing : Thing) → OnDraws walk.numbers (after_thing walk session did thing).numbers
 on-thing walk session did Connected = on-same walk.numbers
 on-thing walk session did (Began settings) = on-same walk.numbers
 on-thing walk session did (Called replay kept called answers draws) = on-same walk.numbers
@@ -174,7 +174,7 @@ pub record Enters (numbers here : Numbers) : Type 0 where
   pub later : Later numbers here
   pub within : AllWithin here
 
-enters : (walk : Walk) (session : SessionId) (thing : Thing) (event now : ℕ) → AllWithin walk.numbers → Enters walk.numbers (entered walk (Did event now session thing)).numbers
+pub enters : (walk : Walk) (session : SessionId) (thing : Thing) (event now : ℕ) → AllWithin walk.numbers → Enters walk.numbers (entered walk (Did event now session thing)).numbers
 enters walk session thing event now all = by (nat_lt walk.numbers.incarnation session.incarnation) refl
   where
     below : (m n : ℕ) → nat_lt m n ≡ true → m < n

@@ -22,7 +22,9 @@ use Rattle.server_model.specs.Serve.{Serve}
 use Rattle.server_model.specs.Runs.{Happened, Served, Asked, Server, On, is_running, Moves, Runs}
 use Rattle.server_model.specs.Items.{items_of}
 use Rattle.server_model.specs.Legal.{legal, lines_of, lines_stand}
-use Rattle.server_model.specs.Fresh.{fresh_new, has_room}
+use Rattle.server_model.specs.Fresh.{drawn_anew, fresh_new, has_room}
+use Rattle.server_model.specs.SetAside.{SetAside, ends_of}
+use Rattle.server_model.specs.Walk.{walk_of}
 use Rattle.server_model.specs.ToldRight.{told_right}
 use Rattle.server_model.specs.Seen.{Seen, IsHistory}
 
@@ -119,6 +121,11 @@ RunsHaveRoom = (base : Base) (history : List Happened) (server : Server) → IsS
 -- So what was drawn anew is drawn once.
 abbrev pub RunsFreshNew : Type 0
 RunsFreshNew = (base : Base) (history : List Happened) (server : Server) → IsSound base → Runs base history server → stops_last history ≡ true → fresh_new base (items_of history) server.core.entries ≡ true
+
+-- And it lies in what the source has set aside of its sequence, of which there is no less than at the start.
+abbrev pub RunsSetAside : Type 0
+RunsSetAside = (base : Base) (history : List Happened) (server : Server) → IsSound base → Runs base history server → stops_last history ≡ true
+    → SetAside base.sequences (ends_of server.core.opening) (drawn_anew base (walk_of base server.core.entries) (items_of history))
 
 -- Each frame is told as it has to be.
 abbrev pub RunsTold : Type 0

@@ -9,6 +9,7 @@ pub mod Outcomes
 pub mod Runs
 pub mod Serve
 pub mod Sessions
+pub mod SetAside
 pub mod ToldRight
 pub mod Walk
 pub mod Seen

@@ -1,5 +1,5 @@
 //! Laws of the plain server. Each function does nothing, and its contract is the law.
-ghost use Rattle.server_model.specs.Laws.{ServeGrows, ServeStays, RunsForget, RunsSerial, RunsStand, NeverAfterBlock, EntryNumbers, EntryFromItem, AnswersStand, MarkedStoresNone, BlocksAreStored, TellsNext, TellsOutcomes, TellsAsks, RunsAlerts, RunsTold, RunsLegal, RunsHaveRoom, RunsFreshNew, RunsFront, RunsLast, RunsStopped, ServiceStores, ServiceStands, ServiceRuns};
+ghost use Rattle.server_model.specs.Laws.{ServeGrows, ServeStays, RunsForget, RunsSerial, RunsStand, NeverAfterBlock, EntryNumbers, EntryFromItem, AnswersStand, MarkedStoresNone, BlocksAreStored, TellsNext, TellsOutcomes, TellsAsks, RunsAlerts, RunsTold, RunsLegal, RunsHaveRoom, RunsFreshNew, RunsSetAside, RunsFront, RunsLast, RunsStopped, ServiceStores, ServiceStands, ServiceRuns};
 ghost use Rattle.server_model.specs.Redraws.{LegalRedraws, RunsRedraw};
 
 /// A frame stores no entry, or one of its session, under its identifier, which is not blocked. It
@@ -85,6 +85,12 @@ pub fn marked_calls_redraw()
 /// What was drawn anew in a run was drawn once, over all openings.
 pub fn runs_fresh_new()
     ensures { RunsFreshNew }
+{}
+
+/// What was drawn anew in a run lies in what its source has set aside, so no later opening draws it again; and nothing that was set aside
+/// before is given back.
+pub fn runs_set_aside()
+    ensures { RunsSetAside }
 {}
 
 /// A run has a run for each front of its history, and its store goes on from that one's.

@@ -64,7 +64,7 @@ legal_plain base items entries alerts =
 
 -- WHAT IS FRESH -----------------------------------------------------------------------------------
 
-drawn_plain : (base : Base) (walk : Walk) (items : List Item) → drawn_anew base walk (plain_items items) ≡ drawn_anew base walk items
+pub drawn_plain : (base : Base) (walk : Walk) (items : List Item) → drawn_anew base walk (plain_items items) ≡ drawn_anew base walk items
 drawn_plain base walk [] = refl
 drawn_plain base walk (Did event now session thing ∷ items) =
     let item : Item = Did event now session thing in

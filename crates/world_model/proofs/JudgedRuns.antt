@@ -1,4 +1,4 @@
--- What a run served is legal, and drew nothing anew twice: its report's items are those of the service's history, but for their numbers.
+-- What a run served is legal, drew nothing anew twice, and nothing past what is set aside: its report's items are those of the service's history, but for their numbers.
 use Rattle.std.proofs.Common.{◌≡◌, refl, sym, ap, subst, ◌∙◌, append_assoc, append-nil, List, [], ◌∷◌, ◌++◌, map, Option, Some, None}
 use Rattle.std.specs.Prelude.{option_and_then}
 use Rattle.std.specs.Option.{option_map_or}
@@ -11,22 +11,25 @@ use Rattle.outage_schedule.specs.declared.note.Note.{Note}
 use Rattle.outage_schedule.specs.declared.report.Report.{Report}
 use Rattle.run_clauses.specs.ServiceBase.{service_base}
 use Rattle.server_model.specs.Base.{Base, IsSound}
-use Rattle.server_model.specs.Fresh.{fresh_new}
+use Rattle.server_model.specs.Fresh.{drawn_anew, fresh_new}
 use Rattle.server_model.specs.Items.{Item, items_of}
-use Rattle.server_model.specs.Laws.{RunsLegal, RunsFreshNew}
+use Rattle.server_model.specs.Laws.{RunsLegal, RunsFreshNew, RunsSetAside}
 use Rattle.server_model.specs.Legal.{legal}
 use Rattle.server_model.specs.Runs.{Happened, Server}
+use Rattle.server_model.specs.SetAside.{SetAside, ends_of}
+use Rattle.server_model.specs.Walk.{Walk, walk_of}
 use Rattle.server_model.specs.Seen.{Seen}
+use Rattle.world_model.specs.Coupled.{Coupled}
 use Rattle.world_model.specs.Finishing.{Place, AtServer, next_finish}
-use Rattle.world_model.specs.Judged.{next_items, walk_items, finish_items, items_with, judged_items}
+use Rattle.world_model.specs.Judged.{next_items, walk_items, finish_items, items_with, judged_items, drawn_in}
 use Rattle.world_model.specs.Machines.{Machine, start_of}
 use Rattle.world_model.specs.Reached.{Reached, Begins, GoesOn, IsFinishing, Scheduled, Finishes}
-use Rattle.world_model.specs.Reported.{IsReported, RunsAreLegal, RunsAreFreshNew}
+use Rattle.world_model.specs.Reported.{IsReported, RunsAreLegal, RunsAreFreshNew, RunsAreSetAside}
 use Rattle.world_model.specs.Settings.{Setting, setting_of}
 use Rattle.world_model.specs.Traced.{Traced}
 use Rattle.world_model.specs.Walking.{After, Walked, follow, walk}
 use Rattle.world_model.proofs.Items.{follow_local, walk_more}
-use Rattle.world_model.proofs.JudgedAlike.{plain_items, plain_of, history_plain, legal_plain, fresh_plain}
+use Rattle.world_model.proofs.JudgedAlike.{plain_items, plain_of, history_plain, legal_plain, drawn_plain, fresh_plain}
 use Rattle.world_model.proofs.JudgedEvents.{event_takes, event_did}
 use Rattle.world_model.proofs.RunStarts.{finishing_start, finishing_coupled}
 use Rattle.world_model.proofs.RunsFollowed.{reached_setting, reached_walk, finishing_setting}
@@ -176,3 +179,23 @@ runs_fresh_new law document report seen t server is =
     ∙ fresh_plain base (items_of seen.history) report.entries
     ∙ ap (fresh_new base (items_of seen.history)) is.entries
     ∙ law base seen.history server (sound document report seen t server is) is.runs coupled.stops
+
+pub runs_set_aside : RunsSetAside → RunsAreSetAside
+runs_set_aside law document report seen t server is =
+    subst (SetAside base.sequences (ends_of server.core.opening)) draws_are (law base seen.history server (sound document report seen t server is) is.runs coupled.stops)
+  where
+    base : Base
+    base = service_base document
+
+    coupled : Coupled seen t
+    coupled = finishing_coupled document is.run.place report.notes report.served seen t is.run.finishing
+
+    start : Walk
+    start = walk_of base server.core.entries
+
+    draws_are : drawn_anew base start (items_of seen.history) ≡ drawn_in document report
+    draws_are =
+        sym (drawn_plain base start (items_of seen.history))
+        ∙ ap (drawn_anew base start) (sym (judged_plain document report seen t server is))
+        ∙ drawn_plain base start (judged_items document report)
+        ∙ ap (λ (entries : List Entry). drawn_anew base (walk_of base entries) (judged_items document report)) (sym is.entries)

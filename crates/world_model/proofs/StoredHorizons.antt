@@ -1,31 +1,33 @@
--- The horizon that a store holds in a run: what the openings so far raised it to, or more by one that was stopped and asked for no more
+-- The incarnation that a store has at the end of a run, and the horizon that it holds in one: what the openings so far raised it to, or more by one that was stopped and asked for no more
 -- than the next one will. While the server is up it is the one that the report tells of the next event.
 use Rattle.std.proofs.Common.{◌≡◌, refl, sym, ap, subst, ◌∙◌, arith, inl, inr, ℕ, ◌+◌, ◌≤◌, Bool, true, false, List, [], ◌∷◌, ◌++◌, length, Some, None}
-use Rattle.std.specs.Prelude.{◌⊎◌, max}
+use Rattle.std.specs.Prelude.{◌⊎◌, fold, max}
 use Rattle.outage_schedule.specs.declared.document.Document.{Document}
 use Rattle.outage_schedule.specs.declared.event.Event.{Event}
 use Rattle.outage_schedule.specs.declared.item.Served.{Served}
 use Rattle.outage_schedule.specs.declared.note.Note.{Note}
 use Rattle.outage_schedule.specs.declared.note.Note.TheVariants as notes
 use Rattle.outage_schedule.specs.declared.report.Report.{Report}
-use Rattle.run_clauses.specs.Horizons.{after_note, wanted_horizon, horizon_at, last_horizon}
+use Rattle.run_clauses.specs.Horizons.{after_note, wanted_horizon, horizon_at, last_horizon, incarnation_after, incarnation_behind, last_incarnation}
 use Rattle.server_model.specs.Seen.{Store, Seen}
+use Rattle.world_model.specs.Coupled.{Coupled}
 use Rattle.world_model.specs.FinishEnds.{is_at_server}
 use Rattle.world_model.specs.Finishing.{Place}
 use Rattle.world_model.specs.Forgets.{Forgets, openings_of, first_of, wanted_behind}
 use Rattle.world_model.specs.Machines.{Machine}
 use Rattle.world_model.specs.OneEvent.{OneEvent}
 use Rattle.world_model.specs.Reached.{Reached, Begins, GoesOn, IsFinishing, Scheduled, Finishes}
-use Rattle.world_model.specs.RunLaws.{HorizonsAreStored}
+use Rattle.world_model.specs.RunLaws.{HorizonsAreStored, IncarnationsAreStored}
 use Rattle.world_model.specs.Settings.{Setting}
 use Rattle.world_model.specs.StoredLaws.{HorizonsAreTold}
 use Rattle.world_model.specs.Traced.{Traced}
 use Rattle.world_model.specs.Walking.{follow}
 use Rattle.world_model.proofs.FinishUp.{finish_up, over_up}
 use Rattle.world_model.proofs.RaisedHorizons.{raised_by, raised_at, raised_more, raised_so_far, last_raised}
+use Rattle.world_model.proofs.RunStarts.{finishing_coupled}
 use Rattle.world_model.proofs.Tests.{eq_to}
 use Rattle.world_model.proofs.WantedHorizons.{openings_more, wanted_rises}
-use Rattle.world_model.proofs.WasUp.{was_up, stopped_down}
+use Rattle.world_model.proofs.WasUp.{was_up, stopped_down, incarnation_noted}
 
 -- between what was raised and what is wanted, and what was raised while the server is up
 record Holds (up : Bool) (raised wanted horizon : ℕ) : Type 0 where
@@ -114,3 +116,34 @@ horizons_stored document report seen t run =
 
 pub horizons_told : HorizonsAreTold
 horizons_told document report seen t server is = eq_to report.forgotten (last_horizon document report) (is.forgotten ∙ horizons_stored document report seen t is.run)
+
+-- THE INCARNATION ---------------------------------------------------------------------------------
+
+behind_more : (document : Document) (before : List Note) (note : Note) → incarnation_behind document (before ++ note ∷ []) ≡ incarnation_after (incarnation_behind document before) note
+behind_more document before note = from (incarnation_behind document []) before
+  where
+    from : (first : ℕ) (before : List Note) → fold incarnation_after first (before ++ note ∷ []) ≡ incarnation_after (fold incarnation_after first before) note
+    from first [] = refl
+    from first (one ∷ before) = from (incarnation_after first one) before
+
+opened_next : (document : Document) (before : List Note) (seen later : Seen) (old new : Traced) (event : Event) (note : Note) (items left : List Served) → OneEvent seen old event note items left later new
+    → old.machine.server.incarnation ≡ incarnation_behind document before → new.machine.server.incarnation ≡ incarnation_behind document (before ++ note ∷ [])
+opened_next document before seen later old new event note items left one same =
+    incarnation_noted old.setting old.machine new.machine event note items left one.follows ∙ ap (λ (incarnation : ℕ). incarnation_after incarnation note) same ∙ sym (behind_more document before note)
+
+reached_opened : (document : Document) (events : List Event) (all : List Note) (items : List Served) (seen : Seen) (t : Traced) → Reached document events all items seen t → t.machine.server.incarnation ≡ incarnation_behind document all
+reached_opened document _ _ _ _ _ (Begins seen start history horizon coupled) = refl
+reached_opened document _ _ _ _ _ (GoesOn events all items more before after old new event note reached one forgets) =
+    opened_next document all before after old new event note more [] one (reached_opened document events all items before old reached)
+
+finishing_opened : (document : Document) (place : Place) (all : List Note) (items : List Served) (seen : Seen) (t : Traced) → IsFinishing document place all items seen t → t.machine.server.incarnation ≡ incarnation_behind document all
+finishing_opened document _ _ _ _ _ (Scheduled all items seen t reached) = reached_opened document document.schedule all items seen t reached
+finishing_opened document _ _ _ _ _ (Finishes place later all items more before after old new event note finishing next one forgets) =
+    opened_next document all before after old new event note more [] one (finishing_opened document place all items before old finishing)
+
+pub incarnations_stored : IncarnationsAreStored
+incarnations_stored document report seen t run =
+    let end = finishing_holds document run.place report.notes report.served seen t run.finishing in
+    let up : t.machine.server.is_up ≡ true = over_up t.machine run.place end.1 run.over in
+    let coupled : Coupled seen t = finishing_coupled document run.place report.notes report.served seen t run.finishing in
+    sym (coupled.server.opened (sym coupled.server.is_up ∙ up)).0 ∙ finishing_opened document run.place report.notes report.served seen t run.finishing

@@ -1,22 +1,23 @@
--- A server that is up behind an event was up before it, or the event opened it.
+-- A server that is up behind an event was up before it, or the event opened it, with the incarnation that its note tells.
 use Rattle.std.proofs.Common.{◌≡◌, sym, ap, ◌∙◌, refl, Bool, true, false, ℕ, List, Some, None}
-use Rattle.std.specs.Prelude.{◌+◌, not}
+use Rattle.std.specs.Prelude.{◌+◌, ◌&&◌, not}
 use Rattle.svc_values.specs.Same.{same_bool}
 use Rattle.outage_schedule.specs.declared.event.Event.{Event}
 use Rattle.outage_schedule.specs.declared.event.Event.TheVariants as event
 use Rattle.outage_schedule.specs.declared.note.Note.{Note}
 use Rattle.outage_schedule.specs.declared.note.Note.TheVariants as note
 use Rattle.outage_schedule.specs.declared.item.Served.{Served}
+use Rattle.run_clauses.specs.Horizons.{incarnation_after}
 use Rattle.world_model.specs.Settings.{Setting}
 use Rattle.world_model.specs.Machines.{Machine}
 use Rattle.world_model.specs.Matching.{Noted, Opened, matched}
-use Rattle.world_model.specs.Opening.{follow_upcrash}
+use Rattle.world_model.specs.Opening.{follow_up, follow_upcrash, may_open, opened}
 use Rattle.world_model.specs.Walking.{follow}
 use Rattle.world_model.proofs.FinishUp.{up_of, served_up}
 use Rattle.world_model.proofs.Happened.{Followed, follow_happens, leaves, at_event}
 use Rattle.world_model.proofs.Kept.{only_is}
 use Rattle.world_model.proofs.Moves.{Happens, Nothing, IsStep, Serves, Cuts, Reaps, Crashes, OpensUp, StopsOpening, Ticks, RunsOutside, Asks, Drains, only_met}
-use Rattle.world_model.proofs.Servers.{goes_same}
+use Rattle.world_model.proofs.Servers.{Stands, AsBefore, Fell, Opened as OpenedThen, goes_same, happens_stands}
 
 -- the note of an opening
 abbrev pub is_opening : Note → Bool
@@ -74,3 +75,32 @@ stopped_down setting m n (event.UpCrash after pick) items left is = ap (λ (a : 
     down true met = absurd (let never : ⊥ = cc in never)
     down false met = refl
 stopped_down setting m n event items left is = absurd (let never : ⊥ = cc in never)
+
+-- THE INCARNATION ---------------------------------------------------------------------------------
+
+opened_as : (setting : Setting) (m n : Machine) (event : Event) (incarnation : ℕ) (items left : List Served) → follow setting m event (note.Up (Some incarnation)) items ≡ Some (n, left) → n.server.incarnation ≡ incarnation
+opened_as setting m n event.Up incarnation items left is = ap (λ (a : Machine). a.server.incarnation) (sym same)
+  where
+    opens : follow_up (at_event m) (Some incarnation) ≡ Some n
+    opens = leaves (follow_up (at_event m) (Some incarnation)) n items left is
+
+    same : record (at_event m) { server = opened m.server incarnation } ≡ n
+    same = only_is (not m.server.is_up && may_open m.server incarnation) (record (at_event m) { server = opened m.server incarnation }) n opens
+opened_as setting m n event incarnation items left is = absurd (let never : ⊥ = cc in never)
+
+-- no other event changes it
+incarnation_kept : (setting : Setting) (m n : Machine) (event : Event) (note : Note) (items left : List Served) → follow setting m event note items ≡ Some (n, left) → is_opening note ≡ false → n.server.incarnation ≡ m.server.incarnation
+incarnation_kept setting m n event note items left is quiet = by (happens_stands setting (at_event m) items left followed.kind n followed.happens)
+  where
+    followed : Followed setting m event note items left n
+    followed = follow_happens setting m event note items left n is
+
+    by : Stands (at_event m) n → n.server.incarnation ≡ m.server.incarnation
+    by (AsBefore same) = same.incarnation
+    by (Fell links same down kept) = kept
+    by (OpenedThen same down up later fresh) = absurd (let clash : true ≡ false = sym (was_up setting m n event note items left is quiet up) ∙ down in let none : ⊥ = cc in none)
+
+pub incarnation_noted : (setting : Setting) (m n : Machine) (event : Event) (note : Note) (items left : List Served) → follow setting m event note items ≡ Some (n, left) → n.server.incarnation ≡ incarnation_after m.server.incarnation note
+incarnation_noted setting m n event (note.Up (Some incarnation)) items left is = opened_as setting m n event incarnation items left is
+incarnation_noted setting m n event (note.Up None) items left is = incarnation_kept setting m n event (note.Up None) items left is refl
+incarnation_noted setting m n event note items left is = incarnation_kept setting m n event note items left is refl

@@ -4,6 +4,7 @@
 use Rattle.std.specs.Prelude.{◌+◌, Bool, false, List, [], ◌∷◌, ◌++◌, map, Option, Some, if◌then◌else◌}
 use Rattle.std.specs.Option.{option_map_or}
 use Rattle.svc_values.specs.declared.call.Call.{Call}
+use Rattle.svc_values.specs.declared.draw.Draw.{Draw}
 use Rattle.outage_schedule.specs.declared.document.Document.{Document}
 use Rattle.outage_schedule.specs.declared.event.Event.{Event}
 use Rattle.outage_schedule.specs.declared.event.Event.TheVariants as event
@@ -14,10 +15,11 @@ use Rattle.outage_schedule.specs.declared.note.NoteRun.{NoteRun}
 use Rattle.outage_schedule.specs.declared.note.OutsideNote.{OutsideNote}
 use Rattle.outage_schedule.specs.declared.report.Report.{Report}
 use Rattle.run_clauses.specs.ServiceBase.{service_base}
-use Rattle.server_model.specs.Fresh.{fresh_new}
+use Rattle.server_model.specs.Fresh.{drawn_anew, fresh_new}
 use Rattle.server_model.specs.Items.{Thing, Connected, Began, Called, MetBlock, Item, Did, thing_of, asked_of}
 use Rattle.server_model.specs.Legal.{legal}
 use Rattle.server_model.specs.Outcomes.{Says}
+use Rattle.server_model.specs.Walk.{walk_of}
 use Rattle.world_model.specs.Finishing.{Place, AtServer, next_finish}
 use Rattle.world_model.specs.Machines.{Machine, next_session, start_of}
 use Rattle.world_model.specs.ServiceDid.{front_telling}
@@ -89,3 +91,7 @@ is_legal document report = legal (service_base document) (judged_items document 
 -- no value was drawn anew twice
 abbrev pub is_fresh_new : Document → Report → Bool
 is_fresh_new document report = fresh_new (service_base document) (judged_items document report) report.entries
+
+-- the values that were drawn anew, those of stopped calls among them whose entry stands
+abbrev pub drawn_in : Document → Report → List Draw
+drawn_in document report = drawn_anew (service_base document) (walk_of (service_base document) report.entries) (judged_items document report)

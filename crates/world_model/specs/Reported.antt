@@ -8,9 +8,10 @@ use Rattle.run_clauses.specs.NoClash.{no_clash}
 use Rattle.run_clauses.specs.Same.{same}
 use Rattle.run_clauses.specs.ServiceBase.{service_base}
 use Rattle.server_model.specs.Runs.{Server, Runs}
+use Rattle.server_model.specs.SetAside.{SetAside, ends_of}
 use Rattle.server_model.specs.Seen.{Seen}
 use Rattle.world_model.specs.Followed.{transcripts_of}
-use Rattle.world_model.specs.Judged.{is_legal, is_fresh_new}
+use Rattle.world_model.specs.Judged.{drawn_in, is_legal, is_fresh_new}
 use Rattle.world_model.specs.Reached.{IsRun}
 use Rattle.world_model.specs.Ready.{all_requests_right}
 use Rattle.world_model.specs.Traced.{Traced}
@@ -35,6 +36,12 @@ RunsAreLegal = (document : Document) (report : Report) (seen : Seen) (t : Traced
 -- No value was drawn anew twice.
 abbrev pub RunsAreFreshNew : Type 0
 RunsAreFreshNew = (document : Document) (report : Report) (seen : Seen) (t : Traced) (server : Server) → IsReported document report seen t server → IsTrue (is_fresh_new document report)
+
+-- What was drawn anew lies in what the source has set aside, and nothing that was set aside before event 1 is given back.
+abbrev pub RunsAreSetAside : Type 0
+RunsAreSetAside =
+    (document : Document) (report : Report) (seen : Seen) (t : Traced) (server : Server) → IsReported document report seen t server
+    → SetAside (service_base document).sequences (ends_of server.core.opening) (drawn_in document report)
 
 -- No value stands twice among what the entries drew, where the requests of the document are right.
 abbrev pub RunsAreFresh : Type 0

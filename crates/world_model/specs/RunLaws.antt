@@ -5,7 +5,7 @@ use Rattle.outage_schedule.specs.declared.event.Event.{Event}
 use Rattle.outage_schedule.specs.declared.item.Served.{Served}
 use Rattle.outage_schedule.specs.declared.note.Note.{Note}
 use Rattle.outage_schedule.specs.declared.report.Report.{Report}
-use Rattle.run_clauses.specs.Horizons.{last_horizon}
+use Rattle.run_clauses.specs.Horizons.{last_horizon, last_incarnation}
 use Rattle.server_model.specs.Seen.{Seen}
 use Rattle.world_model.specs.Followed.{transcripts_of, followed}
 use Rattle.world_model.specs.Invariant.{Orderly}
@@ -32,3 +32,7 @@ RunsAreOrderly =
 -- At the end of a run the store has the horizon that the openings of its report ask for.
 abbrev pub HorizonsAreStored : Type 0
 HorizonsAreStored = (document : Document) (report : Report) (seen : Seen) (t : Traced) → IsRun document report.notes report.served seen t → seen.state.store.horizon ≡ last_horizon document report
+
+-- And it has the incarnation of the last opening that its report tells.
+abbrev pub IncarnationsAreStored : Type 0
+IncarnationsAreStored = (document : Document) (report : Report) (seen : Seen) (t : Traced) → IsRun document report.notes report.served seen t → seen.state.store.incarnation ≡ last_incarnation document report

@@ -1,5 +1,5 @@
 //! What holds of a whole run that a report tells. Each law is the clause of a function with nothing to run.
-ghost use Rattle.world_model.specs.Reported.{RunsAreFresh, RunsAreFreshNew, RunsAreLegal, RunsAreSame};
+ghost use Rattle.world_model.specs.Reported.{RunsAreFresh, RunsAreFreshNew, RunsAreLegal, RunsAreSame, RunsAreSetAside};
 
 /// What a run served is legal, as a walk over its items judges that knows them, the entries and the alerts alone.
 pub fn runs_are_legal()
@@ -13,6 +13,13 @@ pub fn runs_are_fresh_new()
     ensures { RunsAreFreshNew }
 {
     server_model::laws::runs_fresh_new();
+}
+
+/// What a run drew anew lies in what its service has set aside, and of no sequence is that less than it was before event 1.
+pub fn runs_are_set_aside()
+    ensures { RunsAreSetAside }
+{
+    server_model::laws::runs_set_aside();
 }
 
 /// No value stands twice among what the entries of a run drew, in documents whose requests are right. A tick of the clock may. A call that

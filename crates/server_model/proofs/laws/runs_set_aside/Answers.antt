@@ -1,0 +1,5 @@
+use Rattle.server_model.proofs.BelowEnds.{runs_set_aside}
+use Rattle.server_model.proofs.laws.runs_set_aside.Goals as goal
+
+pub returns : goal.returns
+returns c = runs_set_aside
