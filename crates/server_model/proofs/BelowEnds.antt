@@ -1,5 +1,5 @@
 -- What a run draws anew lies in what its source has set aside.
-use Rattle.std.specs.Prelude.{◌≡◌, ◌+◌, ◌*◌, ◌&&◌, ◌+ℤ◌, ℕ, ℤ, pos, int_le, Bool, true, false, is_some, List, [], ◌∷◌, ◌++◌, map, Option, Some, None, if◌then◌else◌}
+use Rattle.std.specs.Prelude.{◌≡◌, ◌+◌, ◌*◌, ◌+ℤ◌, ℕ, ℤ, pos, int_le, Bool, true, false, is_some, List, [], ◌∷◌, ◌++◌, map, Option, Some, None, if◌then◌else◌}
 use Rattle.std.specs.List.{list_all}
 use Rattle.std.specs.Option.{option_map}
 use Rattle.std.specs.Str.{bytes_eq}
@@ -14,20 +14,19 @@ use Rattle.mutable_values.specs.declared.source.SeqState.{SeqState}
 use Rattle.mutable_values.specs.Sources.{Opening, sequence_of}
 use Rattle.server_model.specs.Base.{Base, Sequence}
 use Rattle.server_model.specs.Fresh.{new_in, drawn_anew}
-use Rattle.server_model.specs.Items.{Thing, Item, thing_of, item_of, asked_of, items_from}
+use Rattle.server_model.specs.Items.{Item, thing_of, item_of, asked_of, items_from}
 use Rattle.server_model.specs.Laws.{RunsSetAside}
 use Rattle.server_model.specs.NewValues.{Count, Numbers, Origin, Kept, New, origin_of, left_by, one_drawn, if_next, and_draws, drawn_by, kept_by, if_new, new_among, count_of}
 use Rattle.server_model.specs.Outcomes.{Telling, Silent, Says, Stopped}
 use Rattle.server_model.specs.Runs.{Happened, Served, Asked}
-use Rattle.server_model.specs.SetAside.{SetAside, ends_in, ends_of, is_set_aside, is_no_less}
+use Rattle.server_model.specs.SetAside.{ends_in, ends_of, is_set_aside, is_no_less}
 use Rattle.server_model.specs.Walk.{Walk, walk_of, Deed, Nothing, Meaningless, Ran, or_same, entered, deed_of, after_deed}
-use Rattle.server_model.proofs.CountedBlocks.{Spends}
 use Rattle.server_model.proofs.DrawnFrames.{deed_draws, ran-numbers}
 use Rattle.server_model.proofs.DrawnRuns.{ask-numbers, deeds_drawn, runs-draws}
 use Rattle.server_model.proofs.Following.{walk_behind, walked}
 use Rattle.server_model.proofs.FreshRuns.{start-within}
 use Rattle.server_model.proofs.NewAbove.{next-stepped}
-use Rattle.server_model.proofs.NewLater.{le-self, le-trans, LaterOne, BelowOne, Below, AllWithin, OnDraws, on-same, on-then, later-self, later-one, below-later}
+use Rattle.server_model.proofs.NewLater.{LaterOne, BelowOne, Below, AllWithin, OnDraws, on-same, on-then, later-self, later-one, below-later}
 use Rattle.server_model.proofs.NewOnce.{enters, on-thing}
 use Rattle.server_model.proofs.Spending.{SpendsOne, Spent}
 use Rattle.server_model.proofs.StoppedHistories.{later-none, and-left, and-right, and-both}
