@@ -21,9 +21,9 @@ use Rattle.doc_reader.specs.Keeping.{IsDocument}
 use Rattle.document_forms.specs.Numbers.{is_between, is_count, is_small_ltxid}
 use Rattle.document_forms.specs.Scripts.{is_inside, is_one_transaction}
 use Rattle.server_model.specs.ServiceCalls.{is_failover}
-use Rattle.world_model.specs.FinishShort.{AreLimits, calls_of_scripts, is_repeated_little}
-use Rattle.world_model.specs.Ready.{has_calls, is_rightly_repeated, is_right_request}
-use Rattle.world_model.specs.Ready as ready
+use Rattle.run_laws.specs.FinishShort.{AreLimits, calls_of_scripts, is_repeated_little}
+use Rattle.world_model.specs.records.Ready.{has_calls, is_rightly_repeated, is_right_request}
+use Rattle.world_model.specs.records.Ready as ready
 use Rattle.world_core.specs.Allowing.{IsAllowed}
 use Rattle.world_core.specs.Among.{IsFitScript}
 use Rattle.world_core.specs.Coursing.{IsFit}

@@ -42,7 +42,7 @@ use Rattle.service_core.specs.Within.{Within}
 use Rattle.world_model.specs.Judged.{drawn_in}
 use Rattle.world_model.specs.Reached.{IsRun}
 use Rattle.world_model.specs.Reported.{IsReported}
-use Rattle.world_model.specs.Ready.{all_requests_right}
+use Rattle.world_model.specs.records.Ready.{all_requests_right}
 use Rattle.world_model.proofs.Offered.{finishing_start}
 use Rattle.world_run.specs.declared.world.Ran.{Ran}
 use Rattle.continuity_run.specs.declared.store.Before.{Before}

@@ -7,7 +7,7 @@ use Rattle.outage_schedule.specs.declared.note.Note.{Note}
 use Rattle.doc_reader.specs.Keeping.{IsDocument}
 use Rattle.server_model.specs.Seen.{Seen}
 use Rattle.world_model.specs.FinishEnds.{CanFinish, FinishBegins, FinishFalls, FinishGoesOn}
-use Rattle.world_model.specs.FinishShort.{FinishIsShort}
+use Rattle.run_laws.specs.FinishShort.{FinishIsShort}
 use Rattle.world_model.specs.Finishing.{Place}
 use Rattle.world_model.specs.Reached.{Reached, Begins, GoesOn, IsFinishing, Scheduled, Finishes}
 use Rattle.world_model.specs.Remaining.{remaining}

@@ -16,7 +16,7 @@ use Rattle.outage_schedule.specs.declared.request.RequestReport.{RequestReport}
 use Rattle.server_model.specs.Seen.{Seen}
 use Rattle.service_calls.specs.Kept.{HaveOneBase}
 use Rattle.world_model.specs.Clients.{Client, reports_of}
-use Rattle.world_model.specs.FinishShort.{FinishIsShort}
+use Rattle.run_laws.specs.FinishShort.{FinishIsShort}
 use Rattle.world_model.specs.Followed.{transcripts_of}
 use Rattle.world_model.specs.Forgets.{first_of}
 use Rattle.world_model.specs.Reached.{Reached, Begins, GoesOn, IsRun, Scheduled, traced_start}

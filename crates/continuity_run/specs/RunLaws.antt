@@ -3,10 +3,14 @@ use Rattle.legal_laws.specs.ToldLegal.{RunsAreLegalTold}
 use Rattle.server_model.specs.Laws.{RunsSerial}
 use Rattle.shown_laws.specs.CausedRuns.{RunsAreCaused}
 use Rattle.shown_laws.specs.WholeRuns.{RunsAreWhole}
-use Rattle.world_model.specs.OnceLaws.{ReportsAreOnce}
-use Rattle.world_model.specs.Reported.{RunsAreLegal, RunsAreFreshNew, RunsAreSetAside, RunsAreFresh, RunsAreSame}
-use Rattle.world_model.specs.RunLaws.{RunsAreFollowed, IncarnationsAreStored}
-use Rattle.world_model.specs.StoredLaws.{OutcomesAreStored, AnswersAreRight, HorizonsAreTold, BlocksStayApart, BlocksAreAnswered, BlocksComeInOrder}
+use Rattle.once_laws.specs.OnceLaws.{ReportsAreOnce}
+use Rattle.legal_laws.specs.RunsJudged.{RunsAreLegal, RunsAreFreshNew, RunsAreSetAside}
+use Rattle.fresh_laws.specs.RunsFresh.{RunsAreFresh}
+use Rattle.same_laws.specs.RunsSame.{RunsAreSame}
+use Rattle.world_model.specs.RunLaws.{RunsAreFollowed}
+use Rattle.run_laws.specs.StoredLaws.{IncarnationsAreStored}
+use Rattle.once_laws.specs.OnceLaws.{OutcomesAreStored}
+use Rattle.run_laws.specs.StoredLaws.{AnswersAreRight, HorizonsAreTold, BlocksStayApart, BlocksAreAnswered, BlocksComeInOrder}
 
 pub record RunsHold : Type 0 where
   pub followed : RunsAreFollowed

@@ -12,10 +12,19 @@ ghost use Rattle.continuity_run.specs.Runs.{HasRun, IsRunOf, IsRunOfSome};
 use crate::reporting::report_of;
 use crate::store::{Store, store_of};
 use auto_bounds::AutoRule;
+use fresh_laws::laws::runs_are_fresh;
+use legal_laws::judged::{runs_are_fresh_new, runs_are_legal, runs_are_set_aside};
 use legal_laws::laws::runs_are_legal_told;
 use mutable_values::Grants;
+use once_laws::laws::{outcomes_are_stored, reports_are_once};
 use outage_schedule::{Client, Consistency, Document, Event, Failover, KeepOf, Report, ServiceOf};
 use request_bounds::{BoundRule, DynamicRule, OffRule, StaticRule};
+use run_laws::finish_laws::finish_is_short;
+use run_laws::stored_laws::{
+    answers_are_right, blocks_are_answered, blocks_stay_apart, horizons_are_told,
+    incarnations_are_stored,
+};
+use same_laws::laws::runs_are_same;
 use server_model::laws::runs_serial;
 use service_calls::Service;
 use service_core::OneService;
@@ -23,18 +32,7 @@ use shown_laws::laws::runs_are_caused;
 use shown_laws::reports::runs_are_whole;
 use std::alloc::Global;
 use svc_values::NoMemory;
-use world_model::horizon_laws::incarnations_are_stored;
-use world_model::laws::{
-    finish_falls, finish_goes_on, finish_is_short, runs_are_followed, runs_are_orderly,
-};
-use world_model::once_end_laws::reports_are_once;
-use world_model::run_laws::{
-    runs_are_fresh, runs_are_fresh_new, runs_are_legal, runs_are_same, runs_are_set_aside,
-};
-use world_model::stored_laws::{
-    answers_are_right, blocks_are_answered, blocks_stay_apart, horizons_are_told,
-    outcomes_are_stored,
-};
+use world_model::laws::{finish_falls, finish_goes_on, runs_are_followed, runs_are_orderly};
 use world_run::{Ran, World};
 
 /// What a service grants.

@@ -5,7 +5,7 @@ use Rattle.std.proofs.lemmas.List.{length_push, length-reverse, reverse-append}
 use Rattle.outage_schedule.specs.declared.request.ShownCall.{ShownCall}
 use Rattle.shown_clauses.specs.KeptDraws.{if_decided, shown_since}
 use Rattle.shown_clauses.specs.Turns.{ends_decided}
-use Rattle.world_model.specs.Script.{behind_decided, recorded_from}
+use Rattle.world_model.specs.records.Script.{behind_decided, recorded_from}
 
 -- further on by so many
 shifted : (by found index : ℕ) (shown : List ShownCall) → behind_decided (by + found) (by + index) shown ≡ by + behind_decided found index shown

@@ -40,7 +40,7 @@ use Rattle.world_model.specs.Machines.{Machine, next_session}
 use Rattle.world_model.specs.ServiceDid.{front_served, front_telling}
 use Rattle.world_model.specs.Serving.{Front as FrameFront, front_at, is_blocked, is_item_of, is_served_by, is_of_front, is_ordinary, outcome_frame, reply_of, commits_after, handled}
 use Rattle.world_model.specs.Settings.{Setting}
-use Rattle.world_model.specs.Shown.{is_marked}
+use Rattle.invariant_laws.specs.Shown.{is_marked}
 use Rattle.shown_laws.specs.Growth.{next_told}
 use Rattle.shown_laws.specs.ServedSent.{none_blocked}
 use Rattle.shown_laws.specs.Telling.{seen_told, ticks_told}

@@ -18,8 +18,8 @@ use Rattle.shown_clauses.specs.Parts.{Part}
 use Rattle.shown_clauses.specs.Places.{Front}
 use Rattle.world_model.specs.OneEvent.{OneEvent}
 use Rattle.world_model.specs.Reached.{Reached, Begins, GoesOn, traced_start}
-use Rattle.world_model.specs.Ready.{all_requests_right}
-use Rattle.world_model.specs.SameLaws.{HoldsInRuns}
+use Rattle.world_model.specs.records.Ready.{all_requests_right}
+use Rattle.invariant_laws.specs.SameLaws.{HoldsInRuns}
 use Rattle.world_model.specs.Traced.{Traced}
 use Rattle.shown_laws.specs.Growth.{RunsAreCounted, RunsGrow}
 use Rattle.shown_laws.specs.Unblocked.{serve_unblocked}

@@ -24,10 +24,10 @@ use Rattle.shown_clauses.specs.Legal.{legal_of, fresh_new_of}
 use Rattle.shown_clauses.specs.LegalItems.{items_from, items_of, outsides_fit}
 use Rattle.shown_clauses.specs.Places.{first_front, reach}
 use Rattle.world_model.specs.Coupled.{Coupled}
-use Rattle.world_model.specs.Ready.{all_requests_right}
+use Rattle.world_model.specs.records.Ready.{all_requests_right}
 use Rattle.world_model.specs.Reached.{traced_start}
 use Rattle.world_model.specs.Reported.{IsReported}
-use Rattle.world_model.specs.SameLaws.{HoldsInRuns}
+use Rattle.invariant_laws.specs.SameLaws.{HoldsInRuns}
 use Rattle.world_model.specs.Traced.{Traced}
 use Rattle.world_model.proofs.Offered.{finishing_start}
 use Rattle.shown_laws.specs.Growth.{RunsAreCounted, RunsGrow}

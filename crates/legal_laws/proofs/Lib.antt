@@ -14,3 +14,6 @@ pub mod ReplaysServed
 pub mod ReplaysShown
 pub mod SettingsSame
 pub mod ThingsTold
+pub mod JudgedAlike
+pub mod JudgedEvents
+pub mod JudgedRuns

@@ -14,13 +14,13 @@ use Rattle.shown_clauses.specs.Links.{Acquired, Link as SeenLink, Turn}
 use Rattle.shown_clauses.specs.Parts.{Part}
 use Rattle.world_model.specs.Clients.{Step}
 use Rattle.world_model.specs.Frames.{Sent}
-use Rattle.world_model.specs.Invariant.{Invariant}
-use Rattle.world_model.specs.KeptLaws.{RunsKeepInvariant}
+use Rattle.invariant_laws.specs.Invariant.{Invariant}
+use Rattle.invariant_laws.specs.KeptLaws.{RunsKeepInvariant}
 use Rattle.world_model.specs.Parts.{implies}
-use Rattle.world_model.specs.Replayed.{shown_at, IsRepeat, RunsRepeatInOrder}
+use Rattle.invariant_laws.specs.Replayed.{shown_at, IsRepeat, RunsRepeatInOrder}
 use Rattle.world_model.specs.Sames.{owned_by}
-use Rattle.world_model.specs.Script.{has_shown_draws, carries_draws, recorded_from}
-use Rattle.world_model.specs.Shown.{is_marked}
+use Rattle.world_model.specs.records.Script.{has_shown_draws, carries_draws, recorded_from}
+use Rattle.invariant_laws.specs.Shown.{is_marked}
 use Rattle.world_model.specs.Traced.{Course, courses_of}
 use Rattle.shown_laws.specs.Telling.{seen_told}
 use Rattle.shown_laws.proofs.Offered.{at_link}

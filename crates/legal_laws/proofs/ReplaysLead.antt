@@ -8,7 +8,7 @@ use Rattle.outage_schedule.specs.declared.item.Served.{Served}
 use Rattle.shown_clauses.specs.KeptDraws.{has_marked, is_marked_item}
 use Rattle.world_model.specs.Clients.{Step}
 use Rattle.world_model.specs.Frames.{Owner}
-use Rattle.world_model.specs.Ready.{all_requests_right}
+use Rattle.world_model.specs.records.Ready.{all_requests_right}
 use Rattle.shown_laws.specs.ByPlace.{RequestSteps, IsRequestOf}
 use Rattle.shown_laws.specs.RequestsGrow.{GoesOnAs, RequestsGrow}
 use Rattle.legal_laws.specs.MarksTold.{ServesMarked}

@@ -18,17 +18,17 @@ use Rattle.shown_clauses.specs.Links.{Acquired, Link as SeenLink, Marked, Turn, 
 use Rattle.shown_clauses.specs.Turns.{is_marked}
 use Rattle.world_model.specs.Clients.{Client}
 use Rattle.world_model.specs.Frames.{Owner, Sent}
-use Rattle.world_model.specs.Invariant.{Invariant}
-use Rattle.world_model.specs.KeptLaws.{RunsKeepInvariant}
+use Rattle.invariant_laws.specs.Invariant.{Invariant}
+use Rattle.invariant_laws.specs.KeptLaws.{RunsKeepInvariant}
 use Rattle.world_model.specs.Links.{Link, link_at}
-use Rattle.world_model.specs.Ready.{all_requests_right}
-use Rattle.world_model.specs.SameLaws.{HoldsInRuns}
+use Rattle.world_model.specs.records.Ready.{all_requests_right}
+use Rattle.invariant_laws.specs.SameLaws.{HoldsInRuns}
 use Rattle.world_model.specs.Sames.{is_front, is_of, owned_by, same_owner, same_sent, same_up}
-use Rattle.world_model.specs.Script.{is_held_by, owned_rightly}
+use Rattle.world_model.specs.records.Script.{is_held_by, owned_rightly}
 use Rattle.world_model.specs.Serving.{is_item_of, is_of_front, is_served_by}
-use Rattle.world_model.specs.Shown.{is_marked as is_marked_frame}
+use Rattle.invariant_laws.specs.Shown.{is_marked as is_marked_frame}
 use Rattle.world_model.specs.Traced.{Course, courses_of}
-use Rattle.world_model.specs.Wire.{New, handled_from, is_right, is_sent_front, stage_of, up_of}
+use Rattle.world_model.specs.records.Wire.{New, handled_from, is_right, is_sent_front, stage_of, up_of}
 use Rattle.world_model.specs.Words.{held_in}
 use Rattle.shown_laws.specs.ConnectionLaws.{AreTold, RunsTellConnections}
 use Rattle.shown_laws.specs.Connections.{TellsAt, NoLink, Unnamed, Named}

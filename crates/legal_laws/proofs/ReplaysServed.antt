@@ -17,8 +17,8 @@ use Rattle.world_model.specs.Crashing.{is_crashed_item}
 use Rattle.world_model.specs.Frames.{Owner, Sent, Handled}
 use Rattle.world_model.specs.Sames.{is_front, same_owner, same_owners, same_sent, same_up}
 use Rattle.world_model.specs.Serving.{is_blocked, is_item_of, reply_of}
-use Rattle.world_model.specs.Shown.{is_marked as is_marked_frame}
-use Rattle.world_model.specs.Wire.{Stage, New, Greeted, Told, Repeated, Begun, Rested, Shut, Wrong, counted_with, handled_from, is_alter, is_handled, is_right, next_stage, same_replies, stage_if}
+use Rattle.invariant_laws.specs.Shown.{is_marked as is_marked_frame}
+use Rattle.world_model.specs.records.Wire.{Stage, New, Greeted, Told, Repeated, Begun, Rested, Shut, Wrong, counted_with, handled_from, is_alter, is_handled, is_right, next_stage, same_replies, stage_if}
 use Rattle.shown_laws.specs.ServedSent.{none_blocked}
 use Rattle.shown_laws.specs.TurnOwners.{begun_by}
 use Rattle.shown_laws.specs.TurnsServed.{calls_after}

@@ -16,11 +16,11 @@ use Rattle.shown_clauses.specs.Fronts.{first_of}
 use Rattle.shown_clauses.specs.KeptDraws.{parts, parts_if, is_step_of}
 use Rattle.shown_clauses.specs.Steps.{Step as StepTold}
 use Rattle.world_model.specs.Clients.{Step}
-use Rattle.world_model.specs.KeptLaws.{RunsKeepInvariant, FinishesKeepInvariant}
-use Rattle.world_model.specs.Ready.{all_requests_right}
-use Rattle.world_model.specs.Replayed.{shown_at, opens, before_opening, IsRepeat, RunsRepeatInOrder}
+use Rattle.invariant_laws.specs.KeptLaws.{RunsKeepInvariant, FinishesKeepInvariant}
+use Rattle.world_model.specs.records.Ready.{all_requests_right}
+use Rattle.invariant_laws.specs.Replayed.{shown_at, opens, before_opening, IsRepeat, RunsRepeatInOrder}
 use Rattle.world_model.specs.Reported.{IsReported}
-use Rattle.world_model.specs.Shown.{is_marked}
+use Rattle.invariant_laws.specs.Shown.{is_marked}
 use Rattle.world_model.specs.Settings.{Setting}
 use Rattle.world_model.specs.Traced.{Traced, Course}
 use Rattle.shown_laws.specs.Growth.{RunsGrow}

@@ -19,7 +19,7 @@ use Rattle.shown_clauses.specs.Things.{outcome_of, thing_of as thing_told}
 use Rattle.world_model.specs.Crashing.{is_crashed_item}
 use Rattle.world_model.specs.ServiceDid.{item_telling}
 use Rattle.world_model.specs.Serving.{is_blocked, is_item_of, outcome_frame}
-use Rattle.world_model.specs.Shown.{is_marked}
+use Rattle.invariant_laws.specs.Shown.{is_marked}
 use Rattle.legal_laws.proofs.BareItems.{bare_thing}
 use Rattle.legal_laws.proofs.SettingsSame.{settings_are}
 

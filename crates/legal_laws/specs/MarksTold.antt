@@ -13,7 +13,7 @@ use Rattle.server_model.specs.Seen.{Seen}
 use Rattle.shown_clauses.specs.KeptDraws.{parts, is_marked_item, kept_at}
 use Rattle.shown_clauses.specs.Parts.{Part}
 use Rattle.world_model.specs.OneEvent.{OneEvent}
-use Rattle.world_model.specs.Ready.{all_requests_right}
+use Rattle.world_model.specs.records.Ready.{all_requests_right}
 use Rattle.world_model.specs.Reported.{IsReported}
 use Rattle.world_model.specs.Serving.{Front, front_at, is_ordinary}
 use Rattle.world_model.specs.Traced.{Traced}

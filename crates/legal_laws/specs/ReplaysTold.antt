@@ -15,8 +15,8 @@ use Rattle.shown_clauses.specs.Parts.{Part}
 use Rattle.world_model.specs.Clients.{Step, Client}
 use Rattle.world_model.specs.Frames.{Owner, Sent}
 use Rattle.world_model.specs.Links.{Link, link_at}
-use Rattle.world_model.specs.Ready.{all_requests_right}
-use Rattle.world_model.specs.Replayed.{shown_at, before_opening}
+use Rattle.world_model.specs.records.Ready.{all_requests_right}
+use Rattle.invariant_laws.specs.Replayed.{shown_at, before_opening}
 use Rattle.world_model.specs.Reported.{IsReported}
 use Rattle.world_model.specs.Sames.{owned_by}
 use Rattle.world_model.specs.Traced.{Traced, Course, courses_of}

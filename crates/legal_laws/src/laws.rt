@@ -22,8 +22,8 @@ pub fn told_runs_are_legal()
 pub fn told_replays_bring_draws()
     ensures { ReportsTellReplays → ReportsTellMarked }
 {
-    world_model::kept_laws::runs_keep_invariant();
-    world_model::same_laws::replays_repeat_in_order();
+    invariant_laws::kept_laws::runs_keep_invariant();
+    replay_laws::laws::replays_repeat_in_order();
 }
 
 /// Each call with the mark that is served was sent by a request on a connection that it held, and the turn that is told of its session has as many calls
@@ -31,7 +31,7 @@ pub fn told_replays_bring_draws()
 pub fn replays_are_placed()
     ensures { ReplaysArePlaced }
 {
-    world_model::kept_laws::runs_keep_invariant();
+    invariant_laws::kept_laws::runs_keep_invariant();
     shown_laws::laws::connections_are_told();
     shown_laws::laws::turns_are_told();
     shown_laws::turns::marked_calls_meet_no_block();
@@ -43,8 +43,8 @@ pub fn replays_are_placed()
 pub fn replays_are_shown()
     ensures { ReportsShowReplays }
 {
-    world_model::kept_laws::runs_keep_invariant();
-    world_model::same_laws::replays_repeat_in_order();
+    invariant_laws::kept_laws::runs_keep_invariant();
+    replay_laws::laws::replays_repeat_in_order();
     shown_laws::laws::events_are_told();
     shown_laws::laws::requests_go_on();
     shown_laws::laws::steps_are_told();

@@ -4,4 +4,5 @@
 //! It has definitions and their laws, and no code. A law is the contract of a function that does nothing.
 #![tactic(auto)]
 
+pub mod judged;
 pub mod laws;

@@ -17,11 +17,11 @@ use Rattle.shown_clauses.specs.Parts.{Part, parts_of}
 use Rattle.shown_clauses.specs.Steps.{Step as StepTold, steps, steps_of}
 use Rattle.shown_clauses.specs.Submissions.{Submission, submissions_of, submissions_by_client}
 use Rattle.world_model.specs.Clients.{Step, Client, client_at}
-use Rattle.world_model.specs.Conversing.{AreThrough, IsThrough}
+use Rattle.world_model.specs.records.Conversing.{AreThrough, IsThrough}
 use Rattle.world_model.specs.Frames.{Owner}
-use Rattle.world_model.specs.KeptLaws.{FinishesKeepInvariant}
-use Rattle.world_model.specs.Ready.{all_requests_right}
-use Rattle.world_model.specs.Replayed.{shown_at, before_opening}
+use Rattle.invariant_laws.specs.KeptLaws.{FinishesKeepInvariant}
+use Rattle.world_model.specs.records.Ready.{all_requests_right}
+use Rattle.invariant_laws.specs.Replayed.{shown_at, before_opening}
 use Rattle.world_model.specs.Reported.{IsReported}
 use Rattle.world_model.specs.Traced.{Traced}
 use Rattle.client_model.specs.Terms.{Terms}

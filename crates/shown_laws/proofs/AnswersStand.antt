@@ -14,9 +14,9 @@ use Rattle.outage_schedule.specs.declared.item.Served.{Served}
 use Rattle.outage_schedule.specs.declared.note.AskResult.TheVariants as told
 use Rattle.run_clauses.specs.Outcomes.{completed_of}
 use Rattle.world_model.specs.Frames.{Owner, Handled}
-use Rattle.world_model.specs.Invariant.{Invariant}
+use Rattle.invariant_laws.specs.Invariant.{Invariant}
 use Rattle.world_model.specs.Links.{Link, link_at}
-use Rattle.world_model.specs.Shown.{stands}
+use Rattle.invariant_laws.specs.Shown.{stands}
 use Rattle.world_model.specs.Traced.{Traced}
 use Rattle.shown_laws.specs.ClientSteps.{TellsReply}
 use Rattle.shown_laws.proofs.SessionsApart.{at_link}

@@ -18,9 +18,9 @@ use Rattle.client_model.specs.Terms.{Terms, Talk, Phase, Idle, Unbegun, Queued, 
 use Rattle.client_model.specs.Verifying.{index_of}
 use Rattle.client_model.proofs.Offered.{Tracked, Fits, IsTalk, first_talks, last_fits, last_talks, next_left}
 use Rattle.world_model.specs.Clients.{Doing, Client, client_at}
-use Rattle.world_model.specs.Conversing.{inputs_of, first_talk, Talks, IsTalking, AllTalk}
+use Rattle.world_model.specs.records.Conversing.{inputs_of, first_talk, Talks, IsTalking, AllTalk}
 use Rattle.world_model.specs.Frames.{Sent}
-use Rattle.world_model.specs.Hold.{is_awaited}
+use Rattle.world_model.specs.records.Hold.{is_awaited}
 use Rattle.shown_laws.proofs.BeforeSession.{talks_at}
 use Rattle.shown_laws.proofs.CourseHeard.{awaits_behind}
 use Rattle.shown_laws.proofs.FrameAnswered.{LastIs, Same, SameCall}

@@ -19,9 +19,9 @@ use Rattle.run_clauses.specs.Reports.{reached}
 use Rattle.outage_schedule.specs.declared.item.Item.{Item}
 use Rattle.outage_schedule.specs.declared.item.Item.TheVariants as item
 use Rattle.world_model.specs.Clients.{Step, Doing, Client, client_at}
-use Rattle.world_model.specs.Conversing.{inputs_of, first_talk, Talks, IsTalking, AreThrough, AllTalk}
+use Rattle.world_model.specs.records.Conversing.{inputs_of, first_talk, Talks, IsTalking, AreThrough, AllTalk}
 use Rattle.world_model.specs.Frames.{Sent}
-use Rattle.world_model.specs.Hold.{is_awaited}
+use Rattle.world_model.specs.records.Hold.{is_awaited}
 use Rattle.world_model.specs.Sames.{same_up, same_sent}
 use Rattle.world_model.specs.Serving.{is_item_of}
 use Rattle.shown_laws.proofs.SessionsReached.{sessions_reached}

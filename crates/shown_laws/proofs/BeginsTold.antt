@@ -10,7 +10,7 @@ use Rattle.outage_schedule.specs.declared.item.Served.{Served}
 use Rattle.outage_schedule.specs.declared.note.GoNote.{GoNote}
 use Rattle.shown_clauses.specs.Fronts.{changed_if, with_changed, first_item}
 use Rattle.shown_clauses.specs.Links.{Acquired, Link as Seen, Turn, has_session, link_of, served_on, stopped_on, end_session, in_turn, turn_begun, call_served, acquire_if, is_hello, after_go}
-use Rattle.world_model.specs.Same.{is_begin}
+use Rattle.invariant_laws.specs.Same.{is_begin}
 use Rattle.shown_laws.specs.TurnOwners.{told_begin}
 use Rattle.shown_laws.proofs.SeenLists.{link_changed}
 use Rattle.shown_laws.proofs.WordsKept.{KeepsWord, KeptByEnds, some_kept, session_ended, gone_kept, items_served, items_stopped}

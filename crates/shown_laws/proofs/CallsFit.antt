@@ -9,7 +9,7 @@ use Rattle.svc_values.specs.Same.{same_call}
 use Rattle.svc_values.specs.SameLaws.{same_call_decides, same_calls_decide}
 use Rattle.outage_schedule.specs.declared.request.ShownCall.{ShownCall}
 use Rattle.shown_clauses.specs.Turns.{ends_decided, shown_since, are_these, fits_here, fits_from}
-use Rattle.world_model.specs.Script.{behind_decided, recorded_from}
+use Rattle.world_model.specs.records.Script.{behind_decided, recorded_from}
 use Rattle.shown_laws.proofs.Lookups.{eq_to}
 
 -- calls of a script that stand in a row from a place on

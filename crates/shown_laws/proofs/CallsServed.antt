@@ -12,7 +12,7 @@ use Rattle.shown_clauses.specs.Showings.{showings, showing_at, tried_by_call, ca
 use Rattle.shown_clauses.specs.Steps.{steps_of}
 use Rattle.shown_clauses.specs.Submissions.{Submission}
 use Rattle.world_model.specs.Clients.{Past}
-use Rattle.world_model.specs.Once.{are_known, tells_tried}
+use Rattle.invariant_laws.specs.Once.{are_known, tells_tried}
 use Rattle.world_model.specs.Settings.{Setting}
 use Rattle.world_model.specs.Traced.{Traced, Course, course_over, courses_of}
 use Rattle.shown_laws.specs.AnswersTold.{calls_answered, outcomes_lone, CallsAreAnswered, OutcomesAreLone, CallsAreServed}

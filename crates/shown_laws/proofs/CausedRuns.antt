@@ -19,14 +19,14 @@ use Rattle.server_model.specs.Seen.{Seen}
 use Rattle.shown_clauses.specs.Steps.{Step as StepTold, steps, steps_of}
 use Rattle.shown_clauses.specs.Submissions.{Submission, submissions_of}
 use Rattle.world_model.specs.Clients.{Doing, Past, Client, script_at, is_unfinished, reports_of}
-use Rattle.world_model.specs.Conversing.{AreThrough}
+use Rattle.world_model.specs.records.Conversing.{AreThrough}
 use Rattle.world_model.specs.Finishing.{Place, AtServer, AtOrphans, AtRound, AtClients, AtLinks, first_behind, serves_or_ticks, goes_or_serves, next_round, reaps_or_goes, opens_or_reaps, next_finish}
-use Rattle.world_model.specs.Invariant.{Invariant}
-use Rattle.world_model.specs.KeptLaws.{FinishesKeepInvariant}
+use Rattle.invariant_laws.specs.Invariant.{Invariant}
+use Rattle.invariant_laws.specs.KeptLaws.{FinishesKeepInvariant}
 use Rattle.world_model.specs.Links.{is_orphan}
 use Rattle.world_model.specs.Machines.{Machine}
 use Rattle.world_model.specs.Reached.{Reached, Begins, GoesOn, IsFinishing, Scheduled, Finishes, IsRun}
-use Rattle.world_model.specs.Ready.{has_calls, is_rightly_repeated, is_right_request}
+use Rattle.world_model.specs.records.Ready.{has_calls, is_rightly_repeated, is_right_request}
 use Rattle.world_model.specs.Serving.{front_of}
 use Rattle.world_model.specs.Settings.{Setting, setting_of, terms_of}
 use Rattle.world_model.specs.Traced.{Traced}

@@ -7,7 +7,7 @@ use Rattle.outage_schedule.specs.declared.note.GoNote.{GoNote}
 use Rattle.shown_clauses.specs.Links.{Seen}
 use Rattle.shown_clauses.specs.Steps.{Step as StepTold, steps_of}
 use Rattle.world_model.specs.Clients.{Step, Client, client_at}
-use Rattle.world_model.specs.Invariant.{Invariant}
+use Rattle.invariant_laws.specs.Invariant.{Invariant}
 use Rattle.world_model.specs.Machines.{Machine}
 use Rattle.world_model.specs.Settings.{Setting}
 use Rattle.world_model.specs.Traced.{Traced}

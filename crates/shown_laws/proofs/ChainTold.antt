@@ -11,7 +11,7 @@ use Rattle.run_clauses.specs.Copies.{next_of}
 use Rattle.shown_clauses.specs.Links.{Seen}
 use Rattle.shown_clauses.specs.Steps.{Step as StepTold, steps_of}
 use Rattle.world_model.specs.Clients.{Step, Doing, Past, Client, client_at, begun, past_of, script_at, reports_of, with_client}
-use Rattle.world_model.specs.Invariant.{Invariant}
+use Rattle.invariant_laws.specs.Invariant.{Invariant}
 use Rattle.world_model.specs.Machines.{Machine}
 use Rattle.world_model.specs.Settings.{Setting}
 use Rattle.world_model.specs.Traced.{Traced}

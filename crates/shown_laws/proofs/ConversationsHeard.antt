@@ -7,7 +7,7 @@ use Rattle.outage_schedule.specs.declared.document.Request.{Request}
 use Rattle.run_clauses.specs.Reports.{report_of}
 use Rattle.shown_clauses.specs.Steps.{Step as StepTold}
 use Rattle.world_model.specs.Clients.{Step, Past}
-use Rattle.world_model.specs.Conversing.{inputs_of, first_talk, IsThrough, AreThrough}
+use Rattle.world_model.specs.records.Conversing.{inputs_of, first_talk, IsThrough, AreThrough}
 use Rattle.world_model.specs.Settings.{Setting}
 use Rattle.caused_laws.specs.Laws.{shown_steps, IsHeard, AreHeard}
 use Rattle.caused_laws.specs.Telling.{ToldStep, Before, Tells, AllTell, behind, nothing_before, inputs_of as inputs_told}

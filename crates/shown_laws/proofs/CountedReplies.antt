@@ -22,18 +22,20 @@ use Rattle.outage_schedule.specs.declared.item.Item.TheVariants as item
 use Rattle.outage_schedule.specs.declared.item.Served.{Served}
 use Rattle.outage_schedule.specs.declared.note.AskResult.{AskResult}
 use Rattle.outage_schedule.specs.declared.note.AskResult.TheVariants as told
-use Rattle.world_model.specs.Basic.{is_named}
+use Rattle.world_model.specs.records.Basic.{is_named}
 use Rattle.world_model.specs.Clients.{Doing, Client, client_at}
-use Rattle.world_model.specs.EntryCounts.{is_counted_by, are_counted_from, are_counted}
+use Rattle.run_laws.specs.EntryCounts.{is_counted_by, are_counted_from, are_counted}
 use Rattle.world_model.specs.Frames.{Owner, Handled}
-use Rattle.world_model.specs.Hold.{is_awaited, is_ask, goes_by, same_held, is_by_held}
-use Rattle.world_model.specs.Invariant.{Invariant}
+use Rattle.world_model.specs.records.Hold.{is_awaited, is_ask, goes_by, same_held, is_by_held}
+use Rattle.invariant_laws.specs.Invariant.{Invariant}
 use Rattle.world_model.specs.Links.{Link, link_at}
 use Rattle.world_model.specs.Parts.{implies}
 use Rattle.world_model.specs.Serving.{identifier, outcome_frame, reply_of}
 use Rattle.world_model.specs.Traced.{Traced, course_now}
-use Rattle.world_model.specs.Wire.{same_replies, is_handled, counted_with, handled_from}
-use Rattle.world_model.proofs.Offered.{IsFresh, opening_fresh, commits_behind, is_opening}
+use Rattle.world_model.specs.records.Wire.{same_replies, is_handled, counted_with, handled_from}
+use Rattle.shown_laws.proofs.AskedFresh.{IsFresh, opening_fresh}
+use Rattle.world_model.proofs.Offered.{commits_behind}
+use Rattle.invariant_laws.proofs.Offered.{is_opening}
 use Rattle.shown_laws.specs.ClientSteps.{TellsReply}
 use Rattle.shown_laws.proofs.CourseNow.{course_holds}
 use Rattle.shown_laws.proofs.Lookups.{eq_from}

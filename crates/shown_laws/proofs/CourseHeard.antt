@@ -12,7 +12,7 @@ use Rattle.client_model.specs.Account.{Account, hears, hears_outcome, shows, sho
 use Rattle.client_model.specs.Conversation.{Timed, Done, done_at, talk_at, steps_of, talk_after, is_gone, is_gone_next, is_wanted, MayCome}
 use Rattle.client_model.specs.Talk.{wants_of}
 use Rattle.client_model.specs.Terms.{Terms, Talk}
-use Rattle.world_model.specs.Conversing.{gone_due}
+use Rattle.world_model.specs.records.Conversing.{gone_due}
 use Rattle.shown_laws.proofs.LastSent.{last_sent, AwaitsIn, step_awaits}
 
 -- THE LAST FRAME ----------------------------------------------------------------------------------

@@ -15,11 +15,11 @@ use Rattle.outage_schedule.specs.declared.failure.Failure.TheVariants as failure
 use Rattle.outage_schedule.specs.declared.request.ShownCall.{ShownCall}
 use Rattle.run_clauses.specs.Copies.{shows_script}
 use Rattle.world_model.specs.Clients.{Doing, Past, Client, client_at}
-use Rattle.world_model.specs.Invariant.{Invariant}
-use Rattle.world_model.specs.Once.{ends_so, is_open_at, ends_rightly, is_placed, are_placed}
+use Rattle.invariant_laws.specs.Invariant.{Invariant}
+use Rattle.invariant_laws.specs.Once.{ends_so, is_open_at, ends_rightly, is_placed, are_placed}
 use Rattle.world_model.specs.Parts.{Sending, sendings_of, commit_sendings}
 use Rattle.world_model.specs.Settings.{Setting}
-use Rattle.world_model.specs.Shown.{all_from, has_completed, is_from}
+use Rattle.invariant_laws.specs.Shown.{all_from, has_completed, is_from}
 use Rattle.world_model.specs.Traced.{Traced, Course, course_over, courses_from, courses_of}
 use Rattle.shown_laws.proofs.CourseNow.{client_courses}
 use Rattle.shown_laws.proofs.Lookups.{eq_to, eq_from, ne_to}

@@ -11,7 +11,7 @@ use Rattle.outage_schedule.specs.declared.note.Note.TheVariants as note
 use Rattle.shown_clauses.specs.Links.{Link as Seen, Seen as AllSeen, link_of, served_on, stopped_on, in_turn, end_link, end_session, after_happening}
 use Rattle.world_model.specs.Crashing.{is_crashed_item, is_stopped, fallen_link}
 use Rattle.world_model.specs.Cutting.{open_at, reaped_link}
-use Rattle.world_model.specs.Hold.{is_connect}
+use Rattle.world_model.specs.records.Hold.{is_connect}
 use Rattle.world_model.specs.Links.{Link, link_at, with_link, changed, sends}
 use Rattle.world_model.specs.Machines.{Machine}
 use Rattle.world_model.specs.Noting.{only_if}

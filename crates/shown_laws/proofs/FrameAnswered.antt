@@ -20,9 +20,9 @@ use Rattle.outage_schedule.specs.declared.item.Item.TheVariants as item
 use Rattle.outage_schedule.specs.declared.note.AskResult.TheVariants as told
 use Rattle.world_model.specs.Sames.{same_up, same_ahead, same_down}
 use Rattle.world_model.specs.Serving.{is_item_of, identifier, reply_of}
-use Rattle.world_model.specs.Shown.{stands}
+use Rattle.invariant_laws.specs.Shown.{stands}
 use Rattle.world_model.specs.Traced.{Traced}
-use Rattle.world_model.specs.Wire.{same_replies}
+use Rattle.world_model.specs.records.Wire.{same_replies}
 use Rattle.caused_laws.specs.Replies.{reply_to, Replies, Answers}
 use Rattle.shown_laws.proofs.Lookups.{eq_from}
 

@@ -27,7 +27,7 @@ use Rattle.client_model.specs.Verifying.{compared}
 use Rattle.client_model.specs.declared.input.Input.{Input}
 use Rattle.client_model.specs.declared.input.Input.TheVariants.{Start, Waiting, Lent, Opened, TryFailed, Took, Gone}
 use Rattle.world_model.specs.Clients.{Step, Doing}
-use Rattle.world_model.specs.Conversing.{timed, inputs_of, first_talk, connected, connection_after, Talks}
+use Rattle.world_model.specs.records.Conversing.{timed, inputs_of, first_talk, connected, connection_after, Talks}
 use Rattle.world_model.specs.Words.{dones_of}
 
 abbrev pub is_greeting : Phase → Bool

@@ -15,13 +15,13 @@ use Rattle.client_model.specs.declared.input.Wants.TheVariants as wants
 use Rattle.outage_schedule.specs.declared.document.Request.{Request}
 use Rattle.request_bounds.specs.Limits.{has_waited}
 use Rattle.world_model.specs.Clients.{Step, Doing, Client, client_at}
-use Rattle.world_model.specs.Conversing.{timed, inputs_of, first_talk, IsTalking, Talks}
-use Rattle.world_model.specs.Invariant.{Invariant}
+use Rattle.world_model.specs.records.Conversing.{timed, inputs_of, first_talk, IsTalking, Talks}
+use Rattle.invariant_laws.specs.Invariant.{Invariant}
 use Rattle.world_model.specs.Links.{Link, link_at}
 use Rattle.world_model.specs.Parts.{implies}
-use Rattle.world_model.specs.Ready.{is_ready, is_ready_client, is_waiting, is_unbegun, records_rightly, has_calls}
+use Rattle.world_model.specs.records.Ready.{is_ready, is_ready_client, is_waiting, is_unbegun, records_rightly, has_calls}
 use Rattle.world_model.specs.Sames.{all_with, each_pair}
-use Rattle.world_model.specs.Script.{are_sent}
+use Rattle.world_model.specs.records.Script.{are_sent}
 use Rattle.world_model.specs.Settings.{Setting}
 use Rattle.world_model.specs.Traced.{Traced, courses_of}
 use Rattle.world_model.specs.Words.{brought, held_in}

@@ -13,8 +13,8 @@ use Rattle.outage_schedule.specs.declared.document.Request.{Request}
 use Rattle.shown_clauses.specs.Causes.{is_had}
 use Rattle.shown_clauses.specs.Steps.{Step as StepTold}
 use Rattle.world_model.specs.Clients.{Step, Doing}
-use Rattle.world_model.specs.Conversing.{connected, connection_after}
-use Rattle.world_model.specs.Lost.{without_last, has_last, lost_links}
+use Rattle.world_model.specs.records.Conversing.{connected, connection_after}
+use Rattle.invariant_laws.specs.Lost.{without_last, has_last, lost_links}
 use Rattle.world_model.specs.Settings.{Setting}
 use Rattle.world_model.specs.Traced.{Traced, Course}
 use Rattle.world_model.specs.Words.{brought, held_in}

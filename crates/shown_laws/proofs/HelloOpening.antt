@@ -14,8 +14,8 @@ use Rattle.outage_schedule.specs.declared.note.GoNote.{GoNote}
 use Rattle.shown_clauses.specs.Links.{is_connect}
 use Rattle.shown_clauses.specs.Steps.{Step as StepTold}
 use Rattle.world_model.specs.Clients.{Step, Doing}
-use Rattle.world_model.specs.Conversing.{IsTalking, Talks}
-use Rattle.world_model.specs.Replayed.{shown_at, opens, before_opening}
+use Rattle.world_model.specs.records.Conversing.{IsTalking, Talks}
+use Rattle.invariant_laws.specs.Replayed.{shown_at, opens, before_opening}
 use Rattle.world_model.specs.Settings.{Setting}
 use Rattle.world_model.specs.Words.{brought, held_in}
 use Rattle.shown_laws.specs.AcquiredTold.{is_on}

@@ -27,7 +27,7 @@ use Rattle.shown_clauses.specs.Parts.{Part, parts_of}
 use Rattle.shown_clauses.specs.Showings.{showing_at, showing_of, is_showing, showings, shown_with, tried_by_call, has_identifier, have_identifiers}
 use Rattle.shown_clauses.specs.Steps.{steps_of}
 use Rattle.world_model.specs.Clients.{Step, Past}
-use Rattle.world_model.specs.Conversing.{AreThrough}
+use Rattle.world_model.specs.records.Conversing.{AreThrough}
 use Rattle.world_model.specs.Settings.{Setting}
 use Rattle.world_model.specs.Words.{dones_of}
 use Rattle.shown_laws.specs.Identified.{identifier_by, shows_under, is_identified, TellsIdentified, CallsAreIdentified, IdentifiersAreStored}

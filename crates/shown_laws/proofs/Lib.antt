@@ -130,3 +130,4 @@ pub mod WholeLines
 pub mod WholeReports
 pub mod WireFronts
 pub mod WordsKept
+pub mod AskedFresh

@@ -8,11 +8,11 @@ use Rattle.outage_schedule.specs.declared.note.Note.{Note}
 use Rattle.server_model.specs.Seen.{Seen}
 use Rattle.shown_clauses.specs.Links.{Seen as AllSeen}
 use Rattle.world_model.specs.Finishing.{Place}
-use Rattle.world_model.specs.Invariant.{Invariant}
-use Rattle.world_model.specs.KeptLaws.{RunsKeepInvariant, FinishesKeepInvariant}
+use Rattle.invariant_laws.specs.Invariant.{Invariant}
+use Rattle.invariant_laws.specs.KeptLaws.{RunsKeepInvariant, FinishesKeepInvariant}
 use Rattle.world_model.specs.OneEvent.{OneEvent}
 use Rattle.world_model.specs.Reached.{Reached, Begins, GoesOn, IsFinishing, Scheduled, Finishes}
-use Rattle.world_model.specs.Ready.{all_requests_right}
+use Rattle.world_model.specs.records.Ready.{all_requests_right}
 use Rattle.world_model.specs.Traced.{Traced}
 use Rattle.shown_laws.specs.Connections.{TellsLinks, NoLink}
 use Rattle.shown_laws.specs.ConnectionLaws.{AreTold, RunsTellConnections, FinishesTellConnections}

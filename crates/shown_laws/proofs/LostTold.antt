@@ -19,12 +19,12 @@ use Rattle.outage_schedule.specs.declared.item.Served.{Served}
 use Rattle.outage_schedule.specs.declared.note.AskResult.{AskResult}
 use Rattle.shown_clauses.specs.Links.{Link as Seen, link_of, link_of_session}
 use Rattle.shown_clauses.specs.Steps.{asked_of}
-use Rattle.world_model.specs.Basic.{first_is_connect, is_named}
+use Rattle.world_model.specs.records.Basic.{first_is_connect, is_named}
 use Rattle.world_model.specs.Frames.{Owner, Sent, Reply}
-use Rattle.world_model.specs.Hold.{is_awaited, same_held}
+use Rattle.world_model.specs.records.Hold.{is_awaited, same_held}
 use Rattle.world_model.specs.Links.{Link, link_at}
-use Rattle.world_model.specs.Lost.{same_event, is_wanted, lost_links, is_asked_for, wants_lost}
-use Rattle.world_model.specs.Number.{last_told, is_told as is_heard}
+use Rattle.invariant_laws.specs.Lost.{same_event, is_wanted, lost_links, is_asked_for, wants_lost}
+use Rattle.world_model.specs.records.Number.{last_told, is_told as is_heard}
 use Rattle.world_model.specs.Parts.{is_closed, implies}
 use Rattle.world_model.specs.Sames.{same_owners, same_up}
 use Rattle.world_model.specs.Serving.{is_item_of}

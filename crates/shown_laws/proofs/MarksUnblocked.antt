@@ -24,19 +24,19 @@ use Rattle.server_model.specs.Outcomes.{Telling, Says, Stopped, telling_of}
 use Rattle.server_model.specs.Runs.{Happened, Served, Asked, Server, Moves, Makes, Answers, Halts, Loses, AnswersAsk, HaltsInAsk, Reaps, Falls, Opens, StopsOpening, Runs, Start, Then}
 use Rattle.server_model.specs.Serve.{Commits, InReplay, Blocks, Conflicts, Stores, StopsBefore, StopsAfter, Works, Answers as AnswersCall, Reaches, HaltsInDraw, Calls, IsWork, IsSet, IsAlter, AlterStops, AlterMarked, IsDisable, IsRollback, Serve, Connects, Begins, Ends, Closes, Asks, Runs as Serves, Refuses}
 use Rattle.server_model.specs.Sessions.{Sess}
-use Rattle.world_model.specs.Basic.{first_is_connect, is_named}
+use Rattle.world_model.specs.records.Basic.{first_is_connect, is_named}
 use Rattle.world_model.specs.Coupled.{Coupled}
 use Rattle.world_model.specs.Crashing.{is_crashed_item}
 use Rattle.world_model.specs.Frames.{Handled}
-use Rattle.world_model.specs.Invariant.{Invariant}
-use Rattle.world_model.specs.KeptLaws.{RunsKeepInvariant}
+use Rattle.invariant_laws.specs.Invariant.{Invariant}
+use Rattle.invariant_laws.specs.KeptLaws.{RunsKeepInvariant}
 use Rattle.world_model.specs.Links.{Link}
 use Rattle.world_model.specs.Parts.{implies}
-use Rattle.world_model.specs.SameLaws.{HoldsAtEnds, HoldsInRuns, RunsServe}
+use Rattle.invariant_laws.specs.SameLaws.{HoldsAtEnds, HoldsInRuns, RunsServe}
 use Rattle.world_model.specs.Serving.{is_blocked, is_item_of, reply_of}
-use Rattle.world_model.specs.SessionHistory.{served_in, told_with, told_of}
-use Rattle.world_model.specs.Shown.{is_marked}
-use Rattle.world_model.specs.Wire.{is_handled, counted_with, handled_from, same_replies}
+use Rattle.invariant_laws.specs.SessionHistory.{served_in, told_with, told_of}
+use Rattle.invariant_laws.specs.Shown.{is_marked}
+use Rattle.world_model.specs.records.Wire.{is_handled, counted_with, handled_from, same_replies}
 use Rattle.shown_laws.specs.ServedSent.{none_blocked}
 use Rattle.shown_laws.specs.Unblocked.{serves_unblocked, serve_unblocked}
 use Rattle.shown_laws.proofs.FinishesReached.{finishing_reached, reached_coupled}

@@ -27,11 +27,11 @@ use Rattle.run_clauses.specs.Outcomes.{completed_of}
 use Rattle.run_clauses.specs.Reports.{shown_call}
 use Rattle.shown_clauses.specs.Showings.{shown_answers, is_showing, showing_of, showing_at, showings}
 use Rattle.shown_clauses.specs.Steps.{Step as StepTold}
-use Rattle.world_model.proofs.Offered.{is_unanswered, asked_sent, asked_lone}
+use Rattle.invariant_laws.proofs.Offered.{is_unanswered, asked_sent, asked_lone}
 use Rattle.world_model.specs.Clients.{Step, Doing, Client, client_at}
-use Rattle.world_model.specs.Conversing.{IsTalking}
+use Rattle.world_model.specs.records.Conversing.{IsTalking}
 use Rattle.world_model.specs.Frames.{Owner}
-use Rattle.world_model.specs.Invariant.{Invariant}
+use Rattle.invariant_laws.specs.Invariant.{Invariant}
 use Rattle.world_model.specs.Links.{Link, link_at}
 use Rattle.world_model.specs.Parts.{Scan, Sending, scanned}
 use Rattle.world_model.specs.Settings.{Setting}

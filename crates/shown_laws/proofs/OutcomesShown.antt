@@ -13,7 +13,7 @@ use Rattle.run_clauses.specs.Reports.{shown_call}
 use Rattle.shown_clauses.specs.Parts.{Part}
 use Rattle.shown_clauses.specs.Showings.{showings}
 use Rattle.world_model.specs.Clients.{Past}
-use Rattle.world_model.specs.Once.{shows_at}
+use Rattle.invariant_laws.specs.Once.{shows_at}
 use Rattle.world_model.specs.Settings.{Setting}
 use Rattle.world_model.specs.Words.{dones_of}
 use Rattle.shown_laws.specs.ShowingsTold.{ShownBy, ByReply, ByOutcome, AreShownBy, NoneShown, OneShown}

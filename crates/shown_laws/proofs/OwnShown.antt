@@ -19,7 +19,7 @@ use Rattle.shown_clauses.specs.Showings.{showing_at, showings}
 use Rattle.shown_clauses.specs.Steps.{Step as StepTold}
 use Rattle.shown_clauses.specs.Submissions.{Submission}
 use Rattle.world_model.specs.Clients.{Step, Doing}
-use Rattle.world_model.specs.Hold.{goes_by}
+use Rattle.world_model.specs.records.Hold.{goes_by}
 use Rattle.world_model.specs.Links.{Link, link_at}
 use Rattle.world_model.specs.Settings.{Setting}
 use Rattle.world_model.specs.Words.{dones_of}

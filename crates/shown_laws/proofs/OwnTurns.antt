@@ -6,14 +6,14 @@ use Rattle.std.proofs.lemmas.List.{append-nil}
 use Rattle.shown_clauses.specs.Fronts.{front_of, rest_of}
 use Rattle.shown_clauses.specs.Links.{Marked, Turn}
 use Rattle.shown_clauses.specs.Turns.{is_marked, begins_with, is_turn_right}
-use Rattle.world_model.specs.FirstBegins.{begin_new, begins_new, is_call_by}
+use Rattle.invariant_laws.specs.FirstBegins.{begin_new, begins_new, is_call_by}
 use Rattle.world_model.specs.Frames.{Owner, Sent, Handled}
 use Rattle.world_model.specs.Links.{Link}
-use Rattle.world_model.specs.NearCalls.{is_shown_or_next}
+use Rattle.invariant_laws.specs.NearCalls.{is_shown_or_next}
 use Rattle.world_model.specs.Sames.{is_of, owned_by, same_owners}
-use Rattle.world_model.specs.Shown.{calls_on, is_call, is_row}
+use Rattle.invariant_laws.specs.Shown.{calls_on, is_call, is_row}
 use Rattle.world_model.specs.Traced.{Course}
-use Rattle.world_model.specs.Wire.{Stage, New, Greeted, Told, Repeated, Begun, Rested, Shut, Wrong, next_stage, is_right}
+use Rattle.world_model.specs.records.Wire.{Stage, New, Greeted, Told, Repeated, Begun, Rested, Shut, Wrong, next_stage, is_right}
 use Rattle.shown_laws.specs.OwnTurns.{IsOwnTurn, OwnTurnsAreRight}
 use Rattle.shown_laws.specs.ServedSent.{ServesFront}
 use Rattle.shown_laws.specs.TurnOwner.{AreAll, calls_by}

@@ -9,21 +9,21 @@ use Rattle.outage_schedule.specs.declared.note.Note.TheVariants as note
 use Rattle.server_model.specs.Seen.{Seen}
 use Rattle.shown_clauses.specs.Links.{Acquired, Link as SeenLink, Seen as AllSeen, Turn, link_of}
 use Rattle.shown_clauses.specs.Steps.{Step as StepTold}
-use Rattle.world_model.specs.Basic.{is_named}
+use Rattle.world_model.specs.records.Basic.{is_named}
 use Rattle.world_model.specs.Clients.{Client}
 use Rattle.world_model.specs.Cutting.{cut_link, reaped_link}
 use Rattle.world_model.specs.Crashing.{fallen_link}
-use Rattle.world_model.specs.Invariant.{Invariant}
-use Rattle.world_model.specs.KeptLaws.{RunsKeepInvariant}
+use Rattle.invariant_laws.specs.Invariant.{Invariant}
+use Rattle.invariant_laws.specs.KeptLaws.{RunsKeepInvariant}
 use Rattle.world_model.specs.Links.{Link, link_at, with_link}
 use Rattle.world_model.specs.Machines.{Machine}
 use Rattle.world_model.specs.OneEvent.{OneEvent}
 use Rattle.world_model.specs.Reached.{Begins, GoesOn}
-use Rattle.world_model.specs.SameLaws.{HoldsInRuns}
+use Rattle.invariant_laws.specs.SameLaws.{HoldsInRuns}
 use Rattle.world_model.specs.Serving.{Front, front_at, after_front, handled}
 use Rattle.world_model.specs.Traced.{Traced}
-use Rattle.world_model.specs.UnservedBegins.{begins_of_last, begin_last}
-use Rattle.world_model.specs.Wire.{is_fresh, is_sent_front}
+use Rattle.invariant_laws.specs.UnservedBegins.{begins_of_last, begin_last}
+use Rattle.world_model.specs.records.Wire.{is_fresh, is_sent_front}
 use Rattle.shown_laws.specs.AcquiredTold.{acquired_by, acquired_after, last_acquired, StepsAcquire}
 use Rattle.shown_laws.specs.Closing.{AllUnclosed}
 use Rattle.shown_laws.specs.ConnectionLaws.{AreTold}

@@ -12,7 +12,7 @@ use Rattle.shown_clauses.specs.Steps.{Step as StepTold}
 use Rattle.shown_clauses.specs.Submissions.{Submission}
 use Rattle.shown_clauses.specs.Turns.{Owned, is_turn_right, owned_if, turns_of, owned_between, owned_in, turns_right}
 use Rattle.world_model.specs.Clients.{Past, Client, client_at}
-use Rattle.world_model.specs.Conversing.{AreThrough}
+use Rattle.world_model.specs.records.Conversing.{AreThrough}
 use Rattle.world_model.specs.Settings.{Setting}
 use Rattle.shown_laws.specs.ByPlace.{RequestSteps, requests_by_place}
 use Rattle.shown_laws.specs.PartsTold.{OfEach, IsQuiet, IsPartOf, ArePartsOf, NoParts, OnePart}

@@ -15,11 +15,11 @@ use Rattle.shown_clauses.specs.Parts.{Part, parts_of, has_its_sessions}
 use Rattle.shown_clauses.specs.Steps.{steps_of}
 use Rattle.shown_clauses.specs.Submissions.{Submission}
 use Rattle.world_model.specs.Clients.{Past}
-use Rattle.world_model.specs.Conversing.{AreThrough, IsThrough}
+use Rattle.world_model.specs.records.Conversing.{AreThrough, IsThrough}
 use Rattle.world_model.specs.Finishing.{Place}
-use Rattle.world_model.specs.Invariant.{Invariant}
+use Rattle.invariant_laws.specs.Invariant.{Invariant}
 use Rattle.world_model.specs.Reached.{IsFinishing}
-use Rattle.world_model.specs.Ready.{all_requests_right}
+use Rattle.world_model.specs.records.Ready.{all_requests_right}
 use Rattle.world_model.specs.Settings.{Setting}
 use Rattle.world_model.specs.Traced.{Traced, Course, course_over, courses_of}
 use Rattle.shown_laws.specs.PartsTold.{IsPartOf, ArePartsOf, NoParts, OnePart, HoldsOfParts, SessionsAreAcquired}

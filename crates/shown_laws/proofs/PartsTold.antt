@@ -9,7 +9,7 @@ use Rattle.shown_clauses.specs.Links.{is_connect, is_hello}
 use Rattle.shown_clauses.specs.Parts.{acquires, is_lent, parts_of}
 use Rattle.shown_clauses.specs.Steps.{Step as StepTold}
 use Rattle.world_model.specs.Clients.{Step, Doing, Client, Past}
-use Rattle.world_model.specs.Conversing.{IsTalking, AreThrough, IsThrough, Talks}
+use Rattle.world_model.specs.records.Conversing.{IsTalking, AreThrough, IsThrough, Talks}
 use Rattle.world_model.specs.Settings.{Setting}
 use Rattle.world_model.specs.Traced.{Traced}
 use Rattle.shown_laws.specs.ClientSteps.{IsBare, TellsKind, Rested, FoundNone, Waited, WasLent, HasOpened, HasFailed, HasTaken, HasLost}

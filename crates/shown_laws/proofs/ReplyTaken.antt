@@ -14,12 +14,12 @@ use Rattle.client_model.specs.Terms.{Phase}
 use Rattle.outage_schedule.specs.declared.item.Served.{Served}
 use Rattle.world_model.specs.Crashing.{is_crashed_item}
 use Rattle.world_model.specs.Frames.{Owner, Sent, Reply, Handled}
-use Rattle.world_model.specs.Hold.{is_awaited}
+use Rattle.world_model.specs.records.Hold.{is_awaited}
 use Rattle.world_model.specs.Links.{Link}
 use Rattle.world_model.specs.Parts.{is_answered, is_rep, is_out, count_reps}
 use Rattle.world_model.specs.Sames.{same_sent, is_front, owned_by}
 use Rattle.world_model.specs.Serving.{is_item_of, reply_of}
-use Rattle.world_model.specs.Wire.{same_replies, is_handled, counted_with, handled_from, reps_of, is_answered_in_order}
+use Rattle.world_model.specs.records.Wire.{same_replies, is_handled, counted_with, handled_from, reps_of, is_answered_in_order}
 use Rattle.shown_laws.specs.ClientSteps.{TellsReply}
 use Rattle.shown_laws.specs.Connections.{Answer, answers_of}
 use Rattle.shown_laws.proofs.Lookups.{eq_from}

@@ -18,7 +18,7 @@ use Rattle.shown_clauses.specs.Submissions.{Submission, submissions_of, submissi
 use Rattle.shown_clauses.specs.Whole.{have_their_outcomes}
 use Rattle.world_model.specs.Clients.{Client, client_at, reports_of}
 use Rattle.world_model.specs.Reached.{IsRun}
-use Rattle.world_model.specs.Ready.{all_requests_right}
+use Rattle.world_model.specs.records.Ready.{all_requests_right}
 use Rattle.world_model.specs.Reported.{IsReported}
 use Rattle.world_model.specs.Settings.{Setting, setting_of}
 use Rattle.world_model.specs.Traced.{Traced}

@@ -20,9 +20,9 @@ use Rattle.shown_clauses.specs.Steps.{Step as StepTold, steps, steps_of, turns}
 use Rattle.shown_clauses.specs.Submissions.{Submission, submissions_of, submissions_by_client}
 use Rattle.shown_clauses.specs.Turns.{Owned, turns_of, has_request, has_client}
 use Rattle.world_model.specs.Clients.{Client, client_at}
-use Rattle.world_model.specs.Conversing.{AreThrough}
-use Rattle.world_model.specs.KeptLaws.{FinishesKeepInvariant}
-use Rattle.world_model.specs.Ready.{all_requests_right}
+use Rattle.world_model.specs.records.Conversing.{AreThrough}
+use Rattle.invariant_laws.specs.KeptLaws.{FinishesKeepInvariant}
+use Rattle.world_model.specs.records.Ready.{all_requests_right}
 use Rattle.world_model.specs.Reported.{IsReported}
 use Rattle.world_model.specs.Settings.{Setting, setting_of}
 use Rattle.world_model.specs.Traced.{Traced}

@@ -4,8 +4,8 @@ use Rattle.std.specs.Prelude.{slice_get}
 use Rattle.std.specs.Option.{option_map_or}
 use Rattle.run_clauses.specs.Reports.{report_of}
 use Rattle.world_model.specs.Clients.{Doing, Past, Client, client_at}
-use Rattle.world_model.specs.Conversing.{AreThrough, IsThrough}
-use Rattle.world_model.specs.Invariant.{Invariant}
+use Rattle.world_model.specs.records.Conversing.{AreThrough, IsThrough}
+use Rattle.invariant_laws.specs.Invariant.{Invariant}
 use Rattle.world_model.specs.Settings.{Setting}
 use Rattle.world_model.specs.Traced.{Traced, Course, course_now, course_over, courses_from, courses_of_clients, courses_of}
 use Rattle.world_model.specs.Words.{dones_of}

@@ -19,7 +19,7 @@ use Rattle.run_clauses.specs.Reports.{told_outcome}
 use Rattle.shown_clauses.specs.Showings.{showing_at, outcome_at, showings}
 use Rattle.shown_clauses.specs.Steps.{Step as StepTold}
 use Rattle.world_model.specs.Clients.{Step, Doing, Client}
-use Rattle.world_model.specs.Conversing.{IsTalking, Talks, inputs_of, first_talk}
+use Rattle.world_model.specs.records.Conversing.{IsTalking, Talks, inputs_of, first_talk}
 use Rattle.world_model.specs.Settings.{Setting}
 use Rattle.world_model.specs.Traced.{Traced}
 use Rattle.world_model.specs.Words.{dones_of}

@@ -9,8 +9,8 @@ use Rattle.outage_schedule.specs.declared.note.Note.{Note}
 use Rattle.shown_clauses.specs.Links.{Seen as AllSeen}
 use Rattle.world_model.specs.Clients.{Step, Doing, Client, client_at, begun, past_of}
 use Rattle.world_model.specs.Frames.{Owner}
-use Rattle.world_model.specs.Invariant.{Invariant}
-use Rattle.world_model.specs.KeptLaws.{RunsKeepInvariant}
+use Rattle.invariant_laws.specs.Invariant.{Invariant}
+use Rattle.invariant_laws.specs.KeptLaws.{RunsKeepInvariant}
 use Rattle.world_model.specs.Machines.{Machine}
 use Rattle.world_model.specs.Settings.{Setting}
 use Rattle.world_model.specs.Traced.{Traced}

@@ -16,10 +16,10 @@ use Rattle.shown_clauses.specs.Fronts.{front_of, front_from, rest_of, rest_from}
 use Rattle.shown_clauses.specs.Links.{Marked}
 use Rattle.shown_clauses.specs.Turns.{is_marked as has_mark, begins_with, fits_from}
 use Rattle.world_model.specs.Frames.{Sent}
-use Rattle.world_model.specs.NearCalls.{is_shown_or_next}
+use Rattle.invariant_laws.specs.NearCalls.{is_shown_or_next}
 use Rattle.world_model.specs.Parts.{implies, is_unmarked, is_unmarked_frame}
-use Rattle.world_model.specs.Script.{recorded_from}
-use Rattle.world_model.specs.Shown.{is_marked, first_of, in_row, is_scripts, marked_from, has_unmarked, first_unmarked, unmarked_first}
+use Rattle.world_model.specs.records.Script.{recorded_from}
+use Rattle.invariant_laws.specs.Shown.{is_marked, first_of, in_row, is_scripts, marked_from, has_unmarked, first_unmarked, unmarked_first}
 use Rattle.world_model.specs.Traced.{Course}
 use Rattle.shown_laws.specs.Submitted.{submission_so_far}
 use Rattle.shown_laws.specs.TurnRows.{ServedOf, NoneServed, OneServed, are_marked_first, marks_stand_first, RowsMakeTurnsRight, ServesMarksFirst}

@@ -11,8 +11,8 @@ use Rattle.world_model.specs.Frames.{Owner, Sent}
 use Rattle.world_model.specs.Links.{Link, link_at, with_link, changed, is_close, ends, sends}
 use Rattle.world_model.specs.Outside.{closed_by_drain}
 use Rattle.world_model.specs.Serving.{Front, is_blocked, reply_of, commits_after, after_front, handled}
-use Rattle.world_model.specs.UnservedBegins.{last_owner}
-use Rattle.world_model.proofs.Offered.{moves, last_more, stays_own}
+use Rattle.invariant_laws.specs.UnservedBegins.{last_owner}
+use Rattle.invariant_laws.proofs.Offered.{moves, last_more, stays_own}
 use Rattle.shown_laws.specs.TurnOwners.{said_of}
 use Rattle.shown_laws.proofs.LinksSame.{SameRead, one_same, with_same, each_same, drained_same}
 

@@ -20,15 +20,15 @@ use Rattle.outage_schedule.specs.declared.item.Item.{Item}
 use Rattle.outage_schedule.specs.declared.item.Item.TheVariants as item
 use Rattle.outage_schedule.specs.declared.item.Served.{Served}
 use Rattle.world_model.specs.Clients.{Step, Doing, Client, client_at}
-use Rattle.world_model.specs.Conversing.{Talks, connected}
+use Rattle.world_model.specs.records.Conversing.{Talks, connected}
 use Rattle.world_model.specs.Frames.{Sent}
-use Rattle.world_model.specs.Hold.{is_call as awaits_call}
-use Rattle.world_model.specs.Invariant.{Invariant}
+use Rattle.world_model.specs.records.Hold.{is_call as awaits_call}
+use Rattle.invariant_laws.specs.Invariant.{Invariant}
 use Rattle.world_model.specs.Links.{Link, link_at}
 use Rattle.world_model.specs.Parts.{implies}
 use Rattle.world_model.specs.Sames.{owned_by, same_owners, same_up}
 use Rattle.world_model.specs.Serving.{is_item_of}
-use Rattle.world_model.specs.Shown.{is_call, is_scripts, calls_on, is_row, is_current, rows_on, in_row, first_of, has_unmarked, marked_from, first_unmarked, unmarked_first}
+use Rattle.invariant_laws.specs.Shown.{is_call, is_scripts, calls_on, is_row, is_current, rows_on, in_row, first_of, has_unmarked, marked_from, first_unmarked, unmarked_first}
 use Rattle.world_model.specs.Traced.{Traced, Course, course_now}
 use Rattle.world_model.specs.Words.{brought, held_in}
 use Rattle.shown_laws.specs.ClientSteps.{TellsReply}

@@ -24,8 +24,8 @@ use Rattle.outage_schedule.specs.declared.item.Served.{Served}
 use Rattle.shown_clauses.specs.Showings.{is_showing, showing_of, showing_at, showings}
 use Rattle.shown_clauses.specs.Steps.{Step as StepTold}
 use Rattle.world_model.specs.Clients.{Step, Doing, Client, client_at}
-use Rattle.world_model.specs.Conversing.{IsTalking, Talks}
-use Rattle.world_model.specs.Invariant.{Invariant}
+use Rattle.world_model.specs.records.Conversing.{IsTalking, Talks}
+use Rattle.invariant_laws.specs.Invariant.{Invariant}
 use Rattle.world_model.specs.Links.{Link, link_at}
 use Rattle.world_model.specs.Settings.{Setting}
 use Rattle.world_model.specs.Traced.{Traced}

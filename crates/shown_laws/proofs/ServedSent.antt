@@ -15,8 +15,8 @@ use Rattle.shown_clauses.specs.Links.{Marked}
 use Rattle.world_model.specs.Crashing.{is_crashed_item}
 use Rattle.world_model.specs.Frames.{Sent, Handled}
 use Rattle.world_model.specs.Serving.{is_blocked, is_item_of, reply_of}
-use Rattle.world_model.specs.Shown.{is_marked}
-use Rattle.world_model.specs.Wire.{counted_with, handled_from, is_handled, same_replies}
+use Rattle.invariant_laws.specs.Shown.{is_marked}
+use Rattle.world_model.specs.records.Wire.{counted_with, handled_from, is_handled, same_replies}
 use Rattle.shown_laws.specs.ServedSent.{none_blocked, ServesItsFrames}
 use Rattle.shown_laws.specs.TurnRows.{ServedOf, NoneServed, OneServed}
 use Rattle.shown_laws.specs.TurnSent.{calls_with, sent_since}

@@ -26,7 +26,7 @@ use Rattle.world_model.specs.Links.{Link}
 use Rattle.world_model.specs.Serving.{identifier, reply_of}
 use Rattle.world_model.specs.Settings.{Setting}
 use Rattle.world_model.specs.Traced.{Traced}
-use Rattle.world_model.specs.Wire.{same_replies}
+use Rattle.world_model.specs.records.Wire.{same_replies}
 use Rattle.world_model.specs.Words.{dones_of}
 use Rattle.shown_laws.specs.ClientSteps.{IsBare, GoneBehind, GoesOn, IsOver, IsGone, TellsKind, Rested, FoundNone, Waited, WasLent, HasOpened, HasFailed, HasTaken, HasLost}
 use Rattle.shown_laws.specs.PartsTold.{OfEach, HasIts}

@@ -22,16 +22,16 @@ use Rattle.shown_clauses.specs.Links.{Acquired, Seen, is_connect}
 use Rattle.world_model.specs.Acting.{sent_by, owner_at, call_in, act_at, connection_of, frames_of, steps, loses}
 use Rattle.world_model.specs.Clients.{Doing, Client, client_at, heard}
 use Rattle.world_model.specs.Frames.{Owner, Sent, Reply}
-use Rattle.world_model.specs.Invariant.{Invariant}
+use Rattle.invariant_laws.specs.Invariant.{Invariant}
 use Rattle.world_model.specs.Links.{Link, new_link, link_at, with_link, changed, sends, takes}
 use Rattle.world_model.specs.Machines.{Machine}
 use Rattle.world_model.specs.Parts.{implies}
 use Rattle.world_model.specs.Sames.{same_owners, same_up}
 use Rattle.world_model.specs.Serving.{is_item_of}
 use Rattle.world_model.specs.Traced.{Traced}
-use Rattle.world_model.specs.UnservedBegins.{last_owner}
-use Rattle.world_model.specs.Wire.{New, next_stage, stage_of, is_right, is_fresh}
-use Rattle.world_model.proofs.Offered.{stays_own, last_is}
+use Rattle.invariant_laws.specs.UnservedBegins.{last_owner}
+use Rattle.world_model.specs.records.Wire.{New, next_stage, stage_of, is_right, is_fresh}
+use Rattle.invariant_laws.proofs.Offered.{stays_own, last_is}
 use Rattle.shown_laws.specs.AcquiredTold.{acquired_after}
 use Rattle.shown_laws.specs.TurnOwners.{IsStepOf, Said, said_of, said_at, Tied, Unopened, Unheard, Heard}
 use Rattle.shown_laws.proofs.Following.{at_event}

@@ -19,7 +19,7 @@ use Rattle.shown_clauses.specs.Parts.{Part}
 use Rattle.shown_clauses.specs.Showings.{showing_at, showings}
 use Rattle.shown_clauses.specs.Steps.{Step as StepTold}
 use Rattle.world_model.specs.Clients.{Step}
-use Rattle.world_model.specs.Replayed.{shown_at}
+use Rattle.invariant_laws.specs.Replayed.{shown_at}
 use Rattle.world_model.specs.Settings.{Setting}
 use Rattle.world_model.specs.Words.{dones_of}
 use Rattle.shown_laws.specs.PartsTold.{OfEach, IsQuiet, IsPartOf}

@@ -24,11 +24,11 @@ use Rattle.outage_schedule.specs.declared.note.AskResult.{AskResult}
 use Rattle.outage_schedule.specs.declared.note.AskResult.TheVariants as told
 use Rattle.shown_clauses.specs.Showings.{is_showing, showing_of, showing_at}
 use Rattle.shown_clauses.specs.Steps.{Step as StepTold}
-use Rattle.world_model.specs.Basic.{is_named}
+use Rattle.world_model.specs.records.Basic.{is_named}
 use Rattle.world_model.specs.Clients.{Step, Doing, Client, client_at}
-use Rattle.world_model.specs.Conversing.{IsTalking}
-use Rattle.world_model.specs.Hold.{goes_by, same_held, is_by_held}
-use Rattle.world_model.specs.Invariant.{Invariant}
+use Rattle.world_model.specs.records.Conversing.{IsTalking}
+use Rattle.world_model.specs.records.Hold.{goes_by, same_held, is_by_held}
+use Rattle.invariant_laws.specs.Invariant.{Invariant}
 use Rattle.world_model.specs.Links.{Link, link_at}
 use Rattle.world_model.specs.Serving.{identifier, outcome_frame}
 use Rattle.world_model.specs.Traced.{Traced}

@@ -15,8 +15,8 @@ use Rattle.client_model.specs.Talk.{wants_in}
 use Rattle.client_model.specs.Terms.{Terms, Talk, Phase, Idle, Unbegun, Queued, Seeking, Greeting, Asked, Running, Replaying}
 use Rattle.world_model.specs.Clients.{Doing, Client, client_at}
 use Rattle.world_model.specs.Frames.{Owner, Sent}
-use Rattle.world_model.specs.Hold.{is_end, is_idle, holds_connection, is_awaited, waits_on, is_held}
-use Rattle.world_model.specs.Invariant.{Invariant}
+use Rattle.world_model.specs.records.Hold.{is_end, is_idle, holds_connection, is_awaited, waits_on, is_held}
+use Rattle.invariant_laws.specs.Invariant.{Invariant}
 use Rattle.world_model.specs.Links.{Link, link_at}
 use Rattle.world_model.specs.Parts.{is_answered, is_out}
 use Rattle.world_model.specs.Sames.{is_of, owned_by}

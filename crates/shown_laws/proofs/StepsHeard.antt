@@ -17,8 +17,8 @@ use Rattle.outage_schedule.specs.declared.document.Request.{Request}
 use Rattle.shown_clauses.specs.Causes.{is_had}
 use Rattle.shown_clauses.specs.Steps.{Step as StepTold}
 use Rattle.world_model.specs.Clients.{Step, Doing, Client, client_at, begun}
-use Rattle.world_model.specs.Conversing.{inputs_of, Talks}
-use Rattle.world_model.specs.Invariant.{Invariant}
+use Rattle.world_model.specs.records.Conversing.{inputs_of, Talks}
+use Rattle.invariant_laws.specs.Invariant.{Invariant}
 use Rattle.world_model.specs.Links.{Link}
 use Rattle.world_model.specs.Settings.{Setting}
 use Rattle.world_model.specs.Traced.{Traced}

@@ -14,11 +14,11 @@ use Rattle.outage_schedule.specs.declared.document.Request.{Request}
 use Rattle.outage_schedule.specs.declared.item.Served.{Served}
 use Rattle.outage_schedule.specs.declared.report.Report.{Report}
 use Rattle.world_model.specs.Clients.{Step, Doing, Client}
-use Rattle.world_model.specs.EntryCounts.{stored_by, are_counted}
+use Rattle.run_laws.specs.EntryCounts.{stored_by, are_counted}
 use Rattle.world_model.specs.Links.{Link, link_at}
 use Rattle.world_model.specs.Settings.{Setting}
 use Rattle.world_model.specs.Traced.{Traced}
-use Rattle.world_model.specs.Wire.{counted_with}
+use Rattle.world_model.specs.records.Wire.{counted_with}
 use Rattle.world_model.proofs.Offered.{commits_behind}
 use Rattle.shown_laws.specs.ClientSteps.{TellsReply, now_at, GoneBehind, GoesOn, IsOver, IsGone, TellsKind, Rested, FoundNone, Waited, WasLent, HasOpened, HasFailed, HasTaken, HasLost}
 use Rattle.shown_laws.specs.Identified.{identifier_by, shows_under, is_identified}

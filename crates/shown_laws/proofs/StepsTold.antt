@@ -26,18 +26,18 @@ use Rattle.shown_clauses.specs.Fronts.{first_item}
 use Rattle.shown_clauses.specs.Links.{Link as SeenLink, Seen, is_connect, is_hello, link_of}
 use Rattle.shown_clauses.specs.Steps.{Step as StepTold, reply_at, greeted, asked_of, lost_at, step_at as told_at_step, steps_at}
 use Rattle.world_model.specs.Acting.{closing, frames_of, steps}
-use Rattle.world_model.specs.Basic.{first_is_connect, is_named}
+use Rattle.world_model.specs.records.Basic.{first_is_connect, is_named}
 use Rattle.world_model.specs.Clients.{Step, Doing, Client, client_at, with_client, step_at, heard, doing_of}
 use Rattle.world_model.specs.Frames.{Reply}
-use Rattle.world_model.specs.Hold.{holds_connection, waits_on, is_held}
-use Rattle.world_model.specs.Invariant.{Invariant}
+use Rattle.world_model.specs.records.Hold.{holds_connection, waits_on, is_held}
+use Rattle.invariant_laws.specs.Invariant.{Invariant}
 use Rattle.world_model.specs.Links.{Link, link_at}
-use Rattle.world_model.specs.Lost.{without_last, has_last, lost_links, one_pending, wants_lost}
+use Rattle.invariant_laws.specs.Lost.{without_last, has_last, lost_links, one_pending, wants_lost}
 use Rattle.world_model.specs.Machines.{Machine}
 use Rattle.world_model.specs.Parts.{is_closed, implies}
 use Rattle.world_model.specs.Words.{held_in}
 use Rattle.world_model.specs.Traced.{Traced, Course, course_now}
-use Rattle.world_model.specs.Wire.{handled_from, is_answered_in_order}
+use Rattle.world_model.specs.records.Wire.{handled_from, is_answered_in_order}
 use Rattle.caused_laws.specs.Telling.{SentBy}
 use Rattle.shown_laws.specs.Closing.{IsUnclosed, AllUnclosed}
 use Rattle.shown_laws.specs.ClientSteps.{TellsReply, LostTold, IsBare, HasBegun, now_at, after_now, ended_at, GoneBehind, GoesOn, IsOver, IsGone, TellsKind, Rested, FoundNone, Waited, WasLent, HasOpened, HasFailed, HasTaken, HasLost}

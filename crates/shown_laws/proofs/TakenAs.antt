@@ -18,10 +18,10 @@ use Rattle.outage_schedule.specs.declared.item.Item.{Item}
 use Rattle.outage_schedule.specs.declared.item.Item.TheVariants as item
 use Rattle.outage_schedule.specs.declared.note.AskResult.{AskResult}
 use Rattle.world_model.specs.Frames.{Sent}
-use Rattle.world_model.specs.Hold.{is_awaited, is_call, is_connect, is_ask}
+use Rattle.world_model.specs.records.Hold.{is_awaited, is_call, is_connect, is_ask}
 use Rattle.world_model.specs.Sames.{same_up, same_sent}
 use Rattle.world_model.specs.Serving.{identifier, is_item_of, outcome_frame, reply_of}
-use Rattle.world_model.specs.Wire.{same_replies}
+use Rattle.world_model.specs.records.Wire.{same_replies}
 use Rattle.shown_laws.proofs.FrameAnswered.{replied_is}
 
 -- by a session that has answered so many commits

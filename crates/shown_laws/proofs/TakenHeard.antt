@@ -9,12 +9,12 @@ use Rattle.svc_values.specs.declared.frame.Up.{Up}
 use Rattle.client_model.specs.Account.{Account}
 use Rattle.outage_schedule.specs.declared.item.Served.{Served}
 use Rattle.world_model.specs.Clients.{Doing, Client, client_at}
-use Rattle.world_model.specs.Conversing.{Talks}
+use Rattle.world_model.specs.records.Conversing.{Talks}
 use Rattle.world_model.specs.Frames.{Sent, Handled}
-use Rattle.world_model.specs.Invariant.{Invariant}
+use Rattle.invariant_laws.specs.Invariant.{Invariant}
 use Rattle.world_model.specs.Links.{Link, link_at}
 use Rattle.world_model.specs.Sames.{owned_by, same_owners, same_up}
-use Rattle.world_model.specs.Shown.{is_call, calls_on, in_row, is_scripts, is_current, is_row, rows_on, stands}
+use Rattle.invariant_laws.specs.Shown.{is_call, calls_on, in_row, is_scripts, is_current, is_row, rows_on, stands}
 use Rattle.world_model.specs.Traced.{Traced, course_now}
 use Rattle.world_model.specs.Words.{held_in}
 use Rattle.svc_values.specs.declared.entry.Ltxid.{Ltxid}

@@ -13,11 +13,11 @@ use Rattle.shown_clauses.specs.Steps.{Step as StepTold}
 use Rattle.shown_clauses.specs.Whole.{takes, took_it, are_taken}
 use Rattle.world_model.specs.Clients.{Step, Doing}
 use Rattle.world_model.specs.Finishing.{Place}
-use Rattle.world_model.specs.Invariant.{Invariant}
-use Rattle.world_model.specs.KeptLaws.{RunsKeepInvariant, FinishesKeepInvariant}
+use Rattle.invariant_laws.specs.Invariant.{Invariant}
+use Rattle.invariant_laws.specs.KeptLaws.{RunsKeepInvariant, FinishesKeepInvariant}
 use Rattle.world_model.specs.OneEvent.{OneEvent}
 use Rattle.world_model.specs.Reached.{Reached, Begins, GoesOn, IsFinishing, Scheduled, Finishes}
-use Rattle.world_model.specs.Ready.{all_requests_right}
+use Rattle.world_model.specs.records.Ready.{all_requests_right}
 use Rattle.world_model.specs.Traced.{Traced}
 use Rattle.shown_laws.specs.ClientSteps.{TellsKind, Rested, FoundNone, Waited, WasLent, HasOpened, HasFailed, HasTaken, HasLost}
 use Rattle.shown_laws.specs.Closing.{AllUnclosed, RunsLeaveUnclosed, FinishesLeaveUnclosed}

@@ -24,7 +24,7 @@ use Rattle.run_clauses.specs.Tried.{Sending as Tried, may_have_committed}
 use Rattle.shown_clauses.specs.Showings.{tried_by_call}
 use Rattle.world_model.specs.Clients.{Step}
 use Rattle.world_model.specs.Links.{told_by}
-use Rattle.world_model.specs.Once.{is_known, is_untold, reverse_onto, shows_at, tells_tried, tried_one}
+use Rattle.invariant_laws.specs.Once.{is_known, is_untold, reverse_onto, shows_at, tells_tried, tried_one}
 use Rattle.world_model.specs.Parts.{Scan, Sending, answered, commit_sendings, scanned, sendings_of, sent_on, with_taken}
 use Rattle.world_model.specs.Traced.{Course}
 use Rattle.world_model.specs.Words.{brought}

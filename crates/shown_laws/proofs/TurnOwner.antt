@@ -6,11 +6,11 @@ use Rattle.std.proofs.lemmas.Bool.{and_parts, and_from}
 use Rattle.std.proofs.lemmas.List.{append-nil, append_assoc}
 use Rattle.svc_values.specs.declared.frame.Up.{Up}
 use Rattle.svc_values.specs.declared.frame.Up.TheVariants as up
-use Rattle.world_model.specs.FirstBegins.{is_call_by, begins_new, begin_new}
+use Rattle.invariant_laws.specs.FirstBegins.{is_call_by, begins_new, begin_new}
 use Rattle.world_model.specs.Frames.{Owner, Sent}
 use Rattle.world_model.specs.Sames.{same_owners}
-use Rattle.world_model.specs.Shown.{is_call}
-use Rattle.world_model.specs.Wire.{Stage, New, Greeted, Told, Repeated, Begun, Rested, Shut, Wrong, stage_if, is_alter, next_stage, is_right}
+use Rattle.invariant_laws.specs.Shown.{is_call}
+use Rattle.world_model.specs.records.Wire.{Stage, New, Greeted, Told, Repeated, Begun, Rested, Shut, Wrong, stage_if, is_alter, next_stage, is_right}
 use Rattle.shown_laws.specs.TurnOwner.{calls_by, AreAll, TurnsHaveAllCalls}
 use Rattle.shown_laws.specs.TurnSent.{calls_with}
 use Rattle.shown_laws.proofs.TurnSent.{owners_are, owners_same}

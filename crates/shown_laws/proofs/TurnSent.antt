@@ -7,8 +7,8 @@ use Rattle.svc_values.specs.declared.frame.Up.{Up}
 use Rattle.svc_values.specs.declared.frame.Up.TheVariants as up
 use Rattle.world_model.specs.Frames.{Owner, Sent}
 use Rattle.world_model.specs.Sames.{same_owners}
-use Rattle.world_model.specs.Shown.{is_marked}
-use Rattle.world_model.specs.Wire.{Stage, New, Greeted, Told, Repeated, Begun, Rested, Shut, Wrong, stage_if, is_alter, next_stage, is_right}
+use Rattle.invariant_laws.specs.Shown.{is_marked}
+use Rattle.world_model.specs.records.Wire.{Stage, New, Greeted, Told, Repeated, Begun, Rested, Shut, Wrong, stage_if, is_alter, next_stage, is_right}
 use Rattle.shown_laws.specs.TurnRows.{are_marked_first}
 use Rattle.shown_laws.specs.TurnSent.{calls_with, sent_since, IsTurn, TurnsHaveOneOwner}
 use Rattle.shown_laws.proofs.Lookups.{eq_from, eq_to}

@@ -11,16 +11,16 @@ use Rattle.shown_clauses.specs.Links.{Acquired, Link as SeenLink, Marked, Turn, 
 use Rattle.shown_clauses.specs.Submissions.{Submission}
 use Rattle.shown_clauses.specs.Turns.{is_marked, begins_with, is_turn_right}
 use Rattle.world_model.specs.Clients.{Past, Client, client_at}
-use Rattle.world_model.specs.FirstBegins.{begin_once}
+use Rattle.invariant_laws.specs.FirstBegins.{begin_once}
 use Rattle.world_model.specs.Frames.{Owner, Sent, Handled}
-use Rattle.world_model.specs.Invariant.{Invariant}
-use Rattle.world_model.specs.KeptLaws.{RunsKeepInvariant}
+use Rattle.invariant_laws.specs.Invariant.{Invariant}
+use Rattle.invariant_laws.specs.KeptLaws.{RunsKeepInvariant}
 use Rattle.world_model.specs.Links.{Link, link_at}
-use Rattle.world_model.specs.NearCalls.{send_near}
-use Rattle.world_model.specs.SameLaws.{FollowsInvariant, HoldsInRuns}
+use Rattle.invariant_laws.specs.NearCalls.{send_near}
+use Rattle.invariant_laws.specs.SameLaws.{FollowsInvariant, HoldsInRuns}
 use Rattle.world_model.specs.Sames.{same_owners}
 use Rattle.world_model.specs.Traced.{Traced}
-use Rattle.world_model.specs.Wire.{New}
+use Rattle.world_model.specs.records.Wire.{New}
 use Rattle.shown_laws.specs.ConnectionLaws.{AreTold}
 use Rattle.shown_laws.specs.OwnTurns.{OnWire}
 use Rattle.shown_laws.specs.Telling.{seen_told}

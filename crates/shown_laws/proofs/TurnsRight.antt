@@ -9,15 +9,15 @@ use Rattle.svc_values.specs.declared.frame.Up.{Up}
 use Rattle.svc_values.specs.declared.frame.Up.TheVariants as up
 use Rattle.shown_clauses.specs.Links.{Link as SeenLink, Turn, link_of}
 use Rattle.shown_clauses.specs.Turns.{is_turn_right}
-use Rattle.world_model.specs.FirstBegins.{begin_once}
+use Rattle.invariant_laws.specs.FirstBegins.{begin_once}
 use Rattle.world_model.specs.Frames.{Owner, Sent, Handled}
-use Rattle.world_model.specs.Invariant.{Invariant}
+use Rattle.invariant_laws.specs.Invariant.{Invariant}
 use Rattle.world_model.specs.Links.{Link, link_at}
-use Rattle.world_model.specs.NearCalls.{send_near}
+use Rattle.invariant_laws.specs.NearCalls.{send_near}
 use Rattle.world_model.specs.Sames.{is_of, owned_by, same_owner, same_owners}
-use Rattle.world_model.specs.Script.{is_held_by, owned_rightly}
+use Rattle.world_model.specs.records.Script.{is_held_by, owned_rightly}
 use Rattle.world_model.specs.Traced.{Traced, Course, courses_of}
-use Rattle.world_model.specs.Wire.{Stage, New, Greeted, Told, Repeated, Begun, Rested, Shut, Wrong, stage_if, is_alter, next_stage, is_right}
+use Rattle.world_model.specs.records.Wire.{Stage, New, Greeted, Told, Repeated, Begun, Rested, Shut, Wrong, stage_if, is_alter, next_stage, is_right}
 use Rattle.world_model.specs.Words.{held_in}
 use Rattle.shown_laws.specs.OwnTurns.{OnWire}
 use Rattle.shown_laws.specs.ServedSent.{ServesFront, none_blocked}

@@ -1,9 +1,9 @@
 -- Wherever a run has come to, each turn that is told is right for a request that held its connection.
-use Rattle.world_model.specs.FirstBegins.{begin_once}
-use Rattle.world_model.specs.Invariant.{Invariant}
-use Rattle.world_model.specs.KeptLaws.{RunsKeepInvariant, FinishesKeepInvariant}
-use Rattle.world_model.specs.NearCalls.{send_near}
-use Rattle.world_model.specs.SameLaws.{FollowsInvariant, HoldsInRuns}
+use Rattle.invariant_laws.specs.FirstBegins.{begin_once}
+use Rattle.invariant_laws.specs.Invariant.{Invariant}
+use Rattle.invariant_laws.specs.KeptLaws.{RunsKeepInvariant, FinishesKeepInvariant}
+use Rattle.invariant_laws.specs.NearCalls.{send_near}
+use Rattle.invariant_laws.specs.SameLaws.{FollowsInvariant, HoldsInRuns}
 use Rattle.shown_laws.specs.Telling.{seen_told}
 use Rattle.shown_laws.specs.TurnsRight.{RunsTellRight, FinishesTellRight}
 use Rattle.shown_laws.specs.Unblocked.{serve_unblocked}

@@ -17,11 +17,11 @@ use Rattle.client_model.specs.declared.input.Wants.TheVariants as wants
 use Rattle.client_model.specs.Talk.{wants_of}
 use Rattle.outage_schedule.specs.declared.document.Request.{Request}
 use Rattle.world_model.specs.Acting.{closing}
-use Rattle.world_model.specs.Basic.{at_most, ends_rightly}
+use Rattle.world_model.specs.records.Basic.{at_most, ends_rightly}
 use Rattle.world_model.specs.Clients.{Step, Doing, Client, client_at, begun, doing_of, step_at}
 use Rattle.world_model.specs.Frames.{Sent}
-use Rattle.world_model.specs.Hold.{holds_connection, waits_on, is_held}
-use Rattle.world_model.specs.Invariant.{Invariant}
+use Rattle.world_model.specs.records.Hold.{holds_connection, waits_on, is_held}
+use Rattle.invariant_laws.specs.Invariant.{Invariant}
 use Rattle.world_model.specs.Links.{Link, link_at, is_close}
 use Rattle.world_model.specs.Machines.{Machine}
 use Rattle.world_model.specs.Parts.{is_closed, implies}

@@ -13,10 +13,10 @@ use Rattle.client_model.specs.declared.input.Input.TheVariants.{Lent, Opened, Go
 use Rattle.client_model.specs.declared.input.Wants.{Wants}
 use Rattle.client_model.specs.declared.input.Wants.TheVariants as wants
 use Rattle.world_model.specs.Acting.{sent_by, owner_at, call_in, act_at, connection_of, steps, loses}
-use Rattle.world_model.specs.Basic.{ends_rightly}
+use Rattle.world_model.specs.records.Basic.{ends_rightly}
 use Rattle.world_model.specs.Clients.{Doing, Client, client_at, with_client, after_hold, heard, step_at}
 use Rattle.world_model.specs.Frames.{Sent}
-use Rattle.world_model.specs.Invariant.{Invariant}
+use Rattle.invariant_laws.specs.Invariant.{Invariant}
 use Rattle.world_model.specs.Links.{Link, new_link, link_at, is_close, sends}
 use Rattle.world_model.specs.Machines.{Machine}
 use Rattle.world_model.specs.Traced.{Traced}

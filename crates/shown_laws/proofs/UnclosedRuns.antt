@@ -14,13 +14,13 @@ use Rattle.world_model.specs.Clients.{Client, Doing, resting, client_at}
 use Rattle.world_model.specs.Crashing.{after_stopped, falls}
 use Rattle.world_model.specs.Cutting.{cut_link, after_cut, reaped_link}
 use Rattle.world_model.specs.Finishing.{Place}
-use Rattle.world_model.specs.Invariant.{Invariant}
-use Rattle.world_model.specs.KeptLaws.{RunsKeepInvariant, FinishesKeepInvariant}
+use Rattle.invariant_laws.specs.Invariant.{Invariant}
+use Rattle.invariant_laws.specs.KeptLaws.{RunsKeepInvariant, FinishesKeepInvariant}
 use Rattle.world_model.specs.Links.{Link, link_at, with_link, changed, sends}
 use Rattle.world_model.specs.Machines.{Machine, start_of}
 use Rattle.world_model.specs.Outside.{closed_by_drain, drained}
 use Rattle.world_model.specs.Reached.{Reached, Begins, GoesOn, IsFinishing, Scheduled, Finishes}
-use Rattle.world_model.specs.Ready.{all_requests_right}
+use Rattle.world_model.specs.records.Ready.{all_requests_right}
 use Rattle.world_model.specs.Serving.{after_front, handled, after_served}
 use Rattle.world_model.specs.Traced.{Traced}
 use Rattle.shown_laws.specs.Closing.{IsUnclosed, AllUnclosed, RunsLeaveUnclosed, FinishesLeaveUnclosed}

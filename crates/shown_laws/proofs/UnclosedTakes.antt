@@ -14,7 +14,7 @@ use Rattle.world_model.specs.Acting.{connection_of, steps}
 use Rattle.world_model.specs.Clients.{Step, Doing, heard, step_at, doing_at}
 use Rattle.world_model.specs.Frames.{Reply}
 use Rattle.world_model.specs.Going.{lost_at_once, unless_open}
-use Rattle.world_model.specs.Invariant.{Invariant}
+use Rattle.invariant_laws.specs.Invariant.{Invariant}
 use Rattle.world_model.specs.Links.{Link, link_at, takes}
 use Rattle.world_model.specs.Machines.{Machine}
 use Rattle.world_model.specs.Settings.{Setting}

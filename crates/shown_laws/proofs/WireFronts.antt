@@ -6,7 +6,7 @@ use Rattle.std.proofs.lemmas.List.{map-append}
 use Rattle.world_model.specs.Frames.{Sent, Handled}
 use Rattle.world_model.specs.Parts.{implies}
 use Rattle.world_model.specs.Sames.{is_front, same_sent}
-use Rattle.world_model.specs.Wire.{counted_with, handled_from, is_handled, is_right, is_sent_front, nothing_cut, stage_of, up_of}
+use Rattle.world_model.specs.records.Wire.{counted_with, handled_from, is_handled, is_right, is_sent_front, nothing_cut, stage_of, up_of}
 use Rattle.shown_laws.specs.OwnTurns.{TurnsAreOnWire}
 use Rattle.shown_laws.proofs.SessionsApart.{at_link}
 

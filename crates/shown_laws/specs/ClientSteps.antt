@@ -17,14 +17,14 @@ use Rattle.shown_clauses.specs.Links.{Link as Seen, is_connect}
 use Rattle.shown_clauses.specs.Steps.{Step as StepTold, asked_of}
 use Rattle.world_model.specs.Clients.{Step, Doing, step_at, heard}
 use Rattle.world_model.specs.Frames.{Owner, Sent, Handled}
-use Rattle.world_model.specs.Hold.{is_awaited}
+use Rattle.world_model.specs.records.Hold.{is_awaited}
 use Rattle.world_model.specs.Links.{Link, link_at}
-use Rattle.world_model.specs.Lost.{is_wanted, lost_links}
+use Rattle.invariant_laws.specs.Lost.{is_wanted, lost_links}
 use Rattle.world_model.specs.Sames.{owned_by, same_sent}
 use Rattle.world_model.specs.Serving.{is_item_of, reply_of}
 use Rattle.world_model.specs.Traced.{Traced, Course, course_now}
 use Rattle.world_model.specs.Wanted.{Wanted, wanted_in}
-use Rattle.world_model.specs.Wire.{same_replies}
+use Rattle.world_model.specs.records.Wire.{same_replies}
 use Rattle.caused_laws.specs.Telling.{SentBy}
 use Rattle.shown_laws.specs.Connections.{TellsLink}
 

@@ -12,7 +12,7 @@ use Rattle.world_model.specs.Links.{Link, link_at}
 use Rattle.world_model.specs.Machines.{Machine}
 use Rattle.world_model.specs.Parts.{is_closed}
 use Rattle.world_model.specs.Reached.{Reached, IsFinishing}
-use Rattle.world_model.specs.Ready.{all_requests_right}
+use Rattle.world_model.specs.records.Ready.{all_requests_right}
 use Rattle.world_model.specs.Traced.{Traced}
 use Rattle.world_model.specs.Words.{held_in}
 

@@ -7,7 +7,7 @@ use Rattle.outage_schedule.specs.declared.note.Note.{Note}
 use Rattle.server_model.specs.Seen.{Seen}
 use Rattle.world_model.specs.Finishing.{Place}
 use Rattle.world_model.specs.Reached.{Reached, IsFinishing}
-use Rattle.world_model.specs.Ready.{all_requests_right}
+use Rattle.world_model.specs.records.Ready.{all_requests_right}
 use Rattle.world_model.specs.Traced.{Traced}
 use Rattle.shown_laws.specs.Connections.{TellsLinks, FoundBySession}
 use Rattle.shown_laws.specs.Telling.{seen_told}

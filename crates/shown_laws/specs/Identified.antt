@@ -15,7 +15,7 @@ use Rattle.shown_clauses.specs.Parts.{parts_of}
 use Rattle.shown_clauses.specs.Showings.{identifier_at, have_identifiers}
 use Rattle.shown_clauses.specs.Steps.{Step as StepTold, steps_of}
 use Rattle.world_model.specs.Clients.{Step, Client, client_at}
-use Rattle.world_model.specs.Ready.{all_requests_right}
+use Rattle.world_model.specs.records.Ready.{all_requests_right}
 use Rattle.world_model.specs.Reported.{IsReported}
 use Rattle.world_model.specs.Settings.{Setting}
 use Rattle.world_model.specs.Traced.{Traced}

@@ -3,14 +3,14 @@ use Rattle.std.specs.Prelude.{◌≡◌, ℕ, Bool, IsTrue, List, [], ◌++◌, 
 use Rattle.std.specs.List.{list_all}
 use Rattle.shown_clauses.specs.Links.{Turn}
 use Rattle.shown_clauses.specs.Turns.{is_turn_right}
-use Rattle.world_model.specs.FirstBegins.{begin_new}
+use Rattle.invariant_laws.specs.FirstBegins.{begin_new}
 use Rattle.world_model.specs.Frames.{Handled}
 use Rattle.world_model.specs.Links.{Link, link_at}
-use Rattle.world_model.specs.NearCalls.{is_shown_or_next}
+use Rattle.invariant_laws.specs.NearCalls.{is_shown_or_next}
 use Rattle.world_model.specs.Sames.{is_front, owned_by, same_sent}
-use Rattle.world_model.specs.Shown.{calls_on, is_row}
+use Rattle.invariant_laws.specs.Shown.{calls_on, is_row}
 use Rattle.world_model.specs.Traced.{Course, Traced}
-use Rattle.world_model.specs.Wire.{Wire, handled_from, is_right, stage_of}
+use Rattle.world_model.specs.records.Wire.{Wire, handled_from, is_right, stage_of}
 use Rattle.shown_laws.specs.ServedSent.{none_blocked}
 use Rattle.shown_laws.specs.Submitted.{submission_so_far}
 use Rattle.shown_laws.specs.TurnSent.{sent_since}

@@ -13,7 +13,7 @@ use Rattle.shown_clauses.specs.Whole.{are_taken}
 use Rattle.world_model.specs.Clients.{Past, Client, client_at}
 use Rattle.world_model.specs.Finishing.{Place}
 use Rattle.world_model.specs.Reached.{IsFinishing}
-use Rattle.world_model.specs.Ready.{all_requests_right}
+use Rattle.world_model.specs.records.Ready.{all_requests_right}
 use Rattle.world_model.specs.Traced.{Traced}
 use Rattle.shown_laws.specs.Submitted.{submission_of}
 use Rattle.shown_laws.specs.Telling.{steps_told}

@@ -11,7 +11,7 @@ use Rattle.shown_clauses.specs.Showings.{has_its_showings}
 use Rattle.shown_clauses.specs.Steps.{Step, steps, steps_of}
 use Rattle.shown_clauses.specs.Submissions.{Submission, submissions_by_client}
 use Rattle.shown_clauses.specs.Whole.{are_taken, outcomes_taken}
-use Rattle.world_model.specs.Ready.{all_requests_right}
+use Rattle.world_model.specs.records.Ready.{all_requests_right}
 use Rattle.world_model.specs.Reported.{IsReported}
 use Rattle.world_model.specs.Traced.{Traced}
 

@@ -9,7 +9,7 @@ use Rattle.world_model.specs.Clients.{Step, Client}
 use Rattle.world_model.specs.Frames.{Owner}
 use Rattle.world_model.specs.OneEvent.{OneEvent}
 use Rattle.world_model.specs.Reached.{Reached}
-use Rattle.world_model.specs.Ready.{all_requests_right}
+use Rattle.world_model.specs.records.Ready.{all_requests_right}
 use Rattle.world_model.specs.Traced.{Traced}
 use Rattle.shown_laws.specs.ByPlace.{RequestSteps, IsRequestOf}
 

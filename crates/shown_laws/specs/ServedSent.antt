@@ -5,8 +5,8 @@ use Rattle.shown_clauses.specs.Links.{Marked}
 use Rattle.world_model.specs.Frames.{Sent, Handled}
 use Rattle.world_model.specs.Sames.{is_front, same_sent}
 use Rattle.world_model.specs.Serving.{is_blocked}
-use Rattle.world_model.specs.Shown.{is_marked}
-use Rattle.world_model.specs.Wire.{handled_from}
+use Rattle.invariant_laws.specs.Shown.{is_marked}
+use Rattle.world_model.specs.records.Wire.{handled_from}
 use Rattle.shown_laws.specs.TurnRows.{ServedOf}
 use Rattle.shown_laws.specs.TurnSent.{sent_since}
 use Rattle.shown_laws.specs.TurnsServed.{calls_served}

@@ -13,9 +13,9 @@ use Rattle.client_model.specs.declared.input.Input.TheVariants.{Start}
 use Rattle.shown_clauses.specs.Steps.{Step as StepTold, steps_of}
 use Rattle.world_model.specs.Clients.{Step, Doing, Past, Client, client_at, script_at, begun, doing_of, reports_of}
 use Rattle.world_model.specs.Finishing.{Place}
-use Rattle.world_model.specs.Invariant.{Invariant}
+use Rattle.invariant_laws.specs.Invariant.{Invariant}
 use Rattle.world_model.specs.Reached.{Reached, IsFinishing}
-use Rattle.world_model.specs.Ready.{all_requests_right}
+use Rattle.world_model.specs.records.Ready.{all_requests_right}
 use Rattle.world_model.specs.Settings.{Setting}
 use Rattle.world_model.specs.Traced.{Traced}
 use Rattle.shown_laws.specs.ClientSteps.{now_at, TellsKind}

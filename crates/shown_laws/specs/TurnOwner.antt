@@ -1,8 +1,8 @@
 -- The calls since the last Begin are all that their request sent on the connection.
 use Rattle.std.specs.Prelude.{◌≡◌, IsTrue, List, [], filter, fold, Option}
-use Rattle.world_model.specs.FirstBegins.{begin_new, is_call_by}
+use Rattle.invariant_laws.specs.FirstBegins.{begin_new, is_call_by}
 use Rattle.world_model.specs.Frames.{Owner, Sent}
-use Rattle.world_model.specs.Wire.{New, next_stage, is_right}
+use Rattle.world_model.specs.records.Wire.{New, next_stage, is_right}
 use Rattle.shown_laws.specs.TurnSent.{sent_since}
 
 -- the calls of a request among these frames

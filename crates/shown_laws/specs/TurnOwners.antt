@@ -19,9 +19,9 @@ use Rattle.world_model.specs.Clients.{Step, Past, Client, client_at}
 use Rattle.world_model.specs.Frames.{Owner, Sent, Handled}
 use Rattle.world_model.specs.Links.{Link, link_at}
 use Rattle.world_model.specs.Reached.{Reached, IsRun}
-use Rattle.world_model.specs.Ready.{all_requests_right}
+use Rattle.world_model.specs.records.Ready.{all_requests_right}
 use Rattle.world_model.specs.Traced.{Traced}
-use Rattle.world_model.specs.UnservedBegins.{last_owner}
+use Rattle.invariant_laws.specs.UnservedBegins.{last_owner}
 use Rattle.shown_laws.specs.AcquiredTold.{last_acquired}
 use Rattle.shown_laws.specs.ByPlace.{RequestSteps, IsRequestOf}
 use Rattle.shown_laws.specs.Submitted.{submission_of}

@@ -7,8 +7,8 @@ use Rattle.svc_values.specs.declared.frame.Up.TheVariants as up
 use Rattle.shown_clauses.specs.Links.{Marked, Turn}
 use Rattle.shown_clauses.specs.Turns.{is_turn_right}
 use Rattle.world_model.specs.Frames.{Sent}
-use Rattle.world_model.specs.NearCalls.{is_shown_or_next}
-use Rattle.world_model.specs.Shown.{is_marked, is_row}
+use Rattle.invariant_laws.specs.NearCalls.{is_shown_or_next}
+use Rattle.invariant_laws.specs.Shown.{is_marked, is_row}
 use Rattle.world_model.specs.Traced.{Course}
 use Rattle.shown_laws.specs.Submitted.{submission_so_far}
 

@@ -6,7 +6,7 @@ use Rattle.svc_values.specs.declared.frame.Up.TheVariants as up
 use Rattle.world_model.specs.Frames.{Owner, Sent}
 use Rattle.world_model.specs.Links.{Link}
 use Rattle.world_model.specs.Sames.{same_owners}
-use Rattle.world_model.specs.Wire.{stage_of, is_right}
+use Rattle.world_model.specs.records.Wire.{stage_of, is_right}
 use Rattle.shown_laws.specs.TurnRows.{are_marked_first}
 
 abbrev pub calls_with : List Sent → Sent → Up → List Sent

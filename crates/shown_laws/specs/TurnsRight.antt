@@ -11,7 +11,7 @@ use Rattle.shown_clauses.specs.Steps.{turns_seen}
 use Rattle.shown_clauses.specs.Turns.{is_turn_right}
 use Rattle.world_model.specs.Finishing.{Place}
 use Rattle.world_model.specs.Reached.{Reached, IsFinishing, IsRun}
-use Rattle.world_model.specs.Ready.{all_requests_right}
+use Rattle.world_model.specs.records.Ready.{all_requests_right}
 use Rattle.world_model.specs.Traced.{Traced, Course, courses_of}
 use Rattle.world_model.specs.Words.{held_in}
 use Rattle.shown_laws.specs.Telling.{seen_told}

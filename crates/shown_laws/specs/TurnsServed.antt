@@ -14,7 +14,7 @@ use Rattle.world_model.specs.Finishing.{Place}
 use Rattle.world_model.specs.Frames.{Handled}
 use Rattle.world_model.specs.Links.{Link, link_at}
 use Rattle.world_model.specs.Reached.{Reached, IsFinishing}
-use Rattle.world_model.specs.Ready.{all_requests_right}
+use Rattle.world_model.specs.records.Ready.{all_requests_right}
 use Rattle.world_model.specs.Traced.{Traced}
 use Rattle.shown_laws.specs.Telling.{seen_told}
 

@@ -24,7 +24,7 @@ pub fn connections_are_told()
     ensures reached { RunsTellConnections }
     ensures finishing { FinishesTellConnections }
 {
-    world_model::kept_laws::runs_keep_invariant();
+    invariant_laws::kept_laws::runs_keep_invariant();
 }
 
 /// No Close was sent on a connection that a request in course held: those that it lost were cut, or ended by a crash or a block, and the event
@@ -33,7 +33,7 @@ pub fn held_connections_stay_unclosed()
     ensures reached { RunsLeaveUnclosed }
     ensures finishing { FinishesLeaveUnclosed }
 {
-    world_model::kept_laws::runs_keep_invariant();
+    invariant_laws::kept_laws::runs_keep_invariant();
 }
 
 /// The steps that are told of a client are those of its requests, in order, each with what the request did at it: the reply that it took is told by
@@ -43,14 +43,14 @@ pub fn steps_are_told()
     ensures reached { RunsTellSteps }
     ensures finishing { FinishesTellSteps }
 {
-    world_model::kept_laws::runs_keep_invariant();
+    invariant_laws::kept_laws::runs_keep_invariant();
 }
 
 /// What a request did stays in front of its steps, event by event: it goes on, or it is over with them.
 pub fn requests_go_on()
     ensures { RequestsGrow }
 {
-    world_model::kept_laws::runs_keep_invariant();
+    invariant_laws::kept_laws::runs_keep_invariant();
 }
 
 /// The turn that is told of a connection has the calls that its session served since the last Begin, with their marks, the newest first: those
@@ -59,7 +59,7 @@ pub fn turns_are_told()
     ensures reached { RunsTellTurns }
     ensures finishing { FinishesTellTurns }
 {
-    world_model::kept_laws::runs_keep_invariant();
+    invariant_laws::kept_laws::runs_keep_invariant();
 }
 
 /// Each call that a request was shown has the identifier of the session whose item the step took, with the number of that session's entries
@@ -67,8 +67,8 @@ pub fn turns_are_told()
 pub fn calls_are_identified()
     ensures { CallsAreIdentified }
 {
-    world_model::kept_laws::runs_keep_invariant();
-    world_model::stored_laws::entries_are_counted();
+    invariant_laws::kept_laws::runs_keep_invariant();
+    run_laws::stored_laws::entries_are_counted();
 }
 
 /// The clause `Caused` holds of the report of every whole run of a document that lets a request try at least once: each request ends as its
@@ -76,6 +76,6 @@ pub fn calls_are_identified()
 pub fn runs_are_caused()
     ensures { RunsAreCaused }
 {
-    world_model::kept_laws::runs_keep_invariant();
+    invariant_laws::kept_laws::runs_keep_invariant();
     steps_are_told();
 }

@@ -31,7 +31,7 @@ pub fn reports_take_replies()
 pub fn reports_are_ordered()
     ensures { ReportsAreOrdered }
 {
-    world_model::kept_laws::runs_keep_invariant();
+    invariant_laws::kept_laws::runs_keep_invariant();
     crate::laws::steps_are_told();
 }
 
@@ -59,7 +59,7 @@ pub fn reports_own_turns()
     ensures right { ReportsTurnsAreRight }
     ensures requests { ReportsTurnsHaveRequests }
 {
-    world_model::kept_laws::runs_keep_invariant();
+    invariant_laws::kept_laws::runs_keep_invariant();
     crate::laws::steps_are_told();
     crate::turns::turns_are_of_acquirers();
 }

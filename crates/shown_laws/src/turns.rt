@@ -11,7 +11,7 @@ ghost use Rattle.shown_laws.specs.TurnSent.{TurnsHaveOneOwner};
 ghost use Rattle.shown_laws.specs.TurnsOver.{RunsTellOver, FinishesTellOver};
 ghost use Rattle.shown_laws.specs.TurnsRight.{RunsTellRight, FinishesTellRight, WholeRunsTellRight};
 ghost use Rattle.shown_laws.specs.Unblocked.{serve_unblocked};
-ghost use Rattle.world_model.specs.SameLaws.{HoldsAtEnds, HoldsInRuns};
+ghost use Rattle.invariant_laws.specs.SameLaws.{HoldsAtEnds, HoldsInRuns};
 
 /// A turn is right that served calls which a request sent in a row of its script: those with the mark are the calls since the last that was shown as
 /// decided, up to the first without it.
@@ -25,7 +25,7 @@ pub fn turns_before_are_told()
     ensures reached { RunsTellOver }
     ensures finishing { FinishesTellOver }
 {
-    world_model::kept_laws::runs_keep_invariant();
+    invariant_laws::kept_laws::runs_keep_invariant();
 }
 
 /// The calls that were sent on a connection since a Begin are of one request, those with the mark first.
@@ -55,8 +55,8 @@ pub fn marked_calls_meet_no_block()
     ensures reached { HoldsInRuns serve_unblocked }
     ensures run { HoldsAtEnds serve_unblocked }
 {
-    world_model::kept_laws::runs_keep_invariant();
-    world_model::same_laws::runs_serve();
+    invariant_laws::kept_laws::runs_keep_invariant();
+    invariant_laws::history_laws::runs_serve();
 }
 
 /// Wherever a run of a document whose requests are right has come to: what the session of a connection served since a Begin is right for the
@@ -65,9 +65,9 @@ pub fn held_turns_are_right()
     ensures reached { RunsHaveRightTurns }
     ensures finishing { FinishesHaveRightTurns }
 {
-    world_model::kept_laws::runs_keep_invariant();
-    world_model::same_laws::requests_begin_once();
-    world_model::same_laws::requests_send_near();
+    invariant_laws::kept_laws::runs_keep_invariant();
+    invariant_laws::frame_laws::requests_begin_once();
+    invariant_laws::frame_laws::requests_send_near();
     marked_calls_meet_no_block();
 }
 
@@ -77,9 +77,9 @@ pub fn told_turns_are_right()
     ensures reached { RunsTellRight }
     ensures finishing { FinishesTellRight }
 {
-    world_model::kept_laws::runs_keep_invariant();
-    world_model::same_laws::requests_begin_once();
-    world_model::same_laws::requests_send_near();
+    invariant_laws::kept_laws::runs_keep_invariant();
+    invariant_laws::frame_laws::requests_begin_once();
+    invariant_laws::frame_laws::requests_send_near();
     marked_calls_meet_no_block();
 }
 
@@ -93,7 +93,7 @@ pub fn sessions_are_acquired_by_steps()
 pub fn whole_runs_tell_right_turns()
     ensures { WholeRunsTellRight }
 {
-    world_model::kept_laws::runs_keep_invariant();
+    invariant_laws::kept_laws::runs_keep_invariant();
     told_turns_are_right();
 }
 
@@ -104,10 +104,10 @@ pub fn turns_are_of_acquirers()
     ensures reached { RunsTellOwners }
     ensures run { WholeRunsOwnTurns }
 {
-    world_model::kept_laws::runs_keep_invariant();
-    world_model::same_laws::unserved_begins_are_last();
-    world_model::same_laws::requests_begin_once();
-    world_model::same_laws::requests_send_near();
+    invariant_laws::kept_laws::runs_keep_invariant();
+    invariant_laws::frame_laws::unserved_begins_are_last();
+    invariant_laws::frame_laws::requests_begin_once();
+    invariant_laws::frame_laws::requests_send_near();
     marked_calls_meet_no_block();
     sessions_are_acquired_by_steps();
 }

@@ -8,7 +8,7 @@ ghost use Rattle.shown_laws.specs.PartsTold.{SessionsAreAcquired, OutcomesAreTak
 pub fn sessions_are_acquired()
     ensures { SessionsAreAcquired }
 {
-    world_model::kept_laws::runs_keep_invariant();
+    invariant_laws::kept_laws::runs_keep_invariant();
     crate::laws::steps_are_told();
 }
 
@@ -16,7 +16,7 @@ pub fn sessions_are_acquired()
 pub fn outcomes_are_taken()
     ensures { OutcomesAreTaken }
 {
-    world_model::kept_laws::runs_keep_invariant();
+    invariant_laws::kept_laws::runs_keep_invariant();
     crate::laws::steps_are_told();
 }
 
@@ -25,7 +25,7 @@ pub fn outcomes_are_taken()
 pub fn calls_are_shown()
     ensures { CallsAreShown }
 {
-    world_model::kept_laws::runs_keep_invariant();
+    invariant_laws::kept_laws::runs_keep_invariant();
     crate::laws::steps_are_told();
 }
 
@@ -33,7 +33,7 @@ pub fn calls_are_shown()
 pub fn replies_are_taken()
     ensures { RepliesAreTaken }
 {
-    world_model::kept_laws::runs_keep_invariant();
+    invariant_laws::kept_laws::runs_keep_invariant();
     crate::laws::connections_are_told();
     crate::laws::held_connections_stay_unclosed();
 }
@@ -42,7 +42,7 @@ pub fn replies_are_taken()
 pub fn showings_are_own()
     ensures { ShownByOwnSessions }
 {
-    world_model::kept_laws::runs_keep_invariant();
+    invariant_laws::kept_laws::runs_keep_invariant();
     crate::laws::steps_are_told();
 }
 
@@ -51,7 +51,7 @@ pub fn showings_are_own()
 pub fn calls_are_answered()
     ensures { CallsAreAnswered }
 {
-    world_model::kept_laws::runs_keep_invariant();
+    invariant_laws::kept_laws::runs_keep_invariant();
     crate::laws::steps_are_told();
 }
 
@@ -59,7 +59,7 @@ pub fn calls_are_answered()
 pub fn outcomes_are_lone()
     ensures { OutcomesAreLone }
 {
-    world_model::kept_laws::runs_keep_invariant();
+    invariant_laws::kept_laws::runs_keep_invariant();
     crate::laws::steps_are_told();
 }
 
@@ -77,6 +77,6 @@ pub fn calls_are_served()
 pub fn identifiers_are_stored()
     ensures { IdentifiersAreStored }
 {
-    world_model::kept_laws::runs_keep_invariant();
+    invariant_laws::kept_laws::runs_keep_invariant();
     crate::laws::calls_are_identified();
 }

@@ -25,11 +25,11 @@ use Rattle.server_model.specs.Sessions.{Life}
 use Rattle.server_model.specs.ToldRight.{is_ended, is_refused, is_silent, must_refuse, tells, told_holds, happened_holds, lives_after, told_from}
 use Rattle.server_model.specs.Walk.{Walk, walk_of, deed_of, entered, after}
 use Rattle.server_model.proofs.Offered.{runs_keep_base, runs_told, tells_next}
-use Rattle.world_model.specs.Basic.{living_now}
+use Rattle.world_model.specs.records.Basic.{living_now}
 use Rattle.world_model.specs.Coupled.{living_of, entries_in, life_by, life_of, HasLived, IsLater, Coupled}
 use Rattle.world_model.specs.Links.{Link}
 use Rattle.world_model.specs.Machines.{Server, next_session}
-use Rattle.world_model.specs.Number.{known_so_far}
+use Rattle.world_model.specs.records.Number.{known_so_far}
 use Rattle.world_model.specs.Serving.{Front, front_at, identifier}
 use Rattle.world_model.specs.Traced.{Traced}
 use Rattle.world_core.specs.Answering.{result_of}

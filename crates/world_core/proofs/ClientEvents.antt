@@ -16,7 +16,7 @@ use Rattle.service_calls.specs.Kept.{Goes as Carries}
 use Rattle.world_model.specs.Clients.{Client}
 use Rattle.world_model.specs.Coupled.{living_of, HasStored, life_of, HasLived, Coupled}
 use Rattle.world_model.specs.Going.{follow_go}
-use Rattle.world_model.specs.KeptLaws.{OrderlyIsKept}
+use Rattle.world_model.specs.OrderlyLaws.{OrderlyIsKept}
 use Rattle.world_model.specs.Links.{Link, new_link, link_at}
 use Rattle.world_model.specs.Machines.{Machine}
 use Rattle.world_model.specs.OneEvent.{OneEvent}

@@ -20,11 +20,11 @@ use Rattle.server_model.specs.Outcomes.{telling_of}
 use Rattle.server_model.specs.Runs.{Happened, Served}
 use Rattle.server_model.specs.Seen.{Seen}
 use Rattle.server_model.specs.ServiceCalls.{CameFrom, IsOf}
-use Rattle.world_model.specs.Basic.{is_made}
+use Rattle.world_model.specs.records.Basic.{is_made}
 use Rattle.world_model.specs.Coupled.{HasStored, entries_in, Coupled}
 use Rattle.world_model.specs.Links.{Link, link_at}
 use Rattle.world_model.specs.Machines.{next_session}
-use Rattle.world_model.specs.Number.{is_known, is_of_run, known_so_far}
+use Rattle.world_model.specs.records.Number.{is_known, is_of_run, known_so_far}
 use Rattle.world_model.specs.Traced.{Traced}
 use Rattle.world_core.proofs.InOrder.{ServedWith, commits_in}
 use Rattle.world_core.proofs.Recorded.{has_so}

@@ -26,7 +26,7 @@ use Rattle.world_model.specs.Outside.{ticked}
 use Rattle.world_model.specs.Walking.{follow}
 use Rattle.world_model.specs.ServiceDid.{ServiceDid}
 use Rattle.world_model.specs.Coupled.{living_of, HasStored, life_of, HasLived, IsLater, SameServer, Coupled}
-use Rattle.world_model.specs.KeptLaws.{OrderlyIsKept}
+use Rattle.world_model.specs.OrderlyLaws.{OrderlyIsKept}
 use Rattle.world_model.specs.OneEvent.{OneEvent, session_outside, drawn_outside}
 use Rattle.world_model.proofs.Offered.{opens_once, ticks_once}
 use Rattle.world_core.specs.declared.traffic.Traffic.{Traffic}

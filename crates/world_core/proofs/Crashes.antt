@@ -18,7 +18,7 @@ use Rattle.world_model.specs.Crashing.{fallen_link, fallen_server, falls, crashe
 use Rattle.world_model.specs.Links.{Link, link_at, open_from}
 use Rattle.world_model.specs.Machines.{Server, Machine}
 use Rattle.world_model.specs.Noting.{only_if}
-use Rattle.world_model.specs.KeptLaws.{OrderlyIsKept}
+use Rattle.world_model.specs.OrderlyLaws.{OrderlyIsKept}
 use Rattle.world_model.specs.OneEvent.{OneEvent}
 use Rattle.world_model.specs.ServiceDid.{front_served}
 use Rattle.world_model.specs.Serving.{front_at}

@@ -10,7 +10,7 @@ use Rattle.svc_values.specs.declared.frame.Up.{Up}
 use Rattle.svc_values.specs.declared.frame.Up.TheVariants as up
 use Rattle.pool_core.specs.Slots.{Slots, is_among, after_drain}
 use Rattle.world_model.specs.Links.{Link, link_at, changed, sends}
-use Rattle.world_model.specs.KeptLaws.{OrderlyIsKept}
+use Rattle.world_model.specs.OrderlyLaws.{OrderlyIsKept}
 use Rattle.world_model.specs.Machines.{Machine}
 use Rattle.world_model.specs.Outside.{closed_by_drain, drained, follow_drain}
 use Rattle.world_model.proofs.Offered.{AreOpenOnce, idle_open_once}

@@ -12,7 +12,7 @@ use Rattle.server_model.specs.ToldRight.{life_behind, is_marked_alter, must_refu
 use Rattle.world_model.specs.Coupled.{life_of}
 use Rattle.world_model.specs.Frames.{Owner, Sent, Handled}
 use Rattle.world_model.specs.Sames.{same_owners, same_up, same_sent, is_front}
-use Rattle.world_model.specs.Wire.{Stage, New, Greeted, Told, Repeated, Begun, Rested, Shut, Wrong, stage_if, is_alter, next_stage, is_right}
+use Rattle.world_model.specs.records.Wire.{Stage, New, Greeted, Told, Repeated, Begun, Rested, Shut, Wrong, stage_if, is_alter, next_stage, is_right}
 use Rattle.world_core.proofs.Storing.{both}
 
 clash : {A : Type 0} (b : Bool) → b ≡ true → b ≡ false → A

@@ -20,10 +20,10 @@ use Rattle.server_model.specs.Outcomes.{Telling, Stopped, telling_of}
 use Rattle.server_model.specs.Runs.{Happened, Served as ServedFrame}
 use Rattle.server_model.specs.Seen.{Store, Seen, IsHistory}
 use Rattle.server_model.specs.ServiceCalls.{Gains, ServedOne, SessionOf, may_store, with_stop}
-use Rattle.world_model.specs.Basic.{living_now}
+use Rattle.world_model.specs.records.Basic.{living_now}
 use Rattle.world_model.specs.Coupled.{living_of, life_by, SameServer, Coupled}
 use Rattle.world_model.specs.Crashing.{is_crashed_item, is_stopped, is_over, is_alert, is_new_block, has_stored, with_doubt, after_stopped, serves_last}
-use Rattle.world_model.specs.Hold.{is_connect}
+use Rattle.world_model.specs.records.Hold.{is_connect}
 use Rattle.world_model.specs.Links.{Link}
 use Rattle.world_model.specs.Machines.{Server, Machine}
 use Rattle.world_model.specs.ServiceDid.{front_served, item_telling}

@@ -13,7 +13,7 @@ use Rattle.world_model.specs.Traced.{Traced}
 use Rattle.world_model.specs.Opening.{may_open, opened}
 use Rattle.world_model.specs.Walking.{follow}
 use Rattle.world_model.specs.Coupled.{living_of, life_by, life_of, IsLater, SameServer, Coupled}
-use Rattle.world_model.specs.KeptLaws.{OrderlyIsKept}
+use Rattle.world_model.specs.OrderlyLaws.{OrderlyIsKept}
 use Rattle.world_model.specs.OneEvent.{OneEvent}
 use Rattle.world_core.specs.declared.traffic.Traffic.{Traffic}
 use Rattle.world_core.specs.Underway.{IsUnderway}

@@ -13,17 +13,17 @@ use Rattle.svc_values.specs.declared.frame.Down.{Down}
 use Rattle.svc_values.specs.Laws.{AreExact}
 use Rattle.server_model.specs.Seen.{Seen, IsHistory}
 use Rattle.server_model.specs.ToldRight.{must_refuse}
-use Rattle.world_model.specs.Basic.{is_down, is_named, first_is_connect, living_now, sessions_differ, are_made}
+use Rattle.world_model.specs.records.Basic.{is_down, is_named, first_is_connect, living_now, sessions_differ, are_made}
 use Rattle.world_model.specs.Coupled.{life_by, life_of, Coupled}
 use Rattle.world_model.specs.Frames.{Owner, Sent, Handled}
-use Rattle.world_model.specs.Hold.{is_connect}
-use Rattle.world_model.specs.Invariant.{Orderly}
+use Rattle.world_model.specs.records.Hold.{is_connect}
+use Rattle.world_model.specs.Orderly.{Orderly}
 use Rattle.world_model.specs.Links.{Link, link_at}
 use Rattle.world_model.specs.Parts.{implies}
 use Rattle.world_model.specs.Sames.{same_owners, same_up, same_sent, is_front}
 use Rattle.world_model.specs.Serving.{Front, front_at}
 use Rattle.world_model.specs.Traced.{Traced}
-use Rattle.world_model.specs.Wire.{up_of, nothing_cut, is_sent_front, Stage, New, Wrong, next_stage, stage_of, is_right}
+use Rattle.world_model.specs.records.Wire.{up_of, nothing_cut, is_sent_front, Stage, New, Wrong, next_stage, stage_of, is_right}
 use Rattle.world_model.proofs.Offered.{connect_first}
 use Rattle.world_core.proofs.Answered.{answers_so, lived_so}
 use Rattle.world_core.proofs.InLife.{in_order_there}

@@ -24,9 +24,9 @@ use Rattle.server_model.specs.Seen.{Store, Seen, IsHistory}
 use Rattle.server_model.specs.ServiceCalls.{CameFrom, WasAsked, IsOf, RunsAre, begins_outside, RanOutside, next_session as next_at_service}
 use Rattle.service_calls.specs.Answers.{runs_of}
 use Rattle.service_calls.specs.Kept.{Goes}
-use Rattle.world_model.specs.KeptLaws.{OrderlyIsKept}
+use Rattle.world_model.specs.OrderlyLaws.{OrderlyIsKept}
 use Rattle.world_model.specs.OneEvent.{OneEvent, drawn_outside}
-use Rattle.world_model.specs.Basic.{are_made}
+use Rattle.world_model.specs.records.Basic.{are_made}
 use Rattle.world_model.specs.Coupled.{living_of, HasStored, life_by, life_of, HasLived, IsLater, entries_in, SameServer, Coupled}
 use Rattle.world_model.specs.Links.{Link, link_at}
 use Rattle.world_model.specs.Machines.{Server, Machine, next_session}

@@ -17,7 +17,7 @@ use Rattle.world_model.specs.Noting.{only_if}
 use Rattle.world_model.specs.Cutting.{has_orphan, reaped_link, follow_reap}
 use Rattle.world_model.specs.Walking.{follow}
 use Rattle.world_model.specs.Coupled.{living_of, HasStored, life_by, life_of, HasLived, IsLater, SameServer, Coupled}
-use Rattle.world_model.specs.KeptLaws.{OrderlyIsKept}
+use Rattle.world_model.specs.OrderlyLaws.{OrderlyIsKept}
 use Rattle.world_model.specs.OneEvent.{OneEvent}
 use Rattle.world_core.specs.declared.traffic.Traffic.{Traffic}
 use Rattle.world_core.specs.Underway.{IsUnderway, Leads}

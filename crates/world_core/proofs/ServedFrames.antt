@@ -27,7 +27,7 @@ use Rattle.world_model.specs.Noting.{name_of}
 use Rattle.world_model.specs.Serving.{Front, first_of, front_at, is_blocked, after_front, pool_after}
 use Rattle.world_model.specs.Traced.{Traced}
 use Rattle.world_model.specs.Coupled.{living_of, Coupled}
-use Rattle.world_model.specs.KeptLaws.{OrderlyIsKept}
+use Rattle.world_model.specs.OrderlyLaws.{OrderlyIsKept}
 use Rattle.world_core.specs.declared.traffic.Traffic.{Traffic}
 use Rattle.world_core.specs.Answering.{served_item}
 use Rattle.world_core.proofs.InOrder.{no_store, ServedWith}

@@ -24,12 +24,12 @@ use Rattle.world_model.specs.Links.{Link, link_at, with_link, changed, ends}
 use Rattle.world_model.specs.Machines.{Server, Machine, next_session}
 use Rattle.world_model.specs.Noting.{only_if, name_of, same_name}
 use Rattle.world_model.specs.Serving.{Front, front_at, is_item_of, is_served_by, serves, follow_serve, is_last, is_blocked, is_commit, commits_after, after_front, handled, reply_of, after_served, server_after, pool_after}
-use Rattle.world_model.specs.Basic.{sessions_differ, are_made}
+use Rattle.world_model.specs.records.Basic.{sessions_differ, are_made}
 use Rattle.world_model.specs.Traced.{Traced}
 use Rattle.world_model.specs.Walking.{follow}
 use Rattle.world_model.specs.ServiceDid.{front_served}
 use Rattle.world_model.specs.Coupled.{living_of, HasStored, entries_in, life_by, life_of, HasLived, IsLater, SameServer, Coupled}
-use Rattle.world_model.specs.KeptLaws.{OrderlyIsKept}
+use Rattle.world_model.specs.OrderlyLaws.{OrderlyIsKept}
 use Rattle.world_model.specs.OneEvent.{OneEvent}
 use Rattle.world_core.specs.declared.traffic.Traffic.{Traffic}
 use Rattle.world_core.specs.Answering.{served_item}

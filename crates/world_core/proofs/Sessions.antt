@@ -9,7 +9,7 @@ use Rattle.server_model.specs.Outcomes.{telling_of}
 use Rattle.server_model.specs.Runs.{Served as ServedFrame}
 use Rattle.server_model.specs.Seen.{Seen}
 use Rattle.server_model.specs.ServiceCalls.{SessionOf}
-use Rattle.world_model.specs.Basic.{living_now}
+use Rattle.world_model.specs.records.Basic.{living_now}
 use Rattle.world_model.specs.Coupled.{living_of, SameServer, Coupled}
 use Rattle.world_model.specs.Machines.{Server}
 use Rattle.world_model.specs.Serving.{Front, front_at}

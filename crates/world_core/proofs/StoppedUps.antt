@@ -8,10 +8,10 @@ use Rattle.outage_schedule.specs.declared.note.Note.TheVariants as note
 use Rattle.server_model.specs.Seen.{Store, Seen, IsHistory}
 use Rattle.server_model.specs.ServiceCalls.{is_failover, Crashed, SameLists, HasSoFar, Neither, Forgets, Both}
 use Rattle.service_calls.specs.Kept.{Goes}
-use Rattle.world_model.specs.Basic.{is_down}
+use Rattle.world_model.specs.records.Basic.{is_down}
 use Rattle.world_model.specs.CrashCount.{Counted}
 use Rattle.world_model.specs.Coupled.{living_of, life_by, life_of, SameServer, Coupled}
-use Rattle.world_model.specs.KeptLaws.{OrderlyIsKept}
+use Rattle.world_model.specs.OrderlyLaws.{OrderlyIsKept}
 use Rattle.world_model.specs.OneEvent.{OneEvent}
 use Rattle.world_model.specs.Links.{Link, link_at}
 use Rattle.world_model.specs.Machines.{Server, Machine}

@@ -17,7 +17,7 @@ use Rattle.server_model.specs.Laws.{CommitsAs}
 use Rattle.server_model.specs.Outcomes.{Silent, Says, Stopped}
 use Rattle.server_model.specs.Runs.{Happened, Served, Asked}
 use Rattle.server_model.specs.ServiceCalls.{CameFrom, IsOf}
-use Rattle.world_model.specs.Basic.{sessions_of, is_made, are_made, living_now, sessions_differ as sessions_differ_in}
+use Rattle.world_model.specs.records.Basic.{sessions_of, is_made, are_made, living_now, sessions_differ as sessions_differ_in}
 use Rattle.world_model.specs.Coupled.{entries_in, living_of}
 use Rattle.world_model.specs.Links.{Link, link_at}
 use Rattle.world_model.specs.Machines.{next_session}

@@ -22,7 +22,7 @@ use Rattle.server_model.specs.Sessions.{Life}
 use Rattle.server_model.specs.ToldRight.{life_after, life_behind}
 use Rattle.server_model.specs.Seen.{Connections, with_connection, without_connection}
 use Rattle.server_model.specs.ServiceCalls.{living_after, is_up_after}
-use Rattle.world_model.specs.Hold.{is_connect}
+use Rattle.world_model.specs.records.Hold.{is_connect}
 use Rattle.world_model.specs.Links.{Link}
 use Rattle.world_model.specs.Machines.{Server, next_session}
 use Rattle.world_model.specs.Noting.{name_of, same_name}

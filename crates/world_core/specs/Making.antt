@@ -7,7 +7,7 @@ use Rattle.server_model.specs.Seen.{ServiceState, Seen}
 use Rattle.world_model.specs.Traced.{Traced}
 use Rattle.world_model.specs.Coupled.{Coupled}
 use Rattle.world_model.specs.Forgets.{Forgets}
-use Rattle.world_model.specs.Invariant.{Orderly}
+use Rattle.world_model.specs.Orderly.{Orderly}
 use Rattle.world_model.specs.OneEvent.{OneEvent}
 use Rattle.world_core.specs.declared.traffic.Traffic.{Traffic}
 use Rattle.world_core.specs.Underway.{IsUnderway}

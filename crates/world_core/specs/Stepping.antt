@@ -14,7 +14,7 @@ use Rattle.client_model.specs.Talk.{wants_of}
 use Rattle.client_model.specs.Terms.{Phase, Idle, Unbegun}
 use Rattle.world_model.specs.Acting.{act_at, connection_of, frames_of, steps}
 use Rattle.world_model.specs.Clients.{Doing, Client, client_at, script_at, doing_of, heard, after_hold}
-use Rattle.world_model.specs.Invariant.{Orderly}
+use Rattle.world_model.specs.Orderly.{Orderly}
 use Rattle.world_model.specs.Links.{Link, link_at}
 use Rattle.world_model.specs.Machines.{Machine}
 use Rattle.world_model.specs.Settings.{Setting}

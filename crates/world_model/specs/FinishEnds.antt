@@ -5,7 +5,7 @@ use Rattle.outage_schedule.specs.declared.note.Note.{Note}
 use Rattle.outage_schedule.specs.declared.item.Served.{Served}
 use Rattle.server_model.specs.Seen.{Seen}
 use Rattle.world_model.specs.Traced.{Traced}
-use Rattle.world_model.specs.Invariant.{Orderly}
+use Rattle.world_model.specs.Orderly.{Orderly}
 use Rattle.world_model.specs.OneEvent.{OneEvent}
 use Rattle.world_model.specs.Finishing.{Place, AtServer, next_finish}
 use Rattle.world_model.specs.Remaining.{remaining}

@@ -14,7 +14,7 @@ use Rattle.server_model.specs.ServiceCalls.{Opened, StoppedOpening}
 use Rattle.service_calls.specs.Kept.{Goes}
 use Rattle.world_model.specs.Coupled.{Coupled, living_of}
 use Rattle.world_model.specs.Forgets.{first_of}
-use Rattle.world_model.specs.Invariant.{Orderly}
+use Rattle.world_model.specs.Orderly.{Orderly}
 use Rattle.world_model.specs.Links.{Link, link_at}
 use Rattle.world_model.specs.Machines.{per_record_of, start_of}
 use Rattle.world_model.specs.Reached.{Reached, Begins, traced_start}

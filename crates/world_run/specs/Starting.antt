@@ -11,7 +11,7 @@ use Rattle.server_model.specs.Seen.{Seen, IsNew}
 use Rattle.world_model.specs.Forgets.{first_of}
 use Rattle.world_model.specs.Machines.{per_record_of}
 use Rattle.world_model.specs.Reached.{Reached, traced_start}
-use Rattle.world_model.specs.Ready.{all_requests_right}
+use Rattle.world_model.specs.records.Ready.{all_requests_right}
 use Rattle.world_model.specs.Settings.{rules_of}
 use Rattle.world_run.specs.Running.{Parts, Stands}
 

@@ -1,4 +1,4 @@
-use Rattle.world_model.proofs.KeptBasic.{basic_begins, basic_is_kept}
+use Rattle.world_model.proofs.basic.KeptBasic.{basic_begins, basic_is_kept}
 use Rattle.world_model.proofs.laws.basic_is_kept.Goals as goal
 
 pub returns-clause-start : goal.returns-clause-start

@@ -1,4 +1,4 @@
-use Rattle.world_model.proofs.Blocks.{blocks_law}
+use Rattle.world_model.proofs.number.Blocks.{blocks_law}
 use Rattle.world_model.proofs.laws.blocks_are_next.Goals as goal
 
 pub returns : goal.returns

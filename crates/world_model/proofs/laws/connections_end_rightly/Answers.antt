@@ -1,4 +1,4 @@
-use Rattle.world_model.proofs.KeptTests.{ended_law, down_law}
+use Rattle.world_model.proofs.basic.KeptTests.{ended_law, down_law}
 use Rattle.world_model.proofs.laws.connections_end_rightly.Goals as goal
 
 pub returns-clause-ended : goal.returns-clause-ended

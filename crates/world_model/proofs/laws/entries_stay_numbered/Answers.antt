@@ -1,4 +1,4 @@
-use Rattle.world_model.proofs.KeptEntries.{entries_law, unblocked_law}
+use Rattle.world_model.proofs.number.KeptEntries.{entries_law, unblocked_law}
 use Rattle.world_model.proofs.laws.entries_stay_numbered.Goals as goal
 
 pub returns : goal.returns

@@ -1,4 +1,4 @@
-use Rattle.world_model.proofs.FinishEnds.{finish_falls as falls_law}
+use Rattle.world_model.proofs.finish.FinishEnds.{finish_falls as falls_law}
 use Rattle.world_model.proofs.laws.finish_falls.Goals as goal
 
 pub returns : goal.returns

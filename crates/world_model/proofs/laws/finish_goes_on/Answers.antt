@@ -1,4 +1,4 @@
-use Rattle.world_model.proofs.FinishUp.{finish_begins, finish_goes_on as goes_on_law}
+use Rattle.world_model.proofs.finish.FinishUp.{finish_begins, finish_goes_on as goes_on_law}
 use Rattle.world_model.proofs.laws.finish_goes_on.Goals as goal
 
 pub returns : goal.returns

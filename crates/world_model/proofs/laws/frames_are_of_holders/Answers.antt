@@ -1,4 +1,4 @@
-use Rattle.world_model.proofs.OwnedKept.{owned_law}
+use Rattle.world_model.proofs.script.OwnedKept.{owned_law}
 use Rattle.world_model.proofs.laws.frames_are_of_holders.Goals as goal
 
 pub returns : goal.returns

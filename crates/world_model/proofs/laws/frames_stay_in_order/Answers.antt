@@ -1,4 +1,4 @@
-use Rattle.world_model.proofs.KeptWire.{sent_law, replies_law, order_law, left_law}
+use Rattle.world_model.proofs.wire.KeptWire.{sent_law, replies_law, order_law, left_law}
 use Rattle.world_model.proofs.laws.frames_stay_in_order.Goals as goal
 
 pub returns-clause-sent : goal.returns-clause-sent

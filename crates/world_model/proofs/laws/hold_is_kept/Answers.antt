@@ -1,4 +1,4 @@
-use Rattle.world_model.proofs.WholeHold.{hold_begins, hold_is_kept}
+use Rattle.world_model.proofs.hold.WholeHold.{hold_begins, hold_is_kept}
 use Rattle.world_model.proofs.laws.hold_is_kept.Goals as goal
 
 pub returns-clause-start : goal.returns-clause-start

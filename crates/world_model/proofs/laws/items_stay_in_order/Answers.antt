@@ -1,5 +1,5 @@
-use Rattle.world_model.proofs.KeptTests.{items_law}
-use Rattle.world_model.proofs.KeptSessions.{one_item_law}
+use Rattle.world_model.proofs.basic.KeptTests.{items_law}
+use Rattle.world_model.proofs.basic.KeptSessions.{one_item_law}
 use Rattle.world_model.proofs.laws.items_stay_in_order.Goals as goal
 
 pub returns-clause-rise : goal.returns-clause-rise

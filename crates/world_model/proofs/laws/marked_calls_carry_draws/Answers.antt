@@ -1,4 +1,4 @@
-use Rattle.world_model.proofs.KeptDraws.{draws_law}
+use Rattle.world_model.proofs.script.KeptDraws.{draws_law}
 use Rattle.world_model.proofs.laws.marked_calls_carry_draws.Goals as goal
 
 pub returns : goal.returns

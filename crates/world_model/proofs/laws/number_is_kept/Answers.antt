@@ -1,4 +1,4 @@
-use Rattle.world_model.proofs.WholeNumber.{number_begins, number_is_kept}
+use Rattle.world_model.proofs.number.WholeNumber.{number_begins, number_is_kept}
 use Rattle.world_model.proofs.laws.number_is_kept.Goals as goal
 
 pub returns : goal.returns

@@ -1,4 +1,4 @@
-use Rattle.world_model.proofs.KeptWire.{out_law, fresh_law}
+use Rattle.world_model.proofs.wire.KeptWire.{out_law, fresh_law}
 use Rattle.world_model.proofs.laws.one_frame_is_out.Goals as goal
 
 pub returns-clause-out : goal.returns-clause-out

@@ -1,4 +1,4 @@
-use Rattle.world_model.proofs.WholeOrderly.{orderly_is_kept as orderly_law}
+use Rattle.world_model.proofs.events.WholeOrderly.{orderly_is_kept as orderly_law}
 use Rattle.world_model.proofs.laws.orderly_is_kept.Goals as goal
 
 pub returns : goal.returns

@@ -1,4 +1,4 @@
-use Rattle.world_model.proofs.KeptHold.{held_law}
+use Rattle.world_model.proofs.hold.KeptHold.{held_law}
 use Rattle.world_model.proofs.laws.requests_await_replies.Goals as goal
 
 pub returns : goal.returns

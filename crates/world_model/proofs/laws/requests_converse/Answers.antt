@@ -1,4 +1,4 @@
-use Rattle.world_model.proofs.KeptTalks.{talks_begin, talks_are_kept, conversations_law}
+use Rattle.world_model.proofs.script.KeptTalks.{talks_begin, talks_are_kept, conversations_law}
 use Rattle.world_model.proofs.laws.requests_converse.Goals as goal
 
 pub returns-clause-start : goal.returns-clause-start

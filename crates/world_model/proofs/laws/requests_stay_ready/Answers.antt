@@ -1,4 +1,4 @@
-use Rattle.world_model.proofs.KeptReady.{ready_law}
+use Rattle.world_model.proofs.script.KeptReady.{ready_law}
 use Rattle.world_model.proofs.laws.requests_stay_ready.Goals as goal
 
 pub returns : goal.returns

@@ -1,4 +1,4 @@
-use Rattle.world_model.proofs.RunsFollowed.{runs_orderly}
+use Rattle.world_model.proofs.events.RunsFollowed.{runs_orderly}
 use Rattle.world_model.proofs.laws.runs_are_orderly.Goals as goal
 
 pub returns : goal.returns

@@ -1,4 +1,4 @@
-use Rattle.world_model.proofs.KeptNumber.{near_law}
+use Rattle.world_model.proofs.number.KeptNumber.{near_law}
 use Rattle.world_model.proofs.laws.served_frames_are_near.Goals as goal
 
 pub returns : goal.returns

@@ -1,4 +1,4 @@
-use Rattle.world_model.proofs.KeptAhead.{near_law, counted_law, ahead_law}
+use Rattle.world_model.proofs.number.KeptAhead.{near_law, counted_law, ahead_law}
 use Rattle.world_model.proofs.laws.sessions_are_near.Goals as goal
 
 pub returns : goal.returns

@@ -1,4 +1,4 @@
-use Rattle.world_model.proofs.KeptTests.{commits_law, life_law, now_law}
+use Rattle.world_model.proofs.basic.KeptTests.{commits_law, life_law, now_law}
 use Rattle.world_model.proofs.laws.sessions_live_rightly.Goals as goal
 
 pub returns-clause-commits : goal.returns-clause-commits

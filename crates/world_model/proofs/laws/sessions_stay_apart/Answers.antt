@@ -1,4 +1,4 @@
-use Rattle.world_model.proofs.KeptSessions.{apart_law, made_law, counted_law, named_law}
+use Rattle.world_model.proofs.basic.KeptSessions.{apart_law, made_law, counted_law, named_law}
 use Rattle.world_model.proofs.laws.sessions_stay_apart.Goals as goal
 
 pub returns-clause-apart : goal.returns-clause-apart

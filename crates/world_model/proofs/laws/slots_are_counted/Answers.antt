@@ -1,4 +1,4 @@
-use Rattle.world_model.proofs.KeptHold.{lent_law}
+use Rattle.world_model.proofs.hold.KeptHold.{lent_law}
 use Rattle.world_model.proofs.laws.slots_are_counted.Goals as goal
 
 pub returns : goal.returns

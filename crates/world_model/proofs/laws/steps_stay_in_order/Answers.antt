@@ -1,4 +1,4 @@
-use Rattle.world_model.proofs.KeptSteps.{steps_law, ticks_law}
+use Rattle.world_model.proofs.basic.KeptSteps.{steps_law, ticks_law}
 use Rattle.world_model.proofs.laws.steps_stay_in_order.Goals as goal
 
 pub returns-clause-rise : goal.returns-clause-rise

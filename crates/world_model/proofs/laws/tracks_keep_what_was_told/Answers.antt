@@ -1,4 +1,4 @@
-use Rattle.world_model.proofs.KeptTracks.{tracks_law}
+use Rattle.world_model.proofs.script.KeptTracks.{tracks_law}
 use Rattle.world_model.proofs.laws.tracks_keep_what_was_told.Goals as goal
 
 pub returns : goal.returns

@@ -1,4 +1,4 @@
-use Rattle.world_model.proofs.KeptWire.{wire_begins, wire_is_kept}
+use Rattle.world_model.proofs.wire.KeptWire.{wire_begins, wire_is_kept}
 use Rattle.world_model.proofs.laws.wire_is_kept.Goals as goal
 
 pub returns-clause-start : goal.returns-clause-start

@@ -1,0 +1,16 @@
+pub mod DrawnFor
+pub mod FrameDraws
+pub mod FreshLists
+pub mod FreshReports
+pub mod FreshRuns
+pub mod GivenFirsts
+pub mod HeldAtStop
+pub mod HistoryDraws
+pub mod OutsideEntries
+pub mod OutsideGiven
+pub mod OutsidePlain
+pub mod OwnValues
+pub mod OwnedValues
+pub mod SessionEntries
+pub mod StoppedDraws
+pub mod StoredCalls

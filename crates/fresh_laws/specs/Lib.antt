@@ -1,0 +1,2 @@
+pub mod RunsFresh
+pub mod ValueLaws

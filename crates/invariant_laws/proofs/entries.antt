@@ -1,0 +1,26 @@
+-- Entries, and the sendings that they are of, over transactions, requests and copies.
+pub mod CopiesEntries
+pub mod CopiesFew
+pub mod CopiesOf
+pub mod EntriesFew
+pub mod EntriesMade
+pub mod EntriesStay
+pub mod EntryLinks
+pub mod EntrySendings
+pub mod KeptCompleted
+pub mod KeptCopies
+pub mod KeptEnded
+pub mod KeptNoted
+pub mod KeptOver
+pub mod KeptSent
+pub mod KeptTried
+pub mod NotedLists
+pub mod NotedParts
+pub mod NotedSteps
+pub mod OnceLists
+pub mod OverEnds
+pub mod OverLists
+pub mod TransactionParts
+pub mod TriedApart
+pub mod TriedSendings
+pub mod WholeInvariant

@@ -1,0 +1,19 @@
+-- Calls in rows, and what requests were shown.
+pub mod CallFrames
+pub mod CallLeft
+pub mod EndedCalls
+pub mod GivenMore
+pub mod KeptOwn
+pub mod KeptRows
+pub mod KeptShown
+pub mod KeptStands
+pub mod PurgedCalls
+pub mod RowCourses
+pub mod RowHeld
+pub mod RowKept
+pub mod RowLast
+pub mod RowMine
+pub mod RowNear
+pub mod RowSteps
+pub mod Rows
+pub mod ShownNow

@@ -1,0 +1,25 @@
+-- What became of the sendings of requests.
+pub mod ApartSteps
+pub mod CommittedSendings
+pub mod CompletedSendings
+pub mod FateLinks
+pub mod FateSteps
+pub mod FateTaken
+pub mod FateTops
+pub mod Fates
+pub mod KeptApart
+pub mod KeptFates
+pub mod KeptKnown
+pub mod KeptOnLinks
+pub mod KeptOuts
+pub mod KeptPlaced
+pub mod KeptSettled
+pub mod KeptShownStored
+pub mod KeptStored
+pub mod KnownLists
+pub mod KnownSteps
+pub mod LinkFates
+pub mod SendingsMade
+pub mod SendingsPlaced
+pub mod SendingsTaken
+pub mod SettledLists

@@ -1,0 +1,26 @@
+-- What a client says and does at an input, and with which calls requests begin.
+pub mod BeginsStep
+pub mod CallsNear
+pub mod DecidedStep
+pub mod InPlace
+pub mod KeptDecided
+pub mod KeptFirsts
+pub mod KeptFollowed
+pub mod KeptSettings
+pub mod KeptUnserved
+pub mod LinksStay
+pub mod Placing
+pub mod SpokenLinks
+pub mod TalkAsked
+pub mod TalkAsks
+pub mod TalkCompletes
+pub mod TalkEnds
+pub mod TalkFails
+pub mod TalkOpens
+pub mod TalkPending
+pub mod TalkRows
+pub mod TalkRuns
+pub mod TalkSets
+pub mod TalkShows
+pub mod TalkTop
+pub mod TalkWants

@@ -1,0 +1,16 @@
+pub mod Begins
+pub mod EntryParts
+pub mod FirstBegins
+pub mod FirstCalls
+pub mod Invariant
+pub mod KeptLaws
+pub mod Lost
+pub mod NearCalls
+pub mod Once
+pub mod Replayed
+pub mod Same
+pub mod SameLaws
+pub mod SessionHistory
+pub mod Shown
+pub mod UnservedBegins
+pub mod Verified

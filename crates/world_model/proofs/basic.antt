@@ -1,0 +1,25 @@
+-- Ticks, events, connections and sessions.
+pub mod BasicLinks
+pub mod BasicSessions
+pub mod BasicSteps
+pub mod BasicTicks
+pub mod Census
+pub mod Ends
+pub mod EventsKept
+pub mod KeptBasic
+pub mod KeptSessions
+pub mod KeptSteps
+pub mod KeptTests
+pub mod LinkEnds
+pub mod LinkItems
+pub mod LinkLives
+pub mod LinkNamed
+pub mod LinkNow
+pub mod NamesKept
+pub mod Servers
+pub mod SessionViews
+pub mod SessionsGrow
+pub mod SessionsKept
+pub mod StepsRise
+pub mod TalkTicks
+pub mod Views

@@ -1,0 +1,26 @@
+-- What an event does, and what of a run is kept as a whole.
+pub mod AllClients
+pub mod AllLinks
+pub mod AllLists
+pub mod Beside
+pub mod ClientSteps
+pub mod ClientsKept
+pub mod ClientsLong
+pub mod Courses
+pub mod CoursesGrow
+pub mod CoursesStep
+pub mod Happened
+pub mod Items
+pub mod Kept
+pub mod Lists
+pub mod Lookups
+pub mod Moves
+pub mod Others
+pub mod Resting
+pub mod RunStarts
+pub mod RunsFollowed
+pub mod StepFacts
+pub mod Tests
+pub mod Turning
+pub mod WantedHorizons
+pub mod WholeOrderly

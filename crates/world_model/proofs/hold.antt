@@ -1,0 +1,27 @@
+-- Who holds which connection and slot, and what is out on it.
+pub mod Awaiting
+pub mod HadAll
+pub mod HadEvents
+pub mod HadKept
+pub mod HadSaid
+pub mod HadTaken
+pub mod Held
+pub mod HeldAgain
+pub mod HeldAll
+pub mod HeldEvents
+pub mod HeldKept
+pub mod HeldSaid
+pub mod IdleAll
+pub mod IdleEvents
+pub mod IdleKept
+pub mod Inserted
+pub mod KeptHold
+pub mod KeptQueue
+pub mod PoolOpened
+pub mod QueueAll
+pub mod QueueCourses
+pub mod QueueKept
+pub mod QueueLists
+pub mod SlotsAll
+pub mod SlotsLent
+pub mod WholeHold

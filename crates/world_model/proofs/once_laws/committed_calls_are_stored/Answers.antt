@@ -1,5 +1,0 @@
-use Rattle.world_model.proofs.KeptShownStored.{shown_stored_law}
-use Rattle.world_model.proofs.once_laws.committed_calls_are_stored.Goals as goal
-
-pub returns : goal.returns
-returns c = shown_stored_law c.runs_number.ensures.numbers

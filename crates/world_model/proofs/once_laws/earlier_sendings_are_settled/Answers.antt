@@ -1,5 +1,0 @@
-use Rattle.world_model.proofs.KeptSettled.{settled_law}
-use Rattle.world_model.proofs.once_laws.earlier_sendings_are_settled.Goals as goal
-
-pub returns : goal.returns
-returns c = settled_law c.keeps_journal.ensures.keeps c.runs_number.ensures.numbers

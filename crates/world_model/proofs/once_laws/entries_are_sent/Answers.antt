@@ -1,5 +1,0 @@
-use Rattle.world_model.proofs.KeptSent.{sent_law}
-use Rattle.world_model.proofs.once_laws.entries_are_sent.Goals as goal
-
-pub returns : goal.returns
-returns c = sent_law c.runs_number.ensures.numbers

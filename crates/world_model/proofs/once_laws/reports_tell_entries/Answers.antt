@@ -1,5 +1,0 @@
-use Rattle.world_model.proofs.KeptOver.{over_law}
-use Rattle.world_model.proofs.once_laws.reports_tell_entries.Goals as goal
-
-pub returns : goal.returns
-returns c = over_law c.keeps_journal.ensures.keeps c.runs_number.ensures.numbers

@@ -1,5 +1,0 @@
-use Rattle.world_model.proofs.CommitsFit.{runs_commit, whole_runs_commit}
-use Rattle.world_model.proofs.same_laws.commits_are_answered.Goals as goal
-
-pub returns : goal.returns
-returns c = record { reached = runs_commit c.runs_are_orderly.ensures c.runs_serve.ensures; run = whole_runs_commit c.runs_are_orderly.ensures c.runs_serve.ensures }

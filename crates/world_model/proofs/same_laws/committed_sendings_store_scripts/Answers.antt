@@ -1,5 +1,0 @@
-use Rattle.world_model.proofs.StoredScripts.{runs_store, whole_runs_store}
-use Rattle.world_model.proofs.same_laws.committed_sendings_store_scripts.Goals as goal
-
-pub returns : goal.returns
-returns c = record { reached = runs_store c.runs_keep_invariant.ensures.reached; run = whole_runs_store c.runs_keep_invariant.ensures.reached }

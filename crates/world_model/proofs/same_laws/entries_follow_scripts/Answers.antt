@@ -1,8 +1,0 @@
-use Rattle.world_model.proofs.EntryScripts.{runs_follow, whole_runs_follow}
-use Rattle.world_model.proofs.same_laws.entries_follow_scripts.Goals as goal
-
-pub returns : goal.returns
-returns c = record {
-  reached = runs_follow c.runs_keep_invariant.ensures.reached c.committed_sendings_store_scripts.ensures.reached;
-  run = whole_runs_follow c.runs_keep_invariant.ensures.run c.committed_sendings_store_scripts.ensures.run;
-}

@@ -1,5 +1,0 @@
-use Rattle.world_model.proofs.LoneStored.{runs_store_alone, whole_runs_store_alone}
-use Rattle.world_model.proofs.same_laws.lone_commits_are_stored.Goals as goal
-
-pub returns : goal.returns
-returns c = record { reached = runs_store_alone c.runs_serial.ensures; run = whole_runs_store_alone c.runs_serial.ensures }

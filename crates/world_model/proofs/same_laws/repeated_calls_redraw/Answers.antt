@@ -1,7 +1,0 @@
-use Rattle.world_model.proofs.Redrawn.{runs_redraw, whole_runs_redraw}
-use Rattle.world_model.proofs.same_laws.repeated_calls_redraw.Goals as goal
-
-pub returns : goal.returns
-returns c =
-    let redraw = runs_redraw c.runs_keep_invariant.ensures.reached c.runs_serve.ensures c.runs_legal.ensures in
-    record { reached = redraw; run = whole_runs_redraw redraw }

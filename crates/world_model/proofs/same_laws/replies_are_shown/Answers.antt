@@ -1,5 +1,0 @@
-use Rattle.world_model.proofs.KeptShowing.{runs_show, whole_runs_show}
-use Rattle.world_model.proofs.same_laws.replies_are_shown.Goals as goal
-
-pub returns : goal.returns
-returns c = record { reached = runs_show c.runs_keep_invariant.ensures.reached; run = whole_runs_show c.runs_keep_invariant.ensures.reached }

@@ -1,0 +1,26 @@
+-- The conversations of requests, and what they keep and send.
+pub mod ClientsReady
+pub mod DrawsKept
+pub mod FramesKept
+pub mod Keeping
+pub mod KeptDraws
+pub mod KeptReady
+pub mod KeptSendings
+pub mod KeptTalks
+pub mod KeptTracks
+pub mod OwnedKept
+pub mod Recalling
+pub mod ScriptsKept
+pub mod SendingSteps
+pub mod Sendings
+pub mod Strangers
+pub mod TalkCounts
+pub mod TalkFrames
+pub mod TalkReady
+pub mod TalkRecorded
+pub mod TalkRests
+pub mod TalkTests
+pub mod TalkTold
+pub mod TalkTracks
+pub mod Talking
+pub mod TalksKept

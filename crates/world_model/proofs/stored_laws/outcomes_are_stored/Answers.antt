@@ -1,5 +1,0 @@
-use Rattle.world_model.proofs.OutcomesStored.{outcomes_stored_law}
-use Rattle.world_model.proofs.stored_laws.outcomes_are_stored.Goals as goal
-
-pub returns : goal.returns
-returns c = outcomes_stored_law c.orderly_is_kept.ensures c.blocks_stay_apart.ensures c.answers_are_right.ensures

@@ -1,9 +1,0 @@
-use Rattle.world_model.proofs.FreshRuns.{stored_fresh}
-use Rattle.world_model.proofs.OwnedValues.{at_end}
-use Rattle.world_model.proofs.value_laws.stored_values_are_fresh.Goals as goal
-
-pub returns-clause-so_far : goal.returns-clause-so_far
-returns-clause-so_far c = stored_fresh c.runs_are_orderly.ensures c.runs_serve.ensures c.runs_legal.ensures c.runs_fresh_new.ensures
-
-pub returns-clause-whole : goal.returns-clause-whole
-returns-clause-whole c = at_end _ (stored_fresh c.runs_are_orderly.ensures c.runs_serve.ensures c.runs_legal.ensures c.runs_fresh_new.ensures)
