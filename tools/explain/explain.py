@@ -35,7 +35,7 @@ class Row:
 
     def text(self):
         pairs = [f"{head}: {cell}" for head, cell in zip(self.heads, self.cells) if cell]
-        return "\n".join(pairs)
+        return "\n".join(pairs).replace("**", "")
 
 
 def cells_of(line):
@@ -96,7 +96,8 @@ def known(rows):
 def line_of(code, rows):
     """The program's code in one line."""
     for row in rows:
-        if row.page == CODES and row.heads[0] == "Code" and row.words() == [code]:
+        is_code = row.heads[0] == "Code" or row.heading.startswith("Codes")
+        if row.page == CODES and is_code and row.words() == [code]:
             where = f"; {WHERE[code]}" if code in WHERE else ""
             return f"continuity: {code}: {row.cells[1]}{where}; see docs/{row.page}"
     return None

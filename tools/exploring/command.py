@@ -52,10 +52,14 @@ class Runner:
             raise Stop(2, f"the program ended with {ran.returncode}: {ran.stderr.decode(errors='replace').strip()}{kept}")
         return json.loads(ran.stdout)
 
-    def run(self, document, what):
-        """Runs one document, of which `what` is said in the table."""
+    def run(self, document, what=None, place=None):
+        """Runs one document. The table says of it `what`, or which outage stands at a place."""
         report = self.report_of(document)
         self.runs += 1
+        if what is None:
+            outage, note = document["schedule"][place], report["notes"][place]
+            # (the note of a cut has the numbers of bytes that there were)
+            what = f"{plain(note if outage[0] == 'cut' else outage)} as event {place + 1}"
         for fault in faults_of(document, report):
             raise Stop(1, f"{what}: {fault}{self.kept(document, report, 'at_fault')}")
         for line in lines_of(document, report):
@@ -89,15 +93,14 @@ class Runner:
         going, report = iter(steps), None
         while True:
             try:
-                place, document, outage = going.send(report)
+                place, document = going.send(report)
             except StopIteration:
                 self.progress(steps.places, steps.places, is_last=True)
                 return True
             if most is not None and self.runs >= most:
                 self.progress(place, steps.places, is_last=True)
                 return False
-            what = f"schedule {place + 1}" if outage is None else f"{plain(outage)} as event {place + 1}"
-            report = self.run(document, what)
+            report = self.run(document, steps.name(place), place)
             self.progress(place + 1, steps.places)
 
     def table(self):

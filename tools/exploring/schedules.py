@@ -54,6 +54,10 @@ class Each:
             yield from self.cuts(place)
             yield from self.crashes(place)
 
+    def name(self, place):
+        """Nothing: what stands at the place tells enough."""
+        return None
+
     def changed(self, place, outage, in_place_of=0):
         """The document with an outage before the event of this place, or in the place of it, and its own events after that."""
         return with_events(self.document, [*self.events[:place], outage, *self.own[place + in_place_of:]])
@@ -61,29 +65,25 @@ class Each:
     def cuts(self, place):
         """Each open connection is cut. The first run tells how many bytes are on their way."""
         for connection in opened(self.report["notes"][:place]):
-            document = self.changed(place, ["cut", connection, ALL, ALL])
-            report = yield place, document, document["schedule"][place]
+            report = yield place, self.changed(place, ["cut", connection, ALL, ALL])
             note = report["notes"][place]
             if note[2] == "none":
                 continue
             for up in numbers(note[2]):
                 for down in numbers(note[3]):
                     if [up, down] != note[2:]:
-                        outage = ["cut", connection, up, down]
-                        yield place, self.changed(place, outage), outage
+                        yield place, self.changed(place, ["cut", connection, up, down])
 
     def crashes(self, place):
         """The server crashes between two events, or in the event of this place after each of its device calls."""
-        outage = ["crash", 0, 0, 0]
-        yield place, self.changed(place, outage), outage
+        yield place, self.changed(place, ["crash", 0, 0, 0])
         if place == len(self.events) or self.events[place][0] != "serve":
             return
         is_stopped, after = True, 0
         while is_stopped:
             is_stopped = False
             for pick in PICKS:
-                outage = ["crash", self.events[place][1], after, pick]
-                report = yield place, self.changed(place, outage, 1), outage
+                report = yield place, self.changed(place, ["crash", self.events[place][1], after, pick], 1)
                 is_stopped = is_stopped or any(item[0] == "crashed" and item[1] == place + 1 for item in report["served"])
             after += 1
 
@@ -101,7 +101,10 @@ class Random:
     def __iter__(self):
         for place in range(self.places):
             events = [self.event() for _ in range(self.random.randrange(1, self.length + 1))]
-            yield place, with_events(self.document, events), None
+            yield place, with_events(self.document, events)
+
+    def name(self, place):
+        return f"schedule {place + 1}"
 
     def event(self):
         chosen, below = self.random.choice, self.random.randrange

@@ -165,9 +165,9 @@ show_progress() {
 # Where the work is, of the variables of show_progress. What is left is guessed from the lines that are left: at first from
 # what was measured, and then more and more from how fast this run is.
 show_line() {
-    local text share=$((all_lines / 4 + 1)) expected left
+    local text share=$((all_lines / 2 + 1)) expected left
     expected=$((60 * measured_minutes * measured_processors / jobs))
-    left=$(((all_lines - done_lines) * (SECONDS + expected / 4) / (proved_lines + share)))
+    left=$(((all_lines - done_lines) * (SECONDS + expected / 2) / (proved_lines + share)))
     text="crate $at of $crates${last:+, $last}; $((SECONDS / 60)) minutes so far, about $(((left + 59) / 60)) more"
     if [ -t 2 ]; then
         printf '\rcontinuity: %s\033[K' "$text" >&2

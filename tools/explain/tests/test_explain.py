@@ -32,7 +32,7 @@ REPORT = """# The report
 
 | `failed` | Says | Then |
 |---|---|---|
-| `disabled` | one of `["off"]`, `["full",limit]` | ask |
+| `disabled` | **never**, one of `["off"]`, `["full",limit]` | ask |
 | `["mismatch",call,seen,now]` | another answer | pay by hand |
 
 | Reason | Says |
@@ -76,7 +76,7 @@ class OfSmallPages(unittest.TestCase):
                 self.assertEqual(told(self.docs, word)[0], 0)
 
     def test_a_word_in_another_cell_is_found_where_no_row_begins_with_it(self):
-        self.assertIn("disabled", told(self.docs, "full")[1])
+        self.assertIn("Says: never, one of", told(self.docs, "full")[1])
         self.assertNotIn("disabled", told(self.docs, "statelost")[1])
 
     def test_a_heading_gives_its_text(self):
