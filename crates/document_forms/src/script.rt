@@ -1,7 +1,9 @@
 //! Readers of clients and their requests.
-ghost use Rattle.std.specs.Prelude.{◌≡◌, IfOk, IfErr};
+ghost use Rattle.std.specs.Prelude.{◌≡◌, IfOk, IfErr, codes};
 ghost use Rattle.serde_json.specs.View.{view};
-ghost use Rattle.json_form.specs.Faults.{Gives};
+ghost use Rattle.json_form.specs.Faults.{Gives, within};
+ghost use Rattle.json_form.specs.Arrays.{array_of, each_of};
+ghost use Rattle.call_forms.specs.Calls.{call_of};
 ghost use Rattle.document_forms.specs.Scripts.{setting_of, by_name as by_name_def, settings_of, is_inside as is_inside_def, is_one_transaction as is_one_transaction_def, if_submitted_rightly, request_of, client_of};
 
 use crate::number::whole;
@@ -11,7 +13,7 @@ use json_form::{
     DocCode, DocFault, KeyedReader, Reader, Taken, array_at, distinct_list, fixed, list_at,
     object_with,
 };
-use outage_schedule::{Client, Request};
+use outage_schedule::{Calls, Client, Request};
 use serde_json::Value as Json;
 use std::alloc::{AllocError, Global};
 use svc_values::{Call, Listed, Name, NoMemory, Settings, Value};
@@ -102,6 +104,15 @@ fn submitted_rightly(alloc: Global, request: Request) -> Result<Request, DocFaul
     Ok(request)
 }
 
+/// The calls of a request, which stand in its member `calls`.
+fn calls_from(alloc: Global, calls: Json) -> Result<Calls, DocFault>
+    ensures { Gives result (within (codes "calls") (array_of 1 1024 (each_of call_of) (view calls))) }
+{
+    let limit = Count::RequestCalls.limit();
+    let calls = array_at(alloc, "calls", calls, limit.least, limit.most, &CallReader)?;
+    Ok(Listed::from_vec(calls))
+}
+
 /// Reads a request.
 struct RequestReader;
 
@@ -113,10 +124,8 @@ impl Reader<Request> for RequestReader {
         let mut members = object_with(alloc, value, &["settings", "calls", "again"])?;
         let calls = members.required(alloc, "calls")?;
         let settings = members.optional(alloc, "settings", &SettingsReader, Settings::new(alloc))?;
-        let limit = Count::RequestCalls.limit();
-        let calls = array_at(alloc, "calls", calls, limit.least, limit.most, &CallReader)?;
+        let calls = calls_from(alloc, calls)?;
         let again = members.optional(alloc, "again", &whole(Number::Again), 0)?;
-        let calls = Listed::from_vec(calls);
         submitted_rightly(
             alloc,
             Request {
