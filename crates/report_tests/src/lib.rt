@@ -1,19 +1,9 @@
-//! Tests of a report's text and value: each form with a text of its own, and whole reports.
+//! Tests of a report's text and value: the forms that no report of `examples/` has.
 #![tactic(auto)]
 
 #[cfg(test)]
-mod answers;
-#[cfg(test)]
-mod calls;
-#[cfg(test)]
 mod makers;
 #[cfg(test)]
-mod notes;
-#[cfg(test)]
-mod requests;
-#[cfg(test)]
-mod served;
+mod rare;
 #[cfg(test)]
 mod values;
-#[cfg(test)]
-mod wholes;

@@ -1,81 +1,92 @@
-//! Reports as JSON values.
+//! The text of a report, and its JSON value.
 
-use crate::makers::{empty, limited, listed, name, octets, reads, text};
-use outage_schedule::{Note, Report, ReportTable};
-use report_text::report_of;
+use crate::makers::empty;
+use crate::rare::{RARE, rare};
+use outage_schedule::Report;
+use report_text::{report_bytes, report_of};
 use serde_json::Value as Json;
 use std::alloc::Global;
 use std::process::Abort;
-use svc_values::{Row, Value};
 
-/// A row with a value of each kind.
-fn row(rt: &impl Abort, alloc: Global, number: i64, word: &str, bytes: &[u8]) -> Row {
-    let word = Value::Text(text(rt, alloc, word));
-    let bytes = octets(rt, alloc, bytes);
-    limited(rt, alloc, [Value::Int(number), word, bytes])
+fn bytes_of(rt: &impl Abort, alloc: Global, report: &Report) -> Vec<u8> {
+    report_bytes(alloc, report).expect(rt, "memory")
 }
 
-/// A tick, the horizon 3, and the table t with two rows.
-fn ticked(rt: &impl Abort, alloc: Global) -> Report {
-    let least = row(rt, alloc, i64::MIN, "", &[]);
-    let quoted = row(rt, alloc, 7, "a \"b\"", &[0, 171]);
-    let table = ReportTable {
-        name: name(rt, alloc, "t"),
-        rows: listed(rt, alloc, [least, quoted]),
-    };
-    let mut report = empty(alloc);
-    report.forgotten = 3;
-    report.notes = listed(rt, alloc, [Note::Tick]);
-    report.tables = listed(rt, alloc, [table]);
-    report
+fn value_of(rt: &impl Abort, alloc: Global, report: &Report) -> Json {
+    report_of(alloc, report).expect(rt, "memory")
+}
+
+/// Checks that the bytes are these texts, one behind the other.
+fn are_parts(rt: &impl Abort, bytes: &[u8], parts: &[&str]) {
+    let mut rest = bytes;
+    for part in parts {
+        let (front, back) = rest
+            .split_at_checked(part.len())
+            .expect(rt, "a longer text");
+        assert!(rt; front == part.as_bytes(), "in {part}");
+        rest = back;
+    }
+    assert!(rt; rest.is_empty());
+}
+
+/// Checks that these are the bytes of the value's text.
+fn is_text_of(rt: &impl Abort, alloc: Global, bytes: &[u8], value: &Json) {
+    let text = value.to_string(alloc).expect(rt, "memory");
+    assert!(rt; text.as_bytes() == bytes);
+}
+
+#[test]
+fn the_text_of_a_report(rt: HostRuntime) {
+    let report = rare(&rt, rt.alloc());
+    let bytes = bytes_of(&rt, rt.alloc(), &report);
+    are_parts(&rt, &bytes, &RARE);
+    let value = value_of(&rt, rt.alloc(), &report);
+    is_text_of(&rt, rt.alloc(), &bytes, &value);
+}
+
+fn has(value: &Json, path: &str) -> bool {
+    value.pointer(path).is_some()
 }
 
 fn number_at(value: &Json, path: &str) -> Option<i64> {
     value.pointer(path).and_then(Json::as_i64)
 }
 
-fn text_at<'v>(value: &'v Json, path: &str) -> Option<&'v str> {
-    value.pointer(path).and_then(Json::as_str)
+fn is_text_at(value: &Json, path: &str, text: &str) -> bool {
+    value.pointer(path).and_then(Json::as_str) == Some(text)
 }
 
 #[test]
-fn rows_of_each_kind_of_value(rt: HostRuntime) {
-    let alloc = rt.alloc();
-    let value = report_of(alloc, &ticked(&rt, alloc)).expect(&rt, "memory");
-    assert!(rt; text_at(&value, "/tables/0/0") == Some("t"));
-    assert!(rt; number_at(&value, "/tables/0/1/0/0") == Some(i64::MIN));
-    assert!(rt; text_at(&value, "/tables/0/1/0/1") == Some(""));
-    assert!(rt; text_at(&value, "/tables/0/1/0/2/hex") == Some(""));
-    assert!(rt; number_at(&value, "/tables/0/1/1/0") == Some(7));
-    assert!(rt; text_at(&value, "/tables/0/1/1/1") == Some("a \"b\""));
-    assert!(rt; text_at(&value, "/tables/0/1/1/2/hex") == Some("00ab"));
-    assert!(rt; value.pointer("/tables/0/1/2").is_none());
-    assert!(rt; value.pointer("/tables/1").is_none());
-}
-
-#[test]
-fn members_of_a_report(rt: HostRuntime) {
-    let alloc = rt.alloc();
-    let value = report_of(alloc, &ticked(&rt, alloc)).expect(&rt, "memory");
-    assert!(rt; number_at(&value, "/forgotten") == Some(3));
-    assert!(rt; text_at(&value, "/notes/0/0") == Some("tick"));
-    assert!(rt; value.get("served").is_some());
-    assert!(rt; value.get("image").is_none());
-}
-
-#[test]
-fn the_text_of_the_same_report(rt: HostRuntime) {
-    let alloc = rt.alloc();
-    let text =
-        r#"{"alerts":[],"blocked":[],"clients":[],"entries":[],"forgotten":3,"notes":[["tick"]],"served":[],"tables":[["t",[[-9223372036854775808,"",{"hex":""}],[7,"a \"b\"",{"hex":"00ab"}]]]]}"#;
-    reads(&rt, alloc, &ticked(&rt, alloc), &[text]);
+fn the_value_of_the_same_report(rt: HostRuntime) {
+    let value = value_of(&rt, rt.alloc(), &rare(&rt, rt.alloc()));
+    for (path, number) in [
+        ("/forgotten", 3),
+        ("/tables/0/1/0/0", i64::MIN),
+        ("/tables/0/1/1/0", 7),
+    ] {
+        assert!(rt; number_at(&value, path) == Some(number), "{path}");
+    }
+    for (path, text) in [
+        ("/notes/0/2", "idle"),
+        ("/tables/0/0", "t"),
+        ("/tables/0/1/0/1", ""),
+        ("/tables/0/1/0/2/hex", ""),
+        ("/tables/0/1/1/1", "a \"b\""),
+        ("/tables/0/1/1/2/hex", "00ab"),
+    ] {
+        assert!(rt; is_text_at(&value, path, text), "{path}");
+    }
 }
 
 #[test]
 fn members_that_are_not_there(rt: HostRuntime) {
-    let alloc = rt.alloc();
-    let value = report_of(alloc, &empty(alloc)).expect(&rt, "memory");
-    assert!(rt; value.get("notes").is_some());
-    assert!(rt; value.get("image").is_none());
-    assert!(rt; value.get("forgotten").is_none());
+    let some = value_of(&rt, rt.alloc(), &rare(&rt, rt.alloc()));
+    let none = value_of(&rt, rt.alloc(), &empty(rt.alloc()));
+    for path in ["/image", "/forgotten"] {
+        assert!(rt; has(&some, path) && !has(&none, path), "{path}");
+    }
+    for path in ["/tables/0/1/2", "/tables/1"] {
+        assert!(rt; !has(&some, path), "{path}");
+    }
+    assert!(rt; has(&none, "/notes"));
 }
