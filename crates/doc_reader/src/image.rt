@@ -49,7 +49,9 @@ fn is_small_reservation(reservation: &Reservation) -> bool
 fn are_small_reservations(reservations: &[Reservation]) -> bool
     ensures { result ≡ list_all is_small_reservation_def reservations.now }
 {
-    reservations.iter().all(|reservation| is_small_reservation(reservation))
+    reservations
+        .iter()
+        .all(|reservation| is_small_reservation(reservation))
 }
 
 /// Whether the numbers of the journal leave room for a run.
