@@ -5,6 +5,7 @@ mod Images
 mod Lasting
 mod Moves
 mod ReadOff
+mod Responses
 mod Schedule
 mod StartBase
 mod StartRoom
