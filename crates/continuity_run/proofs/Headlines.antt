@@ -230,6 +230,7 @@ module _ (document : Document) (ran : Ran Within) (before : Before) (report : Re
     stored_so = stored_so laws calls;
     caused_so = laws.caused document report has.seen has.traced gained.server calls tries reported;
     whole_so = laws.whole document report has.seen has.traced gained.server calls reported;
+    calm_so = laws.calm document report has.seen has.traced gained.server calls reported;
     bytes = bytes_in ran.service;
     journal = off.journal;
     holds = off.reads;

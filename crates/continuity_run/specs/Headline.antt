@@ -1,5 +1,6 @@
 -- What a report says of its document.
 use Rattle.std.specs.Prelude.{◌≡◌, ◌++◌, ℕ, Bool, IsTrue, List, Option, Some, None, Ok, if◌then◌else◌}
+use Rattle.calm_laws.specs.Calm.{is_calm, all_answered_or_waited}
 use Rattle.commit_log.specs.declared.journal.Journal.{Journal}
 use Rattle.commit_log.specs.Journals.{journal_of}
 use Rattle.outage_schedule.specs.declared.document.Document.{Document}
@@ -66,6 +67,9 @@ pub record Headline (document : Document) (report : Report) : Type 0 where
   -- each request was shown its script's calls in order, by replies of sessions of its own or by outcomes of its identifiers, and what a session
   -- served since a Begin is what that request sent
   pub whole_so : IsTrue (whole document report)
+  -- where the schedule has no cut, crash, failover, upcrash and ask, and the image blocks nothing that may come, each request was shown all its
+  -- answers, or failed with PoolWait
+  pub calm_so : IsTrue (is_calm document) → IsTrue (all_answered_or_waited document report)
   -- it is read from what the store holds at the end: these bytes, in which an opening reads this journal
   pub bytes : List ℕ
   pub journal : Journal

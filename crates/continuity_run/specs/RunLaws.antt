@@ -1,4 +1,5 @@
 -- What is proved of whole runs and of their reports, before any is made.
+use Rattle.calm_laws.specs.CalmRuns.{CalmRunsAnswer}
 use Rattle.legal_laws.specs.ToldLegal.{RunsAreLegalTold}
 use Rattle.server_model.specs.Laws.{RunsSerial}
 use Rattle.shown_laws.specs.CausedRuns.{RunsAreCaused}
@@ -31,3 +32,4 @@ pub record RunsHold : Type 0 where
   pub ordered : BlocksComeInOrder
   pub caused : RunsAreCaused
   pub whole : RunsAreWhole
+  pub calm : CalmRunsAnswer

@@ -12,6 +12,7 @@ ghost use Rattle.continuity_run.specs.Runs.{HasRun, IsRunOf, IsRunOfSome};
 use crate::reporting::report_of;
 use crate::store::{Store, store_of};
 use auto_bounds::AutoRule;
+use calm_laws::laws::calm_runs_answer;
 use fresh_laws::laws::runs_are_fresh;
 use legal_laws::judged::{runs_are_fresh_new, runs_are_legal, runs_are_set_aside};
 use legal_laws::laws::runs_are_legal_told;
@@ -115,6 +116,7 @@ fn runs_hold()
     blocks_are_answered();
     runs_are_caused();
     runs_are_whole();
+    calm_runs_answer();
 }
 
 /// The run of a document, and its report.

@@ -20,4 +20,5 @@ returns c = record {
   ordered = c.blocks_are_answered.ensures.order;
   caused = c.runs_are_caused.ensures;
   whole = c.runs_are_whole.ensures;
+  calm = c.calm_runs_answer.ensures;
 }
