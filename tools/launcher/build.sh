@@ -2,8 +2,9 @@
 # shellcheck shell=bash
 # shellcheck disable=SC2154 # top and program are the launcher's
 
-# How long the first use took where that was measured: minutes, and the processors that it had.
-measured_minutes=24
+# How long the first use takes: minutes, and the processors for which that is. It is the sum of what the crates of the longest
+# chain took, each measured by itself on four processors that had other work.
+measured_minutes=60
 measured_processors=4
 out=$top/crates/continuity/out
 
@@ -240,7 +241,7 @@ build() {
         return 1
     fi
     jobs=$("$top/tools/at_once") || jobs=1
-    say "the program is not built yet. Proving and building it took about $measured_minutes minutes on $measured_processors processors"
+    say "the program is not built yet. Proving and building it takes about $measured_minutes minutes on $measured_processors processors"
     say "(here $jobs crates are proved at once). What is proved is kept: if this is interrupted, the next use goes on from there."
     export RT_JOBS=$jobs
     start_rt "$repository" ci
