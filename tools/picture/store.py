@@ -86,8 +86,8 @@ class Store:
         self.commits[tuple(session)] += 1
         commit = Commit(self.run.number, words.identifier(entry), self.run.events[-1].whose, self.changes.get(entry))
         self.run.commits.append(commit)
-        self.mark(lane, "disk", (f"commit {commit.identifier}", commit.identifier), "ok",
-                  "\n".join([f"transaction {commit.identifier} is stored", *in_words(commit.changes)]))
+        told = [f"transaction {commit.identifier} is stored", *in_words(commit.changes), *self.tables.wholes.get(entry, ())]
+        self.mark(lane, "disk", (f"commit {commit.identifier}", commit.identifier), "ok", "\n".join(told))
         return True
 
     def alert(self, lane, line):

@@ -10,6 +10,7 @@ from . import words
 from .files import need
 
 NO_ROW = "no row"
+WHOLE = 10  # the rows of a table that is shown whole
 
 
 class Tables:
@@ -17,16 +18,23 @@ class Tables:
 
     def __init__(self, document):
         self.known = "image" not in document
-        self.columns, self.rows = {}, {}
+        self.columns, self.rows, self.wholes = {}, {}, {}
         for table in document.get("tables", []):
             self.columns[table["name"]] = [name for name, _ in table["columns"]]
             self.rows[table["name"]] = {key_of(row[0]): row for row in table.get("rows", [])}
 
     def changes_by_entry(self, entries):
         """Carries out the entries. Gives for each identifier what that entry changed, in words."""
-        return {tuple(entry["ltxid"]): [(table, row(before), row(after))
-                                        for table, before, after in self.changes(entry)]
-                for entry in entries if self.known}
+        found = {}
+        for entry in entries if self.known else ():
+            identifier = tuple(entry["ltxid"])
+            was = {table: dict(rows) for table, rows in self.rows.items() if len(rows) <= WHOLE}
+            changes = self.changes(entry)
+            found[identifier] = [(table, row(before), row(after)) for table, before, after in changes]
+            names = sorted({table for table, _, _ in changes if table in was and len(self.rows[table]) <= WHOLE})
+            self.wholes[identifier] = [line for name in names for line in
+                                       (whole(name, "before", was[name]), whole(name, "after", self.rows[name]))]
+        return found
 
     def changes(self, entry):
         """Carries out an entry. Gives (table, row before, row after) for each row that is another afterwards."""
@@ -95,6 +103,12 @@ def is_refused(answers):
 
 def row(given):
     return NO_ROW if given is None else "(" + ", ".join(map(words.value, given)) + ")"
+
+
+def whole(table, when, rows):
+    """A line with all rows of a table, in the order of their keys."""
+    ordered = sorted(rows.values(), key=lambda one: one[0]["hex"] if isinstance(one[0], dict) else one[0])
+    return f"{table} {when}: " + (" ".join(map(row, ordered)) or "no rows")
 
 
 def in_words(changes):

@@ -22,6 +22,9 @@ class Rows(unittest.TestCase):
                          (23, "[1,2,0]", "client 2, connection 2, session (1,2)"))
         self.assertEqual(commit.changes, [("item", "(2, 10)", "(2, 9)"), ("sales", "no row", '(1002, 2, 0, "c2")')])
 
+    def test_small_tables_stand_whole_in_the_details(self):
+        self.assertIn('sales after: (1002, 2, 0, "c2")', words_of(drawn(SHOP)[1]))
+
     def test_they_stand_on_the_page(self):
         root = drawn(SHOP)[1]
         self.assertIn("item: before (2, 10), after (2, 9)", words_of(root))
@@ -52,6 +55,7 @@ class Rows(unittest.TestCase):
         self.assertEqual(tables.changes_by_entry([entry]), {(1, 1, 0): [
             ("t", "(1, 5, 0x00)", "(1, 3, 0x00)"), ("t", "no row", "(17, 8, 0x0aff)"),
             ("t", "(2, 6, 0x01)", "no row")]})
+        self.assertEqual(tables.wholes[(1, 1, 0)], ["t before: (1, 5, 0x00) (2, 6, 0x01)", "t after: (1, 3, 0x00) (17, 8, 0x0aff)"])
         tables.close([["t", [[1, 3, {"hex": "00"}], [17, 8, {"hex": "0aff"}]]]])
 
     def test_the_store_of_an_image_is_not_known(self):
