@@ -1,5 +1,6 @@
 pub mod Caused
 pub mod Causes
+pub mod Cover
 pub mod Facts
 pub mod Fronts
 pub mod Happenings
