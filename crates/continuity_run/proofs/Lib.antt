@@ -1,4 +1,5 @@
 mod Beginning
+mod Completeness
 mod Documents
 mod Headlines
 mod Images

@@ -1,5 +1,6 @@
 pub mod Causes
 pub mod Clauses
+pub mod Complete
 pub mod Headline
 pub mod InnerEnds
 pub mod InnerWords

@@ -4,6 +4,7 @@ ghost use Rattle.continuity_run.specs.Causes.{Rose};
 ghost use Rattle.doc_reader.specs.Keeping.{IsDocument};
 ghost use Rattle.doc_reader.specs.Documents.{document_at};
 ghost use Rattle.continuity_run.specs.Clauses.{is_command as is_command_def, IsReported, IsDone, IsCut, IsRead, IsRefused, Writes, WritesFront, IfDocument, IsBefore, IsReply, UnlessRead};
+ghost use Rattle.continuity_run.specs.Complete.{IsFaultless};
 ghost use Rattle.continuity_run.specs.InnerEnds.{ended_as, IsWritten};
 
 use crate::outside::{Sink, Source};
@@ -145,6 +146,9 @@ pub fn continuity<S: Source, K: Sink>(
     // The sink took the text of the report, or a front of it: the headline.
     ensures done { result ≡ Status.Done → IsDone (S.left source.old) (S.left source.new) (K.held sink.old) (K.held sink.new) }
     ensures cut { result ≡ Status.Write → IsCut (S.left source.old) (S.left source.new) (K.held sink.old) (K.held sink.new) }
+
+    // Where nothing is at fault there is a report, but for want of memory.
+    ensures complete { IsFaultless words.now (S.left source.old) (S.faults source.old) (S.faults source.new) (K.faults sink.old) (K.faults sink.new) → (result ≡ Status.Done) ⊎ (result ≡ Status.NoMemory) }
 
     // Else nothing was written.
     ensures untouched { IsBefore result → sink.new ≡ sink.old }

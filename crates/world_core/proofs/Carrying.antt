@@ -6,7 +6,7 @@ use Rattle.std.proofs.lemmas.List.{append-nil, take_min}
 use Rattle.std.proofs.lemmas.List.Concat.{length-flat_map}
 use Rattle.canon_bytes.specs.TextBytes.{spell_bytes}
 use Rattle.frame_wire.specs.declared.feed.FrameFault.{FrameFault}
-use Rattle.frame_wire.specs.declared.feed.FrameFault.TheVariants.{NoMemory}
+use Rattle.frame_wire.specs.declared.feed.FrameFault.TheVariants.{NoMemory, BadFrame}
 use Rattle.frame_wire.specs.Stream.{Pending, nothing_pending, with_bytes, with_first, first_payload, whole_front, StandsFirst, IsNext}
 use Rattle.frame_wire.specs.Steps.{stream, AreFrames, frame_size, IsWholeFront}
 use Rattle.world_core.specs.Carrying.{Carries}
@@ -77,6 +77,26 @@ module _ {F : Type 0} (spell : F → List ℕ) (fits : F → Type 0) where
       let is : IsNext spell fits held (Ok None) held = (c.good, ap first_payload c.bytes ∙ c.rest, refl) in
       let both = one held after held (Ok answer) (Ok None) next is (not_memory answer) (not_memory None) in
       (same_ok answer None both.0, subst (λ (p : Pending). Carries spell fits is_open [] p) (sym both.1) c)
+
+  -- the first of these frames may be answered, or none where none is there
+  may_answer : (is_open : Bool) (frames : List F) (held : Pending) → Carries spell fits is_open frames held → (answer : Option F) × ((left : Pending) × IsNext spell fits held (Ok answer) left)
+  may_answer is_open [] held c = (None, (held, (c.good, ap first_payload c.bytes ∙ c.rest, refl)))
+  may_answer is_open (f ∷ fs) held c =
+      let left : Pending = record { bytes = stream spell fits fs ++ c.part; bad = false } in
+      let stands : StandsFirst spell fits held.bytes f left.bytes = record { front = c.bytes ∙ append_assoc (spell_bytes (spell f)) (stream spell fits fs) c.part; fitting = c.are.0.0; short = c.are.0.1 } in
+      (Some f, (left, (c.good, stands, refl)))
+
+  bad_memory : ◌≡◌ {A = Answer} (Err BadFrame) (Err NoMemory) → ⊥
+  bad_memory e = cc
+
+  bad_ok : (answer : Option F) → ◌≡◌ {A = Answer} (Err BadFrame) (Ok answer) → ⊥
+  bad_ok answer e = cc
+
+  -- so no bad frame is
+  pub never_bad : (one : OneAnswer) (is_open : Bool) (frames : List F) (held after : Pending) → Carries spell fits is_open frames held → IsNext spell fits held (Err BadFrame) after → ⊥
+  never_bad one is_open frames held after c next =
+      let may = may_answer is_open frames held c in
+      bad_ok may.0 (one held after may.1.0 (Err BadFrame) (Ok may.0) next may.1.1 bad_memory (not_memory may.0)).0
 
   front_frames : (size : F → ℕ) (bytes : ℕ) (frames : List F) → AreFrames spell fits frames → AreFrames spell fits (whole_front size bytes frames)
   front_frames size bytes [] are = tt

@@ -46,6 +46,10 @@ pub record IsLink (held : Connection) (link : Link) : Type 0 where
   pub told : AllByRecursion IsMadeDown (down_frames link.down)
   pub known : IfSome held.held IsLtxid
 
+-- there is one of the machine that it stands for
+abbrev pub IsSomeLink : Connection → Type 0
+IsSomeLink held = (link : Link) × IsLink held link
+
 -- its session lives on behind a cut
 abbrev pub lives_on : Connection → Bool
 lives_on held = held.is_living && held.is_cut
@@ -93,6 +97,10 @@ pub record Stand (held : Connections) (links : List Link) : Type 0 where
   pub are : AreLinks held.all.items links
   pub fallen : HaveFallen held.fallen links
   pub living : HasLiving held.living links
+
+-- there are some of the machine that they stand for
+abbrev pub StandForSome : Connections → Type 0
+StandForSome held = (links : List Link) × Stand held links
 
 -- connections are numbered from 1
 abbrev pub connection_at : List Connection → ℕ → Option Connection

@@ -26,6 +26,10 @@ pub record IsUnderway (held : Traffic) (m : Machine) : Type 0 where
   -- the pool knows no connection that was not opened
   pub opened : m.pool.opened ≤ length m.links
 
+-- there is a machine that this stands for
+abbrev pub IsUnderwaySome : Traffic → Type 0
+IsUnderwaySome held = (m : Machine) × IsUnderway held m
+
 -- the machine goes on, and this stands for its next state
 abbrev pub Leads : Option Machine → Traffic → Type 0
 Leads next after = (m : Machine) × ((next ≡ Some m) × IsUnderway after m)

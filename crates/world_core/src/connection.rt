@@ -14,9 +14,11 @@ ghost use Rattle.world_model.specs.Serving.{Front, is_last as is_last_def, front
 ghost use Rattle.world_model.specs.Cutting.{reached_of, cut_link, reaped_link};
 ghost use Rattle.world_model.specs.Crashing.{fallen_link};
 ghost use Rattle.world_core.specs.CutBytes.{KeepsFirst};
-ghost use Rattle.world_core.specs.Linked.{up_frames, told_by_frame, lives_on, may_be_served, IsLink, GivesFront, GivesReply};
+ghost use Rattle.world_core.specs.Linked.{up_frames, told_by_frame, lives_on, may_be_served, IsLink, IsSomeLink, GivesFront, GivesReply};
 
-use frame_wire::{DownFeed, UpFeed, any_cut, cut_leaves_whole_frames, encode_down, encode_up};
+use frame_wire::{
+    DownFeed, FrameFault, UpFeed, any_cut, cut_leaves_whole_frames, encode_down, encode_up,
+};
 use outage_schedule::Reached;
 use pool_core::Pool;
 use std::alloc::Global;
@@ -112,9 +114,10 @@ impl Connection {
         Ok(())
     }
 
-    /// Takes off the frame that is served next: the first whole one, while the session lives. Linear
-    /// in the frame.
+    /// Takes off the frame that is served next: the first whole one, while the session lives. What
+    /// stands there was spelled here, so a whole frame is no bad one. Linear in the frame.
     pub(crate) fn first_up(&mut self) -> Result<Option<Up>, NoMemory>
+        requires { IsSomeLink self.old }
         ensures { IfOk result (λ frame. (link : Link) → IsLink self.old link → GivesFront link (front_of link) frame self.new) }
     {
         if !self.is_living {
@@ -123,7 +126,8 @@ impl Connection {
         any_cut::<Up>();
         match self.up.next() {
             Ok(frame) => Ok(frame),
-            Err(_) => Err(NoMemory),
+            Err(FrameFault::NoMemory) => Err(NoMemory),
+            Err(FrameFault::BadFrame) => unreachable!(),
         }
     }
 
@@ -159,13 +163,17 @@ impl Connection {
         Ok(())
     }
 
-    /// Takes the reply that stands first, and the identifier that comes with it. Linear in the reply.
+    /// Takes the reply that stands first, and the identifier that comes with it. What stands there was
+    /// spelled here, so a whole frame is no bad one. Linear in the reply.
     pub(crate) fn take(&mut self) -> Result<Option<Down>, NoMemory>
+        requires { IsSomeLink self.old }
         ensures { IfOk result (λ reply. (link : Link) → IsLink self.old link → GivesReply link link.down reply self.new) }
     {
         any_cut::<Down>();
-        let Ok(reply) = self.down.next() else {
-            return Err(NoMemory);
+        let reply = match self.down.next() {
+            Ok(reply) => reply,
+            Err(FrameFault::NoMemory) => return Err(NoMemory),
+            Err(FrameFault::BadFrame) => unreachable!(),
         };
         self.held = told_by(&reply).or(self.held);
         Ok(reply)

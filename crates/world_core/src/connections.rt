@@ -16,7 +16,7 @@ ghost use Rattle.world_model.specs.Finishing.{first_behind};
 ghost use Rattle.world_model.specs.Cutting.{open_at, has_orphan, reaped_link};
 ghost use Rattle.world_model.specs.Crashing.{fallen_link};
 ghost use Rattle.world_core.specs.CutBytes.{KeepsFirstAt};
-ghost use Rattle.world_core.specs.Linked.{up_frames, lives_on, may_be_served, Stand, connection_at, holds_at, MaySend, IsOpenAt, IsFound, GivesFrontAt, GivesReplyAt, CutsAt};
+ghost use Rattle.world_core.specs.Linked.{up_frames, lives_on, may_be_served, Stand, connection_at, holds_at, MaySend, IsOpenAt, IsFound, StandForSome, GivesFrontAt, GivesReplyAt, CutsAt};
 
 use crate::connection::Connection;
 use frame_wire::any_cut;
@@ -125,7 +125,8 @@ impl Connections {
 
     /// Takes off the frame that is served next on one: the first whole one, while its session lives.
     /// Linear in the frame.
-    pub fn first_up(&mut self, number: u64) -> Result<Option<Up>, NoMemory>
+    pub(crate) fn first_up(&mut self, number: u64) -> Result<Option<Up>, NoMemory>
+        requires { StandForSome self.old }
         ensures { IfOk result (λ frame. (links : List Link) → Stand self.old links → GivesFrontAt links number (front_at links number) frame self.new) }
     {
         let Some(at) = self.place(number) else {
@@ -162,7 +163,8 @@ impl Connections {
 
     /// Takes the reply that stands first on one, and the identifier that comes with it. Linear in the
     /// reply.
-    pub fn take(&mut self, number: u64) -> Result<Option<Down>, NoMemory>
+    pub(crate) fn take(&mut self, number: u64) -> Result<Option<Down>, NoMemory>
+        requires { StandForSome self.old }
         ensures { IfOk result (λ reply. (links : List Link) (link : Link) → link_at links number ≡ Some link → Stand self.old links → GivesReplyAt links number link link.down reply self.new) }
     {
         let Some(at) = self.place(number) else {

@@ -16,7 +16,7 @@ ghost use Rattle.world_model.specs.Crashing.{fallen_link};
 ghost use Rattle.world_model.specs.Outside.{ticked, follow_drain};
 ghost use Rattle.world_core.specs.CutBytes.{KeepsFirstAt};
 ghost use Rattle.world_core.specs.Linked.{up_frames, connection_at, MaySend, IsOpenAt};
-ghost use Rattle.world_core.specs.Underway.{AreClosable, all_closed, IsUnderway, Leads, GivesFrontOf, GivesReplyOf, MayRelease, closes_with, IsWritten, IsStopped};
+ghost use Rattle.world_core.specs.Underway.{AreClosable, all_closed, IsUnderway, IsUnderwaySome, Leads, GivesFrontOf, GivesReplyOf, MayRelease, closes_with, IsWritten, IsStopped};
 
 use crate::answering::{crashed_item, is_blocked, is_last, served_item, session_served};
 use crate::connections::Connections;
@@ -128,7 +128,8 @@ impl Traffic {
 
     /// Takes off the frame that is served next on a connection, if one may be served. Linear in the
     /// frame.
-    pub fn first_up(&mut self, number: u64) -> Result<Option<Up>, NoMemory>
+    pub(crate) fn first_up(&mut self, number: u64) -> Result<Option<Up>, NoMemory>
+        requires { IsUnderwaySome self.old }
         ensures { IfOk result (λ frame. (m : Machine) → IsUnderway self.old m → GivesFrontOf m number frame self.new) }
     {
         self.connections.first_up(number)
@@ -202,7 +203,8 @@ impl Traffic {
     }
 
     /// Takes the reply that stands first on a connection. Linear in the reply.
-    pub fn take(&mut self, number: u64) -> Result<Option<Down>, NoMemory>
+    pub(crate) fn take(&mut self, number: u64) -> Result<Option<Down>, NoMemory>
+        requires { IsUnderwaySome self.old }
         ensures { IfOk result (λ reply. (m : Machine) (link : Link) → link_at m.links number ≡ Some link → IsUnderway self.old m → GivesReplyOf m number link link.down reply self.new) }
     {
         self.connections.take(number)

@@ -1,4 +1,5 @@
 use Rattle.std.proofs.Common.{true, false, Some, None, refl}
+use Rattle.world_core.specs.Stepping.{at_next}
 use Rattle.world_core.proofs.Looking.{none_awaits, none_goes, some_awaits, some_ltxids, some_goes}
 use Rattle.world_core.proofs.Standing.{if_ok}
 use Rattle.world_core.proofs.client.Client.look.Goals as goal
@@ -26,3 +27,6 @@ returns-in-None g c = if_ok c.hear_open.result (λ note hears t client doing tur
 
 pub returns-in-Some-ended : goal.returns-in-Some-ended
 returns-in-Some-ended g c = if_ok c.hear_ended.result (λ note hears t client doing turn. some_goes _ (λ rule. g.R.BoundRule.rules rule) c.args.script.now c.args.number c.args.traffic.now c.take.new.self c.args.self.now c.connection-connection.result c.ended-ended.result c.in_ok-got.got c.connection-connection.ensures c.ended-ended.ensures c.in_ok-got.ensures t client doing turn c.in-Some.frame c.in-Some.is false (Some c.in-Some-ended.event) note c.hear_ended.new.traffic c.hear_ended.new.self c.in-Some-ended.is refl hears) c.hear_ended.ensures
+
+pub take-requires : goal.take-requires
+take-requires g c = (at_next c.requires.traced, c.requires.turn.placed.underway)

@@ -46,3 +46,8 @@ serve-requires-clause-few g c = one_more (g.S.Service.state c.args.self.now.serv
 
 pub returns-in_default-clause-base : goal.returns-in_default-clause-base
 returns-in_default-clause-base g c = one_base_kept (g.S.Service.bytes c.args.self.now.service)
+
+pub first_up-requires : goal.first_up-requires
+first_up-requires g c =
+    let m = c.requires.there.1.0.machine in
+    (begun m, c.begin.ensures.begun m c.requires.there.1.1.underway)

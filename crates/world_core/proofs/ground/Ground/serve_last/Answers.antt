@@ -59,3 +59,8 @@ pub returns-in_ok-served-in-Err-Stopped-clause-base : goal.returns-in_ok-served-
 returns-in_ok-served-in-Err-Stopped-clause-base g c =
     let set = c.stop_after.ensures.stop c.requires.there.0 c.requires.there.1.1.seen_so in
     one_base_on _ _ _ _ (g.met.S.Service.honest c.stop_after.new.self set.0 set.1.0).pictures c.stop_after.ensures.base (one_base_stopped _ _ _ _ c.in-Err-Stopped.field-0-is c.in-Err-Stopped.ensures.base)
+
+pub first_up-requires : goal.first_up-requires
+first_up-requires g c =
+    let m = c.requires.there.1.0.machine in
+    (begun m, c.begin.ensures.begun m c.requires.there.1.1.underway)
