@@ -5,3 +5,4 @@ pub mod Appending
 pub mod Whole
 pub mod Walking
 pub mod Sizes
+pub mod Standing

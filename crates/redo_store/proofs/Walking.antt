@@ -10,7 +10,7 @@ use Rattle.std.proofs.lemmas.Bool.Decides.{nat_tests}
 use Rattle.std.proofs.lemmas.List.Elements.{All-push}
 use Rattle.redo_store.specs.Records.{magic, length_bytes, length_of, is_whole, payload_of, with_first, records_from, records_of, whole_from, whole_records, spelling_of}
 use Rattle.redo_store.specs.Store.{IsStore}
-use Rattle.redo_store.specs.InnerStore.{HasRecord, HasClosedGate}
+use Rattle.redo_store.specs.Gate.{HasRecord, HasClosedGate}
 use Rattle.redo_store.specs.Walk.{with_firsts, StandsBehind}
 use Rattle.redo_store.proofs.Grammar.{read_front, closed_gate, length-length_bytes}
 use Rattle.redo_store.proofs.Gates.{spelling_of-push}
@@ -84,6 +84,21 @@ walk_on image place done payload v h =
           ∙ ap (λ (l : List ℕ). (done ++ payload ∷ []) ++ whole_from 0 l) (sym rest);
       lengths = All-push (λ p. length p < 2 ^ 64) done payload v.lengths h.short;
     }
+
+-- behind a record stands a gate
+pub record_within : (place behind : ℕ) (payload image : List ℕ) → HasRecord place payload image → behind ≡ place + 9 + length payload → behind < length image
+record_within place behind payload image h is =
+    let n = length payload in
+    omega (
+      arith,
+      is,
+      h.more,
+      ap length h.bytes,
+      length-drop place image,
+      length-length_bytes n,
+      length-append (1 ∷ length_bytes n) payload,
+      length-append (1 ∷ length_bytes n ++ payload) h.rest,
+    )
 
 -- it ends at a closed gate
 pub walk_end : (image : List ℕ) (place : ℕ) (done : List (List ℕ)) → StandsBehind place done image → HasClosedGate place image → records_of image ≡ Ok done

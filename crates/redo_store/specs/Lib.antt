@@ -2,4 +2,4 @@ pub mod Records
 pub mod Store
 pub mod Redo
 pub mod Walk
-pub mod InnerStore
+pub mod Gate

@@ -15,6 +15,10 @@ is_live redo = redo.live
 abbrev pub count_of : Redo → ℕ
 count_of redo = redo.count
 
+-- the place of the closed gate behind its last record, as far as it knows
+abbrev pub tail_of : Redo → ℕ
+tail_of redo = redo.tail
+
 -- The store and the disk belong together and are ready: the store is live, the records on the disk end at its tail, it
 -- counts them, and nothing is pending there.
 pub record CanAppend (redo : Redo) (disk : DiskState) : Type 0 where

@@ -2,7 +2,7 @@
 ghost use Rattle.std.specs.Prelude.{◌≡◌, ◌+◌, ◌≤◌, ◌<◌, ◌^◌, ◌++◌, ◌∷◌, [], ℕ, length, take, drop, OnOk, OnErr, IfOk, IsErrOf, Err, MatchOption};
 ghost use Rattle.disk_model.specs.Disk.{OnlyReads};
 ghost use Rattle.redo_store.specs.Records.{magic, length_bytes, length_of, payload_in, records_from, whole_from};
-ghost use Rattle.redo_store.specs.InnerStore.{HasRecord, HasClosedGate};
+ghost use Rattle.redo_store.specs.Gate.{HasRecord, HasClosedGate};
 
 use crate::fault::RedoFault;
 use disk_model::Disk;
@@ -16,6 +16,9 @@ pub const OPEN: u8 = 1;
 
 /// The gate behind the last record.
 pub const CLOSED: u8 = 0;
+
+/// How many bytes of a payload one call reads, at most.
+const PIECE: usize = 4096;
 
 /// How many bytes a record has beside its payload: its gate and its length.
 pub const HEAD: u64 = 9;
@@ -75,7 +78,7 @@ pub fn check_magic<D: Disk>(disk: &mut D) -> Result<(), RedoFault>
 // Reads the payload of the record whose gate stands at the place, or none where that gate is closed.
 //
 // A length is believed only once as many bytes are there, so no memory is taken by a length that a damaged store claims.
-pub fn record_at<D: Disk>(
+pub fn payload_at<D: Disk>(
     alloc: Global,
     disk: &mut D,
     place: u64,
@@ -105,7 +108,32 @@ pub fn record_at<D: Disk>(
     if count >= rest - HEAD {
         return Err(RedoFault::Damaged(place));
     }
-    let mut payload = vec![in alloc; 0; count as usize]?;
-    disk.read(place + HEAD, &mut payload)?;
+    let payload = read_pieces(alloc, disk, place + HEAD, count as usize)?;
     Ok(Some(payload))
+}
+
+// Reads so many bytes from the place on, in calls of at most `PIECE` bytes each.
+//
+// The memory for them is taken at once, and each byte is written there once.
+fn read_pieces<D: Disk>(
+    alloc: Global,
+    disk: &mut D,
+    place: u64,
+    count: usize,
+) -> Result<Vec<u8>, RedoFault>
+    requires within { place + count ≤ length (D.state disk.old).now.seen }
+    ensures bytes { IfOk result (λ bytes.
+        bytes.items ≡ take count (drop place (D.state disk.old).now.seen)) }
+    ensures whole { (at : ℕ) → IsErrOf result (RedoFault.Damaged at) → ⊥ }
+    ensures only_reads { OnlyReads (IsErrOf result RedoFault.Stopped) (D.state disk.old) (D.state disk.new) }
+{
+    let mut bytes = Vec::with_capacity(alloc, count)?;
+    let mut piece = [0; PIECE];
+    while bytes.len() < count {
+        let size = PIECE.min(count - bytes.len());
+        let part = &mut piece[..size];
+        disk.read(place + bytes.len() as u64, part)?;
+        bytes.extend_from_slice(part)?;
+    }
+    Ok(bytes)
 }

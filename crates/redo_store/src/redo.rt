@@ -1,12 +1,12 @@
 //! The store.
-ghost use Rattle.std.specs.Prelude.{◌≡◌, ◌+◌, ◌≤◌, ◌<◌, ◌^◌, ◌++◌, ◌∷◌, [], ◌⊎◌, ℕ, List, length, OnOk, OnErr, IfOk, IsErrOf, Ok, Err, map, false, true, IsFalse};
+ghost use Rattle.std.specs.Prelude.{◌≡◌, ◌+◌, ◌≤◌, ◌<◌, ◌^◌, ◌++◌, ◌∷◌, [], ◌⊎◌, ℕ, List, length, OnOk, OnErr, IfOk, IsErrOf, Ok, Err, map, false, true, IsFalse, MatchOption, IfSome, IfNone};
 ghost use Rattle.disk_model.specs.Moment.{Torn, with_bytes};
 ghost use Rattle.disk_model.specs.Disk.{Meanwhile, IsSettled, Lowers, Caused, OnlyReads};
-ghost use Rattle.redo_store.specs.Records.{magic, payload_in, records_of, with_last};
+ghost use Rattle.redo_store.specs.Records.{magic, payload_in, records_of, whole_records, with_last};
 ghost use Rattle.redo_store.specs.Store.{IsOldOrNew};
 
 use crate::fault::RedoFault;
-use crate::record::{OPEN, body_of, made_of};
+use crate::record::{HEAD, OPEN, body_of, made_of, payload_at};
 use crate::walk::Walk;
 use disk_model::{Disk, DiskFault};
 use std::alloc::Global;
@@ -21,7 +21,9 @@ pub struct Redo {
 }
 
 impl Redo {
-    ghost use Rattle.redo_store.specs.Redo.{is_live, count_of, CanAppend, StoreGoesOn};
+    ghost use Rattle.redo_store.specs.Redo.{is_live, count_of, tail_of, CanAppend, StoreGoesOn};
+    ghost use Rattle.redo_store.specs.Gate.{HasRecord, HasClosedGate};
+    ghost use Rattle.redo_store.specs.Walk.{StandsBehind};
 
     /// Whether a record may be added. After `Stopped` it may not, and the store is to be opened again.
     pub fn is_live(&self) -> bool
@@ -35,6 +37,14 @@ impl Redo {
         ensures { result ≡ count_of self.now }
     {
         self.count
+    }
+
+    /// The place of the closed gate behind the last record, as an offset in bytes. After `Stopped` that is the one
+    /// before the call that was stopped.
+    pub fn tail(&self) -> u64
+        ensures { result ≡ tail_of self.now }
+    {
+        self.tail
     }
 
     /// Makes a store without a record on an empty disk, in two device calls.
@@ -56,8 +66,8 @@ impl Redo {
 
     /// Reads the payloads of all records, in order, and gives the store to go on with.
     ///
-    /// It reads each record once, in three calls, and keeps nothing of the disk but the payloads: time and memory grow
-    /// with the size of the records alone.
+    /// It reads each record once, in calls of at most 4,096 bytes, and keeps nothing of the disk but
+    /// the payloads: time and memory grow with the size of the records alone.
     pub fn open<D: Disk>(alloc: Global, disk: &mut D) -> Result<(Redo, Vec<Vec<u8>>), RedoFault>
         ensures records { IfOk result (λ opened. records_of (D.state disk.old).now.seen ≡ Ok (map (λ payload. payload.items) opened.1.items)) }
 
@@ -67,12 +77,48 @@ impl Redo {
         ensures only_reads { OnlyReads (IsErrOf result RedoFault.Stopped) (D.state disk.old) (D.state disk.new) }
     {
         let mut walk = Walk::begin(alloc, disk)?;
-        let mut records = Vec::new(alloc);
-        while let Some(payload) = walk.next(disk)? {
-            records.push(payload)?;
-        }
+        let records = walk.rest(disk)?;
         let redo = walk.finish();
         Ok((redo, records))
+    }
+
+    /// Reads the payload of the record whose gate stands at this offset, and tells the offset of the
+    /// gate behind it; none where the gate is closed.
+    ///
+    /// It reads the gate, the length, and the payload in calls of at most 4,096 bytes. Time and
+    /// memory grow with the payload alone. Where no gate of the disk's records stands at the offset,
+    /// the byte there is taken for one.
+    pub fn record_at<D: Disk>(
+        alloc: Global,
+        disk: &mut D,
+        gate: u64,
+    ) -> Result<Option<(Vec<u8>, u64)>, RedoFault>
+        ensures found { IfOk result (λ found. MatchOption found
+            (HasClosedGate gate (D.state disk.old).now.seen)
+            (λ one. HasRecord gate one.0.items (D.state disk.old).now.seen
+            × (one.1 ≡ gate + 9 + length one.0.items))) }
+
+        // From the gate behind some records it comes to the one behind the next. At the closed one they are all.
+        ensures next { (done : List (List ℕ)) → StandsBehind gate done (D.state disk.old).now.seen
+            → IfOk result (λ found. IfSome found (λ one.
+            StandsBehind one.1 (done ++ one.0.items ∷ []) (D.state disk.old).now.seen)) }
+        ensures end { (done : List (List ℕ)) → StandsBehind gate done (D.state disk.old).now.seen
+            → IfOk result (λ found. IfNone found
+            ((records_of (D.state disk.old).now.seen ≡ Ok done) × (whole_records (D.state disk.old).now.seen ≡ done))) }
+
+        // A damage is that of this gate, which is open without a whole record and one more byte behind
+        // it, or past the end. Where that is so, `found` lets no other answer be Ok.
+        ensures damaged { (at : ℕ) → IsErrOf result (RedoFault.Damaged at) → at ≡ gate }
+        ensures damage { (at : ℕ) → IsErrOf result (RedoFault.Damaged at)
+            → (done : List (List ℕ)) → StandsBehind gate done (D.state disk.old).now.seen
+            → (records_of (D.state disk.old).now.seen ≡ Err at) × (whole_records (D.state disk.old).now.seen ≡ done) }
+        ensures only_reads { OnlyReads (IsErrOf result RedoFault.Stopped) (D.state disk.old) (D.state disk.new) }
+    {
+        let Some(payload) = payload_at(alloc, disk, gate)? else {
+            return Ok(None);
+        };
+        let behind = gate + HEAD + payload.len() as u64;
+        Ok(Some((payload, behind)))
     }
 
     // A store of which so many records end at this gate.

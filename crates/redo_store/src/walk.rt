@@ -1,10 +1,10 @@
 //! A walk over the records of a store, one by one.
-ghost use Rattle.std.specs.Prelude.{◌≡◌, ◌+◌, ◌≤◌, [], ◌∷◌, ◌++◌, ℕ, List, length, take, OnErr, IfOk, IfSome, IfNone, IsErrOf, Ok, Err};
+ghost use Rattle.std.specs.Prelude.{◌≡◌, ◌+◌, ◌≤◌, ◌<◌, [], ◌∷◌, ◌++◌, ℕ, List, length, map, take, OnErr, IfOk, IfSome, IfNone, IsErrOf, Ok, Err};
 ghost use Rattle.disk_model.specs.Disk.{DiskState, IsSettled, OnlyReads};
 ghost use Rattle.redo_store.specs.Records.{magic, records_of, whole_records};
 
 use crate::fault::RedoFault;
-use crate::record::{HEAD, MAGIC, check_magic, record_at};
+use crate::record::{MAGIC, check_magic};
 use crate::redo::Redo;
 use disk_model::Disk;
 use std::alloc::Global;
@@ -20,7 +20,7 @@ pub struct Walk {
 
 impl Walk {
     ghost use Rattle.redo_store.specs.Redo.{CanAppend};
-    ghost use Rattle.redo_store.specs.Walk.{place_of, HasRead};
+    ghost use Rattle.redo_store.specs.Walk.{place_of, StandsBehind, HasRead};
 
     /// Reads what the bytes begin with, and stands at the first gate. It takes no memory.
     pub fn begin<D: Disk>(alloc: Global, disk: &mut D) -> Result<Walk, RedoFault>
@@ -42,6 +42,20 @@ impl Walk {
         })
     }
 
+    /// A walk that stands at this gate, behind so many records. It reads nothing.
+    pub fn behind(alloc: Global, place: u64, count: u64) -> Walk
+        requires few { count ≤ place }
+        ensures read { (image : List ℕ) (done : List (List ℕ))
+            → StandsBehind place done image → count ≡ length done → HasRead result done image }
+        ensures place { place_of result ≡ place }
+    {
+        Walk {
+            alloc,
+            place,
+            count,
+        }
+    }
+
     /// The offset of the gate that the walk stands at.
     pub fn place(&self) -> u64
         ensures { result ≡ place_of self.now }
@@ -49,13 +63,17 @@ impl Walk {
         self.place
     }
 
-    /// Reads the payload of the record at the gate, in three calls, and goes on behind it; none where the gate is closed.
+    /// Reads the payload of the record at the gate, and goes on behind it; none where the gate is closed.
     ///
-    /// Its time and memory grow with the payload alone. After any error the walk stands where it did.
+    /// It reads in calls of at most 4,096 bytes, and its time and memory grow with the payload alone.
+    /// After any error the walk stands where it did.
     pub fn next<D: Disk>(&mut self, disk: &mut D) -> Result<Option<Vec<u8>>, RedoFault>
         ensures record { (done : List (List ℕ)) → HasRead self.old done (D.state disk.old).now.seen
             → IfOk result (λ found. IfSome found (λ payload. HasRead self.new (done ++ payload.items ∷ []) (D.state disk.old).now.seen)) }
         ensures place { IfOk result (λ found. IfSome found (λ payload. place_of self.new ≡ place_of self.old + 9 + length payload.items)) }
+
+        ensures within { IfOk result (λ found. IfSome found (λ _.
+            place_of self.new < length (D.state disk.old).now.seen)) }
 
         // At the closed gate all records were read.
         ensures end { (done : List (List ℕ)) → HasRead self.old done (D.state disk.old).now.seen
@@ -69,12 +87,39 @@ impl Walk {
         ensures stays { OnErr result (self.new ≡ self.old) }
         ensures only_reads { OnlyReads (IsErrOf result RedoFault.Stopped) (D.state disk.old) (D.state disk.new) }
     {
-        let Some(payload) = record_at(self.alloc, disk, self.place)? else {
+        let Some((payload, behind)) = Redo::record_at(self.alloc, disk, self.place)? else {
             return Ok(None);
         };
-        self.place += HEAD + payload.len() as u64;
+        self.place = behind;
         self.count += 1;
         Ok(Some(payload))
+    }
+
+    /// The payloads of all records from the gate on, in order. The walk stands at the closed gate then.
+    ///
+    /// Time and memory grow with these records alone. After an error the walk stands behind those that
+    /// it had gone over by then, whose payloads are gone.
+    pub fn rest<D: Disk>(&mut self, disk: &mut D) -> Result<Vec<Vec<u8>>, RedoFault>
+        ensures records { (done : List (List ℕ)) → HasRead self.old done (D.state disk.old).now.seen
+            → IfOk result (λ rest.
+            records_of (D.state disk.old).now.seen ≡ Ok (done ++ map (λ payload. payload.items) rest.items)) }
+        ensures read { (done : List (List ℕ)) → HasRead self.old done (D.state disk.old).now.seen
+            → IfOk result (λ rest.
+            HasRead self.new (done ++ map (λ payload. payload.items) rest.items) (D.state disk.old).now.seen) }
+
+        // The place of a damage is that of the first gate with no whole record behind it.
+        ensures damaged { (at : ℕ) → IsErrOf result (RedoFault.Damaged at)
+            → (done : List (List ℕ)) → HasRead self.old done (D.state disk.old).now.seen
+            → records_of (D.state disk.old).now.seen ≡ Err at }
+        ensures stands { (done : List (List ℕ)) → HasRead self.old done (D.state disk.old).now.seen
+            → OnErr result ((more : List (List ℕ)) × HasRead self.new (done ++ more) (D.state disk.old).now.seen) }
+        ensures only_reads { OnlyReads (IsErrOf result RedoFault.Stopped) (D.state disk.old) (D.state disk.new) }
+    {
+        let mut payloads = Vec::new(self.alloc);
+        while let Some(payload) = self.next(disk)? {
+            payloads.push(payload)?;
+        }
+        Ok(payloads)
     }
 
     /// The store to go on with, where the walk stands at the closed gate behind the last record.

@@ -2,7 +2,7 @@
 ghost use Rattle.std.specs.Prelude.{◌<◌};
 
 use disk_model::{MemDisk, StopDisk};
-use redo_store::{Redo, RedoFault};
+use redo_store::{Redo, RedoFault, Walk};
 use std::alloc::{AllocError, Global};
 use std::test::Fail;
 
@@ -144,5 +144,56 @@ fn the_bytes_and_the_number_of_records_that_were_added(rt: HostRuntime) -> Resul
     assert_eq!(rt; disk.bytes(), TWO.as_slice());
     let (again, _) = Redo::open(alloc, &mut disk)?;
     assert_eq!(rt; again.count(), 2);
+    Ok(())
+}
+
+#[test]
+fn the_records_gate_by_gate(rt: HostRuntime) -> Result<(), Fail> {
+    let alloc = rt.alloc();
+    let mut disk = MemDisk::of(alloc, &TWO).expect(&rt, "memory");
+    for (gate, payload, next) in [(8, [0xaa].as_slice(), 18), (18, &[0xbb, 0xcc], 29)] {
+        let found = Redo::record_at(alloc, &mut disk, gate).expect(&rt, "a read");
+        let (read, behind) = found.expect(&rt, "a record");
+        assert_eq!(rt; read.as_slice(), payload);
+        assert_eq!(rt; behind, next);
+    }
+    let closed = Redo::record_at(alloc, &mut disk, 29).expect(&rt, "a read");
+    assert!(rt; closed.is_none());
+    Ok(())
+}
+
+#[test]
+fn the_records_behind_the_tail_of_an_earlier_store(rt: HostRuntime) -> Result<(), Fail> {
+    let alloc = rt.alloc();
+    let mut earlier = MemDisk::of(alloc, b"TGSTORE1\x01\0\0\0\0\0\0\0\x01\xaa\0").expect(
+        &rt, "memory",
+    );
+    let (redo, _) = Redo::open(alloc, &mut earlier).expect(&rt, "a store");
+    assert_eq!(rt; redo.tail(), 18);
+    let mut disk = MemDisk::of(alloc, &TWO).expect(&rt, "memory");
+    let mut walk = Walk::behind(alloc, redo.tail(), redo.count());
+    let rest = walk.rest(&mut disk).expect(&rt, "a store");
+    assert_eq!(rt;
+        spelled(alloc, &rest).expect(&rt, "memory").as_str(),
+        "bbcc,"
+    );
+    assert_eq!(rt; walk.place(), 29);
+    Ok(())
+}
+
+#[test]
+fn a_payload_of_more_bytes_than_one_call_reads(rt: HostRuntime) -> Result<(), Fail> {
+    let alloc = rt.alloc();
+    let mut payload = Vec::new(alloc);
+    for number in 0..10_000u32 {
+        payload.push((number % 251) as u8).expect(&rt, "memory");
+    }
+    let mut disk = MemDisk::new(alloc);
+    Redo::create(&mut disk).expect(&rt, "a store");
+    let (mut redo, _) = Redo::open(alloc, &mut disk).expect(&rt, "a store");
+    redo.append(&mut disk, &payload).expect(&rt, "a record");
+    let (_, records) = Redo::open(alloc, &mut disk).expect(&rt, "a store");
+    assert_eq!(rt; records.len(), 1);
+    assert!(rt; records[0] == payload);
     Ok(())
 }

@@ -1,22 +1,14 @@
-use Rattle.std.proofs.Common.{◌≡◌, ◌+◌, ◌++◌, ◌∷◌, [], ℕ, List, length, length-append, subst, arith, Vec, Global, Some, Option}
+use Rattle.std.proofs.Common.{◌≡◌, ◌+◌, ◌<◌, ℕ, List, length, subst, Vec, Global, Some, Option}
 use Rattle.std.specs.Prelude.{MatchOption}
-use Rattle.redo_store.specs.InnerStore.{HasRecord, HasClosedGate}
-use Rattle.redo_store.specs.Walk.{StandsBehind}
-use Rattle.redo_store.proofs.Walking.{walk_on}
+use Rattle.redo_store.specs.Gate.{HasRecord, HasClosedGate}
+use Rattle.redo_store.proofs.Walking.{record_within}
 use Rattle.redo_store.proofs.walk.Walk.next.Goals as goal
 
-found_some : (place : ℕ) (image : List ℕ) (found : Option (Vec ℕ Global)) (payload : Vec ℕ Global) → found ≡ Some payload → MatchOption found (HasClosedGate place image) (λ v. HasRecord place v.items image) → HasRecord place payload.items image
-found_some place image found payload is met = subst (λ o. MatchOption o (HasClosedGate place image) (λ v. HasRecord place v.items image)) is met
+behind_within : (gate : ℕ) (image : List ℕ) (found : Option (Vec ℕ Global × ℕ)) (payload : Vec ℕ Global) (behind : ℕ) → found ≡ Some (payload, behind)
+    → MatchOption found (HasClosedGate gate image) (λ one. HasRecord gate one.0.items image × (one.1 ≡ gate + 9 + length one.0.items)) → behind < length image
+behind_within gate image found payload behind is met =
+    let there : HasRecord gate payload.items image × (behind ≡ gate + 9 + length payload.items) = subst (λ o. MatchOption o (HasClosedGate gate image) (λ one. HasRecord gate one.0.items image × (one.1 ≡ gate + 9 + length one.0.items))) is met in
+    record_within gate behind payload.items image there.0 there.1
 
-pub returns-clause-record : goal.returns-clause-record
-returns-clause-record g c done read =
-    let seen = (g.D.Disk.state c.args.disk.now).now.seen in
-    let payload = c.in-Some.payload in
-    let n = length payload.items in
-    let place = c.args.self.now.place in
-    let there : HasRecord place payload.items seen = found_some place seen c.in_ok-payload.field-0 payload c.in-Some.is c.in_ok-payload.ensures.found in
-    let long : n ≡ c.len.result = omega (arith, c.len.ensures, payload.ok.0) in
-    record {
-      stands = subst (λ k. StandsBehind (place + (9 + k)) (done ++ payload.items ∷ []) seen) long (walk_on seen place done payload.items read.stands there);
-      counted = omega (arith, read.counted, length-append done (payload.items ∷ []));
-    }
+pub returns-clause-within : goal.returns-clause-within
+returns-clause-within g c = behind_within c.args.self.now.place (g.D.Disk.state c.args.disk.now).now.seen c.in_ok-payload.field-0 c.in-Some.payload c.in-Some.behind c.in-Some.is c.in_ok-payload.ensures.found

@@ -1,10 +1,9 @@
-use Rattle.std.proofs.Common.{◌≡◌, ◌<◌, ◌+◌, ℕ, List, length, take, drop, sym, ◌∙◌, ap, subst, arith, length-drop}
-use Rattle.std.proofs.lemmas.List.{take_at, length-take-le}
+use Rattle.std.proofs.Common.{◌≡◌, ◌<◌, ◌+◌, length, take, drop, sym, ◌∙◌, ap, arith, length-drop}
+use Rattle.std.proofs.lemmas.List.{length-take-le}
 use Rattle.disk_model.specs.Moment.{DiskMoment}
 use Rattle.redo_store.specs.Records.{length_bytes, length_of}
-use Rattle.redo_store.specs.InnerStore.{HasRecord}
 use Rattle.redo_store.proofs.Walking.{torn_record, torn_record_whole, record_is}
-use Rattle.redo_store.proofs.record.record_at.Goals as goal
+use Rattle.redo_store.proofs.record.payload_at.Goals as goal
 
 pub returns-then-rest-le-HEAD-clause-damaged : goal.returns-then-rest-le-HEAD-clause-damaged
 returns-then-rest-le-HEAD-clause-damaged g c at is =
@@ -37,17 +36,13 @@ returns-clause-found g c =
     let seen = (g.D.Disk.state c.args.disk.now).now.seen in
     let place = c.args.place in
     let count = c.length_in-count.result in
-    let into = c.read-3.new.into in
+    let payload = c.in_ok-payload.payload.items in
     let once = c.read.ensures.only_reads.same.now in
     let twice = c.read-2.ensures.only_reads.same.now ∙ once in
     let spelled : c.read-2.new.into ≡ take 8 (drop (place + 1) seen) = c.in_ok-read-2.ensures.bytes ∙ ap (λ (m : DiskMoment). take 8 (drop (place + 1) m.seen)) once in
-    let size : length c.deref_mut.result.now ≡ count = c.deref_mut.ensures.len ∙ c.in_ok-payload.ensures.len in
-    let read : into ≡ take count (drop (place + 9) seen) =
-    c.in_ok-read-3.ensures.bytes ∙ ap (λ n. take n (drop (place + 9) (g.D.Disk.state c.read-2.new.self).now.seen)) size ∙ ap (λ (m : DiskMoment). take count (drop (place + 9) m.seen)) twice in
+    let read : payload ≡ take count (drop (place + 9) seen) = c.in_ok-payload.ensures.bytes ∙ ap (λ (m : DiskMoment). take count (drop (place + 9) m.seen)) twice in
     let room : place + 9 + count < length seen = omega (arith, c.size.ensures, c.if-rest-le-HEAD.false, c.if-count-rest.false) in
-    let long : length into ≡ count = ap length read ∙ length-take-le count (drop (place + 9) seen) (omega (arith, room, length-drop (place + 9) seen)) in
-    let taken : into ≡ take (length into) (drop (place + 9) seen) = read ∙ ap (λ n. take n (drop (place + 9) seen)) (sym long) in
-    let whole = take_at into (drop (length into) c.in_ok-payload.payload.items) c.in_ok-payload.payload.len (long ∙ sym c.in_ok-payload.ensures.len) in
+    let long : length payload ≡ count = ap length read ∙ length-take-le count (drop (place + 9) seen) (omega (arith, room, length-drop (place + 9) seen)) in
+    let taken : payload ≡ take (length payload) (drop (place + 9) seen) = read ∙ ap (λ n. take n (drop (place + 9) seen)) (sym long) in
     let spells = ap length_bytes long ∙ c.length_in-count.ensures.spelling in
-    subst (λ (l : List ℕ). HasRecord place l seen) (sym whole)
-    (record_is place seen c.read.new.into c.read-2.new.into into c.in_ok-read.ensures.bytes c.if-gate-ne-OPEN.false spelled spells taken (omega (arith, long, room)) (omega (arith, long, room, g.met.D.Disk.bounded c.args.disk.now)))
+    record_is place seen c.read.new.into c.read-2.new.into payload c.in_ok-read.ensures.bytes c.if-gate-ne-OPEN.false spelled spells taken (omega (arith, long, room)) (omega (arith, long, room, g.met.D.Disk.bounded c.args.disk.now))

@@ -1,0 +1,73 @@
+-- The records of a store stand one behind the other, so those that two stores begin with end at one place.
+use Rattle.std.proofs.Common.{◌≡◌, ℕ, ◌+◌, ◌^◌, ◌<◌, List, [], ◌∷◌, ◌++◌, length, take, drop, refl, sym, ◌∙◌, ap, subst, arith, append_assoc, length-append, append-nil}
+use Rattle.std.specs.Prelude.{Ok, Result, All}
+use Rattle.std.proofs.lemmas.List.{take_at, drop_at, drop-drop}
+use Rattle.std.proofs.lemmas.List.Elements.{All-head, All-tail, All-take}
+use Rattle.disk_model.specs.Disk.{DiskState}
+use Rattle.redo_store.specs.declared.redo.Redo.{Redo}
+use Rattle.redo_store.specs.Records.{magic, length_bytes, records_of, spelling_of}
+use Rattle.redo_store.specs.Redo.{CanAppend, tail_of}
+use Rattle.redo_store.specs.Store.{IsStore}
+use Rattle.redo_store.specs.Gate.{HasRecord}
+use Rattle.redo_store.specs.Walk.{StandsBehind}
+use Rattle.redo_store.proofs.Grammar.{length-length_bytes}
+use Rattle.redo_store.proofs.Gates.{reads}
+use Rattle.redo_store.proofs.Walking.{walk_on, walk_start}
+
+abbrev IsShort : List ℕ → Type 0
+IsShort payload = length payload < 2 ^ 64
+
+-- from a gate over the records that are spelled there, behind which more bytes stand
+walk_over : (image : List ℕ) (place : ℕ) (before done : List (List ℕ)) (gate : ℕ) (rest : List ℕ) → StandsBehind place before image → All IsShort done → drop place image ≡ spelling_of done ++ gate ∷ rest
+    → StandsBehind (place + length (spelling_of done)) (before ++ done) image
+walk_over image place before [] gate rest stands short bytes =
+    subst (λ (at : ℕ). StandsBehind at (before ++ []) image) (omega arith) (subst (λ (l : List (List ℕ)). StandsBehind place l image) (sym (append-nil before)) stands)
+walk_over image place before (payload ∷ done) gate rest stands short bytes =
+    let n = length payload in
+    let spelling = 1 ∷ length_bytes n ++ payload in
+    let behind = spelling_of done ++ gate ∷ rest in
+    let long : length spelling ≡ 9 + n = omega (arith, length-append (1 ∷ length_bytes n) payload, length-length_bytes n) in
+    let apart : drop place image ≡ spelling ++ behind = bytes ∙ append_assoc spelling (spelling_of done) (gate ∷ rest) in
+    let one : HasRecord place payload image = record { rest = behind; bytes = apart; more = omega (arith, length-append (spelling_of done) (gate ∷ rest)); short = All-head IsShort payload done short } in
+    let next : drop (place + (9 + n)) image ≡ behind = sym (drop-drop (9 + n) place image) ∙ ap (drop (9 + n)) apart ∙ drop_at spelling behind (9 + n) long in
+    let on = walk_over image (place + (9 + n)) (before ++ payload ∷ []) done gate rest (walk_on image place before payload stands one) (All-tail IsShort payload done short) next in
+    subst (λ (at : ℕ). StandsBehind at (before ++ payload ∷ done) image) (omega (arith, long, length-append spelling (spelling_of done)))
+    (subst (λ (l : List (List ℕ)). StandsBehind (place + (9 + n) + length (spelling_of done)) l image) (append_assoc before (payload ∷ []) done) on)
+
+spelling_of-append : (a b : List (List ℕ)) → spelling_of (a ++ b) ≡ spelling_of a ++ spelling_of b
+spelling_of-append [] b = refl
+spelling_of-append (payload ∷ a) b =
+    ap (λ (l : List ℕ). (1 ∷ length_bytes (length payload) ++ payload) ++ l) (spelling_of-append a b) ∙ sym (append_assoc (1 ∷ length_bytes (length payload) ++ payload) (spelling_of a) (spelling_of b))
+
+-- behind the first records stands the closed gate, or the gate of the next one
+gate_behind : (more : List (List ℕ)) (gate : ℕ) (rest : List ℕ) → (g : ℕ) × ((r : List ℕ) × (spelling_of more ++ gate ∷ rest ≡ g ∷ r))
+gate_behind [] gate rest = (gate, (rest, refl))
+gate_behind (payload ∷ more) gate rest = (1, (length_bytes (length payload) ++ payload ++ spelling_of more ++ gate ∷ rest, refl))
+
+front_short : (done more : List (List ℕ)) → All IsShort (done ++ more) → All IsShort done
+front_short done more short = subst (λ (l : List (List ℕ)). All IsShort l) (take_at done more (length done) refl) (All-take IsShort (length done) (done ++ more) short)
+
+stands_first : (tail : ℕ) (image : List ℕ) (w : IsStore tail image) (done more : List (List ℕ)) → w.records ≡ done ++ more → StandsBehind (8 + length (spelling_of done)) done image
+stands_first tail image w done more is =
+    let next = gate_behind more w.gate w.rest in
+    let all : image ≡ magic ++ (spelling_of done ++ next.0 ∷ next.1.0) =
+    w.bytes
+    ∙ ap (λ (r : List (List ℕ)). (magic ++ spelling_of r) ++ w.gate ∷ w.rest) is
+    ∙ ap (λ (l : List ℕ). (magic ++ l) ++ w.gate ∷ w.rest) (spelling_of-append done more)
+    ∙ append_assoc magic (spelling_of done ++ spelling_of more) (w.gate ∷ w.rest)
+    ∙ ap (λ (l : List ℕ). magic ++ l) (append_assoc (spelling_of done) (spelling_of more) (w.gate ∷ w.rest))
+    ∙ ap (λ (l : List ℕ). magic ++ (spelling_of done ++ l)) next.1.1 in
+    let begins : take 8 image ≡ magic = ap (take 8) all ∙ take_at magic (spelling_of done ++ next.0 ∷ next.1.0) 8 refl in
+    let behind : drop 8 image ≡ spelling_of done ++ next.0 ∷ next.1.0 = ap (drop 8) all ∙ drop_at magic (spelling_of done ++ next.0 ∷ next.1.0) 8 refl in
+    walk_over image 8 [] done next.0 next.1.0 (walk_start image begins) (front_short done more (subst (λ (r : List (List ℕ)). All IsShort r) is w.lengths)) behind
+
+read_is : (r : Result (List (List ℕ)) ℕ) (a b : List (List ℕ)) → r ≡ Ok a → r ≡ Ok b → a ≡ b
+read_is r a b here there = let e : ◌≡◌ {A = Result (List (List ℕ)) ℕ} (Ok a) (Ok b) = sym here ∙ there in cc
+
+-- the records of one store end where those that another begins with do
+pub stands_over : (store : Redo) (disk : DiskState) → CanAppend store disk → (tail : ℕ) (other : List ℕ) → IsStore tail other → (done more : List (List ℕ)) → records_of disk.now.seen ≡ Ok done → records_of other ≡ Ok (done ++ more)
+    → StandsBehind (tail_of store) done other
+stands_over store disk ready tail other w done more here there =
+    let own = read_is (records_of disk.now.seen) ready.store.records done (reads store.tail disk.now.seen ready.store) here in
+    subst (λ (at : ℕ). StandsBehind at done other) (sym (ready.store.at_tail ∙ ap (λ (r : List (List ℕ)). 8 + length (spelling_of r)) own))
+    (stands_first tail other w done more (read_is (records_of other) w.records (done ++ more) (reads tail other w) there))
