@@ -1,6 +1,6 @@
 //! Calls: what a client submits at once.
 ghost use Rattle.std.specs.Prelude.{◌≡◌, length, false, true, IfOk, IsErrOf, ◌↔◌, ◌≤◌};
-ghost use Rattle.svc_values.specs.Calls.{has_commit, is_lone_commit, is_made, IsMade};
+ghost use Rattle.svc_values.specs.Calls.{has_commit, is_lone_commit, IsMade};
 
 use crate::memory::{NoMemory, TryCopy};
 use crate::statement::Statements;
@@ -60,19 +60,6 @@ impl Call {
         Ok(Call::Work { statements, commit })
     }
 
-    /// Whether it is a call that `Call::work` makes, or no work call.
-    pub fn is_made(&self) -> bool
-        ensures { result ≡ is_made self.now }
-    {
-        match self {
-            Call::Work { statements, commit } => {
-                let length = statements.len() + usize::from(*commit);
-                1 <= length && length <= 8
-            }
-            _ => true,
-        }
-    }
-
     /// Whether it ends with a commit.
     pub fn has_commit(&self) -> bool
         ensures { result ≡ has_commit self.now }
@@ -99,7 +86,7 @@ impl TryCopy for Call {
                 commit: *commit,
             }),
             Call::Set { name, value } => Ok(Call::Set {
-                name: name.copy(alloc)?,
+                name: name.copied(),
                 value: value.copy(alloc)?,
             }),
             Call::Alter { line } => Ok(Call::Alter {

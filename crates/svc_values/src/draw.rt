@@ -29,9 +29,9 @@ pub enum Draw {
 pub type Draws = Listed<Draw>;
 
 impl TryCopy for DrawKind {
-    fn copy(&self, alloc: Global) -> Result<DrawKind, NoMemory> {
+    fn copy(&self, _alloc: Global) -> Result<DrawKind, NoMemory> {
         match self {
-            DrawKind::Seq(name) => Ok(DrawKind::Seq(name.copy(alloc)?)),
+            DrawKind::Seq(name) => Ok(DrawKind::Seq(name.copied())),
             DrawKind::Clock => Ok(DrawKind::Clock),
             DrawKind::Id => Ok(DrawKind::Id),
         }
@@ -39,10 +39,10 @@ impl TryCopy for DrawKind {
 }
 
 impl TryCopy for Draw {
-    fn copy(&self, alloc: Global) -> Result<Draw, NoMemory> {
+    fn copy(&self, _alloc: Global) -> Result<Draw, NoMemory> {
         match self {
             Draw::Seq { name, value } => Ok(Draw::Seq {
-                name: name.copy(alloc)?,
+                name: name.copied(),
                 value: *value,
             }),
             Draw::Clock { tick } => Ok(Draw::Clock { tick: *tick }),

@@ -112,7 +112,7 @@ impl TryCopy for Write {
             Some(row) => Some(row.copy(alloc)?),
         };
         Ok(Write {
-            table: self.table.copy(alloc)?,
+            table: self.table.copied(),
             key: self.key.copy(alloc)?,
             row,
         })

@@ -122,9 +122,9 @@ impl Schema {
 }
 
 impl TryCopy for Column {
-    fn copy(&self, alloc: Global) -> Result<Column, NoMemory> {
+    fn copy(&self, _alloc: Global) -> Result<Column, NoMemory> {
         Ok(Column {
-            name: self.name.copy(alloc)?,
+            name: self.name.copied(),
             kind: self.kind,
         })
     }
@@ -133,7 +133,7 @@ impl TryCopy for Column {
 impl TryCopy for Schema {
     fn copy(&self, alloc: Global) -> Result<Schema, NoMemory> {
         Ok(Schema {
-            name: self.name.copy(alloc)?,
+            name: self.name.copied(),
             columns: self.columns.copy(alloc)?,
         })
     }

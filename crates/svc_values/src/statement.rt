@@ -104,7 +104,7 @@ impl TryCopy for Operand {
     fn copy(&self, alloc: Global) -> Result<Operand, NoMemory> {
         match self {
             Operand::Lit(value) => Ok(Operand::Lit(value.copy(alloc)?)),
-            Operand::Var(name) => Ok(Operand::Var(name.copy(alloc)?)),
+            Operand::Var(name) => Ok(Operand::Var(name.copied())),
             Operand::Draw(kind) => Ok(Operand::Draw(kind.copy(alloc)?)),
         }
     }
@@ -123,7 +123,7 @@ impl TryCopy for Statement {
     fn copy(&self, alloc: Global) -> Result<Statement, NoMemory> {
         match self {
             Statement::Insert { table, values } => Ok(Statement::Insert {
-                table: table.copy(alloc)?,
+                table: table.copied(),
                 values: values.copy(alloc)?,
             }),
             Statement::Update {
@@ -132,17 +132,17 @@ impl TryCopy for Statement {
                 column,
                 change,
             } => Ok(Statement::Update {
-                table: table.copy(alloc)?,
+                table: table.copied(),
                 key: key.copy(alloc)?,
-                column: column.copy(alloc)?,
+                column: column.copied(),
                 change: change.copy(alloc)?,
             }),
             Statement::Delete { table, key } => Ok(Statement::Delete {
-                table: table.copy(alloc)?,
+                table: table.copied(),
                 key: key.copy(alloc)?,
             }),
             Statement::Get { table, key } => Ok(Statement::Get {
-                table: table.copy(alloc)?,
+                table: table.copied(),
                 key: key.copy(alloc)?,
             }),
             Statement::Select {
@@ -151,17 +151,17 @@ impl TryCopy for Statement {
                 test,
                 operand,
             } => Ok(Statement::Select {
-                table: table.copy(alloc)?,
-                column: column.copy(alloc)?,
+                table: table.copied(),
+                column: column.copied(),
                 test: *test,
                 operand: operand.copy(alloc)?,
             }),
             Statement::Count { table } => Ok(Statement::Count {
-                table: table.copy(alloc)?,
+                table: table.copied(),
             }),
             Statement::Sum { table, column } => Ok(Statement::Sum {
-                table: table.copy(alloc)?,
-                column: column.copy(alloc)?,
+                table: table.copied(),
+                column: column.copied(),
             }),
             Statement::Show { operand } => Ok(Statement::Show {
                 operand: operand.copy(alloc)?,

@@ -28,7 +28,7 @@ pub enum Place {
 impl TryCopy for PlainRow {
     fn copy(&self, alloc: Global) -> Result<PlainRow, NoMemory> {
         Ok(PlainRow {
-            table: self.table.copy(alloc)?,
+            table: self.table.copied(),
             key: self.key.copy(alloc)?,
             row: self.row.copy(alloc)?,
         })
@@ -39,11 +39,11 @@ impl TryCopy for Place {
     fn copy(&self, alloc: Global) -> Result<Place, NoMemory> {
         match self {
             Place::Row { table, key } => Ok(Place::Row {
-                table: table.copy(alloc)?,
+                table: table.copied(),
                 key: key.copy(alloc)?,
             }),
             Place::Table { table } => Ok(Place::Table {
-                table: table.copy(alloc)?,
+                table: table.copied(),
             }),
         }
     }

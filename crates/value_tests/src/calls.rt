@@ -11,9 +11,9 @@ fn work_calls_have_one_to_eight_parts(rt: HostRuntime) {
     let overfull = Call::work(counts(&rt, rt.alloc(), 8), true);
     assert!(rt; matches!(overfull, Err(CallFault::TooMany)));
     let full = Call::work(counts(&rt, rt.alloc(), 8), false).expect(&rt, "a call");
-    assert!(rt; full.is_made() && !full.has_commit() && !full.is_lone_commit());
+    assert!(rt; !full.has_commit() && !full.is_lone_commit());
     let alone = Call::work(counts(&rt, rt.alloc(), 0), true).expect(&rt, "a call");
-    assert!(rt; alone.is_made() && alone.has_commit() && alone.is_lone_commit());
+    assert!(rt; alone.has_commit() && alone.is_lone_commit());
 }
 
 #[test]

@@ -1,5 +1,5 @@
 use crate::makers::name;
-use svc_values::{Ltxid, Name, NameFault, Octets, Text, TextFault, has_name};
+use svc_values::{Ltxid, Name, NameFault, Octets, Text, TextFault, TryCopy, has_name};
 
 #[test]
 fn names_keep_to_their_letters(rt: HostRuntime) {
@@ -21,6 +21,13 @@ fn names_keep_to_their_letters(rt: HostRuntime) {
         let made = Name::new(rt.alloc(), text);
         assert!(rt; matches!(made, Err(NameFault::BadName)), "{text}");
     }
+}
+
+#[test]
+fn a_name_is_copied_where_it_lies(rt: HostRuntime) {
+    let copied = name(&rt, rt.alloc(), "z234567890123456").copied();
+    assert_eq!(rt; copied.as_str(), "z234567890123456");
+    assert!(rt; copied.copy(rt.alloc()).is_ok_and(|copy| copy == copied));
 }
 
 #[test]
