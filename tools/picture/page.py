@@ -29,14 +29,15 @@ def page(document, report, first=1, last=None):
     last = last_drawn(run, first, last)
     schedule = len(document.get("schedule", []))
     rows, columns = arrange(run, (schedule, first, last))
-    sheets = Sheets(rows, columns, Drawing(run, rows, columns))
     title, met = headline(run)
+    seen = [request for request in met if request.first <= last and (request.last or last) >= first]
+    sheets = Sheets(rows, columns, Drawing(run, rows, columns), min(len(seen), STORIES))
     lanes = clean(json.dumps(sheets.lanes(), separators=(",", ":")))
     return f"""<!DOCTYPE html>
 <html lang="en"><head><meta charset="utf-8"/><meta name="viewport" content="width=device-width"/>
 <title>{clean(title)}</title><style>{part("style.css")}@media print{{@page{{size:{sheets.paper}}}}}</style></head><body>
 <svg width="0" height="0" class="defs"><defs>{definitions()}</defs></svg>
-<header><h1>{clean(title)}</h1>{stories(run, met, rows)}
+<header><h1>{clean(title)}</h1>{stories(run, seen, len(met), rows)}
 <p class="note">{summary(run, document, report)} Time goes down. {KEYS} <a href="#verdict">The verdict</a> is at the
 end.</p>{window(run, first, last)}{explained(sheets.drawing.seen, len(rows.row_of) == len(run.events))}</header>
 <nav><label>Find <input type="search" id="search" placeholder="client 2, session (1,2) or [1,2,0]"/></label>
@@ -64,12 +65,11 @@ def explained(seen, whole):
     return f'<details{unfolded}><summary>Legend</summary><ul class="legend">{legend(seen)}</ul></details>'
 
 
-def stories(run, met, rows):
-    """A sentence for each of these requests that the window has a part of."""
+def stories(run, seen, met, rows):
+    """A sentence for each of these requests, of which the window has a part; so many met an outage or an error."""
     several = any(request.place for request in run.requests)
-    seen = [request for request in met if request.first <= rows.last and (request.last or rows.last) >= rows.first]
     items = [f"<li>{linked(clean(story(request, several, run.stored)), rows)}.</li>" for request in seen[:MOST_STORIES]]
-    rest = len(met) - len(items)
+    rest = met - len(items)
     if rest:
         items.append(f"<li>{words.plural(rest, 'more request')} met an outage or an error, most of them outside of the "
                      "events that are drawn.</li>")

@@ -9,28 +9,34 @@ from .shapes import text
 
 LANDSCAPE = 1000    # the width from which on a picture is printed across
 RATIOS = {"landscape": 0.64, "portrait": 1.26}     # of a sheet's height to its width, on A4 and on letter
+# What stands on paper above the first sheet, by the page's width: without sentences, and for each of them.
+ABOVE = {"landscape": (0.2, 0.055), "portrait": (0.28, 0.09)}
 HEAD = 44           # the height of a sheet's head: what a column has, and whose it is there
 GROUP_LINE, NAME_LINE = 17, 36
 HEADING = 175       # the width of the longest heading
 
 
 class Sheets:
-    def __init__(self, rows, columns, drawing):
+    def __init__(self, rows, columns, drawing, sentences=0):
+        """For a page that has so many sentences above the picture."""
         self.rows, self.columns, self.drawing = rows, columns, drawing
         self.sides = (("left", rows.width), ("right", columns.width))
         width = rows.width + columns.width
         self.paper = "landscape" if width >= LANDSCAPE else "portrait"
-        self.cuts = self.cut(RATIOS[self.paper] * width - HEAD)
+        tallest = RATIOS[self.paper] * width - HEAD
+        empty, each = ABOVE[self.paper]
+        first = tallest - width * (empty + each * sentences)
+        self.cuts = self.cut(first if first > tallest / 3 else tallest, tallest)
 
-    def cut(self, tallest):
-        """(the place of its first row, its top) of each sheet, and of the end. A sheet is not taller than this, unless
-        one row is."""
+    def cut(self, first, tallest):
+        """(the place of its first row, its top) of each sheet, and of the end. The first sheet and the others are not
+        taller than this, unless one row is."""
         rows = self.rows
         starts = [rows.tops[group[0].number] - (BAND if group[0].number == rows.finish else 0) for group in rows.groups]
         starts = [0] + starts[1:] + [rows.height]
         cuts = [(0, 0)]
         for at in range(1, len(rows.groups)):
-            if starts[at + 1] - cuts[-1][1] > tallest:
+            if starts[at + 1] - cuts[-1][1] > (first if len(cuts) == 1 else tallest):
                 cuts.append((at, starts[at]))
         return cuts + [(len(rows.groups), rows.height)]
 

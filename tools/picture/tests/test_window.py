@@ -49,10 +49,10 @@ class Window(unittest.TestCase):
 
 
 class Names(unittest.TestCase):
-    def sheets(self, run, plan=None):
+    def sheets(self, run, plan=None, sentences=0):
         followed_run, rows, columns = arranged(run)
         columns = Columns(followed_run, rows, plan) if plan else columns
-        return Sheets(rows, columns, Drawing(followed_run, rows, columns))
+        return Sheets(rows, columns, Drawing(followed_run, rows, columns), sentences)
 
     @of_each_run
     def test_each_lane_has_a_name_where_something_stands_in_it(self, run):
@@ -66,9 +66,14 @@ class Names(unittest.TestCase):
         text = drawn(SHOP)[0]
         heads = [re.findall(r'lane">([^<]*)<', head) for head in re.findall(r'head again">(.*?)</div>', text)]
         self.assertIn("conn 1", heads[0])
-        self.assertNotIn("conn 1", heads[1])
-        self.assertIn("conn 4", heads[1])
+        self.assertNotIn("conn 1", heads[-1])
+        self.assertTrue(any("conn 4" in head for head in heads[1:]))
         self.assertTrue(all(head[-1] == "store" for head in heads))
+
+    def test_the_first_sheet_leaves_room_for_the_sentences_above_it(self):
+        ends = [self.sheets(SHOP, sentences=sentences).cuts[1][1] for sentences in range(7)]
+        self.assertGreater(ends[0], ends[3])
+        self.assertGreater(ends[6], ends[0])    # so many leave none: the sheet has its own page
 
     def test_the_script_is_told_of_each_column(self):
         sheets = self.sheets(SHOP)
