@@ -1,5 +1,4 @@
 mod Beginning
-mod Completeness
 mod Documents
 mod Headlines
 mod Images
