@@ -1,5 +1,6 @@
 mod Derived
 mod Endings
+mod KeyLookups
 mod Local
 pub mod Offered
 mod RowOrder

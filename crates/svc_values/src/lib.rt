@@ -9,6 +9,7 @@ mod draw;
 mod ending;
 mod entry;
 mod frame;
+mod keys;
 pub mod laws;
 mod list;
 mod memory;
@@ -25,6 +26,7 @@ pub use draw::{Draw, DrawKind, Draws, is_of_kind, is_there};
 pub use ending::{ends_committed, ends_conflict, ends_transaction};
 pub use entry::{Entry, Ltxid, Piece, Pieces, SessionId, Write, Writes};
 pub use frame::{Ahead, Down, Up};
+pub use keys::{KeyMap, KeySet};
 pub use list::{Limited, ListFault, Listed, copies};
 pub use memory::{NoMemory, TryCopy};
 pub use schema::{
