@@ -1,0 +1,7 @@
+mod Clients
+mod CoverForm
+mod Covering
+mod Facts
+mod Replied
+mod Walking
+mod Written
