@@ -44,7 +44,7 @@ use Rattle.shown_clauses.specs.Fronts.{first_item, rest_items}
 use Rattle.shown_clauses.specs.Steps.{Step}
 use Rattle.shown_clauses.specs.Reasons.{keeps_settings}
 use Rattle.shown_clauses.specs.Facts.{Course, after_showing, answers_shown, facts_at, shown_fact, submits, submitted_fact}
-use Rattle.shown_clauses.specs.Causes.{AtOutcome, at_outcome, ended_of, is_set_shown, line_at, outcome_lines, outcomes_of, says_uncommitted, state_lost_line}
+use Rattle.shown_clauses.specs.Causes.{AtOutcome, at_outcome, ended_of, is_set_shown, line_at, outcomes_of, says_uncommitted, state_lost_line}
 use Rattle.shown_clauses.specs.Causes as causes
 use Rattle.caused_laws.specs.ServiceTerms.{kind_of}
 use Rattle.caused_laws.proofs.Agreeing.{first-drop, or_false, same_set}

@@ -23,7 +23,6 @@ use Rattle.outage_schedule.specs.declared.failure.Reason.TheVariants as reason
 use Rattle.client_model.specs.Terms.{Terms}
 use Rattle.client_model.specs.Account.{reply_reason, since_after}
 use Rattle.client_model.specs.Reasons.{rules_of}
-use Rattle.run_clauses.specs.Reports.{shown_call}
 use Rattle.run_clauses.specs.Reports as report
 use Rattle.shown_clauses.specs.Fronts.{first_item}
 use Rattle.shown_clauses.specs.Turns.{ends_decided}

@@ -30,7 +30,7 @@ use Rattle.client_model.specs.Talk.{fails, next_call, on_told}
 use Rattle.client_model.specs.Account.{Account, Outcome as Heard, count_uncommitted as heard_uncommitted, hears, hears_outcome, after_step}
 use Rattle.client_model.specs.Reasons.{rules_of}
 use Rattle.client_model.proofs.Offered.{Tracked}
-use Rattle.run_clauses.specs.Reports.{failure_of, told_outcome}
+use Rattle.run_clauses.specs.Reports.{told_outcome}
 use Rattle.run_clauses.specs.Reports as report
 use Rattle.shown_clauses.specs.Steps.{Step}
 use Rattle.shown_clauses.specs.Causes.{AtOutcome, at_outcome, disabled_if, ended_of, line_at, outcome_lines, outcomes_of, says_uncommitted, timeout_by}

@@ -1,4 +1,3 @@
-ghost use Rattle.std.specs.Prelude.{◌≡◌};
 ghost use Rattle.svc_values.specs.Calls.{IsMade};
 
 use auto_bounds::AutoRule;

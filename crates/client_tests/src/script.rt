@@ -1,5 +1,4 @@
 //! Calls of the conversations, by short names.
-ghost use Rattle.std.specs.Prelude.{◌≡◌};
 ghost use Rattle.svc_values.specs.Calls.{IsMade};
 
 use crate::names::{name, text, who};

@@ -1,5 +1,5 @@
 //! That it makes no difference how the bytes of a stream are cut.
-ghost use Rattle.std.specs.Prelude.{◌≡◌, ◌≢◌, List, [], ℕ, ◌++◌, Option, None, Result, Err};
+ghost use Rattle.std.specs.Prelude.{◌≡◌, ◌≢◌, List, [], ℕ, ◌++◌, Option, Result, Err};
 ghost use Rattle.frame_wire.specs.declared.feed.FrameFault.{FrameFault};
 ghost use Rattle.frame_wire.specs.declared.feed.FrameFault.TheVariants.{NoMemory};
 ghost use Rattle.frame_wire.specs.Stream.{Pending, nothing_pending, HasNoFrame, IsNext};

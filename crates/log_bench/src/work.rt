@@ -1,5 +1,5 @@
 //! The work itself.
-ghost use Rattle.std.specs.Prelude.{◌≡◌, ◌≤◌, ◌^◌, [], IfOk, ℕ, Ok};
+ghost use Rattle.std.specs.Prelude.{◌≤◌, ◌^◌, IfOk, Ok};
 ghost use Rattle.canon_bytes.specs.Entries.{IsMadeEntry};
 ghost use Rattle.commit_log.specs.Bases.{IsBase};
 ghost use Rattle.commit_log.specs.Logs.{CanLog};

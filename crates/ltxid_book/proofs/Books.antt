@@ -1,12 +1,11 @@
 -- What a book says after one of its sessions is put.
-use Rattle.std.proofs.Common.{◌≡◌, ◌≤◌, ℕ, ◌+◌, ◌==◌, Bool, true, false, List, if◌then◌else◌, refl, sym, ap, ◌∙◌, arith}
+use Rattle.std.proofs.Common.{◌≡◌, ◌≤◌, ℕ, ◌+◌, ◌==◌, Bool, true, false, List, if◌then◌else◌, ap, ◌∙◌, arith}
 use Rattle.std.specs.Prelude.{nat_lt}
 use Rattle.std.proofs.lemmas.Bool.Decides.{nat_tests}
 use Rattle.svc_values.specs.declared.entry.Ltxid.{Ltxid}
 use Rattle.svc_values.specs.Identifiers.{is_of}
 use Rattle.ltxid_book.specs.declared.State.{State}
 use Rattle.ltxid_book.specs.Sessions.{Contents, Sessions, state_in, sessions_in, known_from, with_state}
-use Rattle.ltxid_book.specs.Journal.{Committed}
 use Rattle.ltxid_book.specs.InnerMaking.{counted, marked}
 use Rattle.ltxid_book.proofs.Known.{known_with}
 

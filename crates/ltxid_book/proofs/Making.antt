@@ -1,7 +1,6 @@
 -- A book that is made from a journal, commit by commit and then block by block.
 use Rattle.std.proofs.Common.{◌≡◌, ◌≤◌, ℕ, ◌+◌, ◌==◌, ◌&&◌, ◌||◌, Bool, true, false, List, [], ◌∷◌, ◌++◌, length, filter, if◌then◌else◌, refl, sym, ap, ◌∙◌, arith, length-append}
 use Rattle.std.specs.Prelude.{nat_lt}
-use Rattle.std.proofs.lemmas.Bool.Decides.{nat_tests}
 use Rattle.std.proofs.Math.Bool.{or-true, or-false}
 use Rattle.svc_values.specs.declared.entry.Ltxid.{Ltxid}
 use Rattle.svc_values.specs.Identifiers.{is_of, same_ltxid}
@@ -10,7 +9,7 @@ use Rattle.ltxid_book.specs.Sessions.{untouched, with_state}
 use Rattle.ltxid_book.specs.Journal.{Committed, commits_of, last_completed, is_blocked, next_ltxid, state_of, book_of}
 use Rattle.ltxid_book.specs.InnerMaking.{counted, marked}
 use Rattle.ltxid_book.proofs.Known.{known_with, known_alike, known_step, apart}
-use Rattle.ltxid_book.proofs.Journal.{Parts, parts_of, state_parts, is_blocked-push, commits_of-same, commits_of-push, last_completed-push}
+use Rattle.ltxid_book.proofs.Journal.{parts_of, state_parts, is_blocked-push, commits_of-same, commits_of-push, last_completed-push}
 
 one_or_none : (b : Bool) (c : Committed) (l : List Committed) (n : ℕ) → length l ≤ n → length (if b then c ∷ l else l) ≤ n + 1
 one_or_none true c l n le = omega (arith, le)

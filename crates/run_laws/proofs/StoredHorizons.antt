@@ -8,7 +8,7 @@ use Rattle.outage_schedule.specs.declared.item.Served.{Served}
 use Rattle.outage_schedule.specs.declared.note.Note.{Note}
 use Rattle.outage_schedule.specs.declared.note.Note.TheVariants as notes
 use Rattle.outage_schedule.specs.declared.report.Report.{Report}
-use Rattle.run_clauses.specs.Horizons.{after_note, wanted_horizon, horizon_at, last_horizon, incarnation_after, incarnation_behind, last_incarnation}
+use Rattle.run_clauses.specs.Horizons.{after_note, wanted_horizon, horizon_at, last_horizon, incarnation_after, incarnation_behind}
 use Rattle.server_model.specs.Seen.{Store, Seen}
 use Rattle.world_model.specs.Coupled.{Coupled}
 use Rattle.world_model.specs.FinishEnds.{is_at_server}

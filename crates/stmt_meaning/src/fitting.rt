@@ -1,6 +1,6 @@
 //! Whether rows and writes fit what is declared, and stand in order.
 ghost use Rattle.std.specs.Prelude.{◌≡◌, ◌↔◌, IsTrue, Some};
-ghost use Rattle.svc_values.specs.Fitting.{has_fit, is_row_of as is_row_of_def, tables_fit as tables_fit_def, write_fits as write_fits_def};
+ghost use Rattle.svc_values.specs.Fitting.{is_row_of as is_row_of_def, tables_fit as tables_fit_def, write_fits as write_fits_def};
 ghost use Rattle.svc_values.specs.Schemas.{key_of, schema_of as schema_of_def};
 ghost use Rattle.svc_values.specs.Same.{same_value};
 ghost use Rattle.svc_values.specs.Tables.{AreTables};

@@ -1,5 +1,5 @@
 //! Draws from a list.
-ghost use Rattle.std.specs.Prelude.{◌≡◌, ◌∷◌, length};
+ghost use Rattle.std.specs.Prelude.{◌≡◌, length};
 ghost use Rattle.stmt_meaning.specs.Drawing.{HasDrawn, is_first as is_first_def};
 ghost use Rattle.stmt_meaning.specs.Listed.{Listing, TakesFirst, TakesFront, listed};
 

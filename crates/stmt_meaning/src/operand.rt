@@ -1,5 +1,5 @@
 //! Operands: the order in which they are read, and what they stand for.
-ghost use Rattle.std.specs.Prelude.{◌≡◌, ◌<◌, ◌≤◌, IfOk, IsSome, option_copied, slice_get, length};
+ghost use Rattle.std.specs.Prelude.{◌≡◌, ◌<◌, IfOk, IsSome, option_copied, slice_get};
 ghost use Rattle.stmt_meaning.specs.Operands.{drawn_value as drawn_value_def};
 ghost use Rattle.svc_values.specs.Calls.{operands_of, operand_of};
 

@@ -1,11 +1,7 @@
 //! What is asked of a whole table, row after row.
-ghost use Rattle.std.specs.Prelude.{◌≡◌, ◌++◌, ◌∷◌, [], List, IfOk, OnOk, IsTrue, option_copied, length, fold, ◌<◌};
-ghost use Rattle.std.specs.Ordering.{match_ordering};
+ghost use Rattle.std.specs.Prelude.{◌≡◌, ◌++◌, ◌∷◌, [], List, IfOk, IsTrue, length, fold, ◌<◌};
 ghost use Rattle.svc_values.specs.declared.value.Value.{Value as Kept};
-ghost use Rattle.svc_values.specs.Order.{value_cmp};
-ghost use Rattle.stmt_meaning.specs.declared.plan.TableWork.{TableWork as Work};
-ghost use Rattle.svc_values.specs.Tests.{meets as meets_def, value_meets as value_meets_def};
-ghost use Rattle.stmt_meaning.specs.Effects.{number_at as number_at_def, summed as summed_def};
+ghost use Rattle.stmt_meaning.specs.Effects.{summed as summed_def};
 ghost use Rattle.stmt_meaning.specs.InnerScans.{scanned, next_scan, last_answer, is_settled as is_settled_def};
 
 use crate::effect::number_at;

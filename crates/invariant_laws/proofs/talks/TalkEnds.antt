@@ -27,7 +27,7 @@ use Rattle.client_model.specs.declared.input.Input.TheVariants.{Start, Waiting, 
 use Rattle.client_model.specs.States.{Living, Losing, Asking, Repeating, resumed, next_of}
 use Rattle.client_model.specs.Talk.{Step, stands, quiet, fails, with_tried, lost_of, begin_of, talk_shown, with_shown, next_call, sends_call, sends_or_ends, on_hello, on_reply, sends_marked, on_compared, on_repeated, after_completed, on_completed, on_told, takes, waits_from, talk_step}
 use Rattle.client_model.specs.Terms.{Terms, Talk, Phase, Queued, Seeking, Greeting, Asked, Running, Replaying, unsubmitted}
-use Rattle.client_model.specs.Told.{Told, over, completed_on, repeated, is_late, uncommitted, told_of}
+use Rattle.client_model.specs.Told.{over, completed_on, repeated, is_late, uncommitted, told_of}
 use Rattle.client_model.specs.Told as told
 use Rattle.client_model.specs.Verifying.{verified_more, mismatch, submitted}
 use Rattle.invariant_laws.proofs.talks.TalkFails.{lets_may, may_fail, no_hello, taken_fails, told_to}

@@ -21,7 +21,7 @@ use Rattle.client_model.specs.declared.act.Shown.{Shown}
 use Rattle.client_model.specs.declared.input.Input.{Input}
 use Rattle.client_model.specs.declared.input.Input.TheVariants.{Start, Waiting, Lent, Opened, TryFailed, Took, Gone}
 use Rattle.client_model.specs.Told as told
-use Rattle.client_model.specs.Told.{Told, over, completed_on, repeated, is_late, uncommitted, told_of}
+use Rattle.client_model.specs.Told.{over, completed_on, repeated, is_late, uncommitted, told_of}
 use Rattle.client_model.specs.States.{Living, Asking, Repeating, resumed, next_of}
 use Rattle.client_model.specs.Verifying.{verified_more, mismatch, submitted}
 use Rattle.client_model.specs.Terms.{Terms, Talk, Phase, Idle, Unbegun, Queued, Seeking, Greeting, Asked, Running, Replaying, unsubmitted}

@@ -1,7 +1,5 @@
-use Rattle.std.proofs.Common.{◌≡◌, ℕ, ◌≤◌, ◌==◌, ◌&&◌, Bool, true, List, ap, ◌∙◌, refl, arith, filter, rules}
+use Rattle.std.proofs.Common.{ℕ, filter, rules}
 use Rattle.std.specs.Prelude.{nat_le}
-use Rattle.std.proofs.lemmas.Bool.Decides.{nat_tests}
-use Rattle.std.proofs.lemmas.Map.Entries.{lookup-filter-keys}
 use Rattle.std.proofs.lemmas.Map.Made.{filter_same_pairs}
 use Rattle.ltxid_book.specs.declared.State.{State}
 use Rattle.ltxid_book.proofs.Lookups.{state_in-filter}

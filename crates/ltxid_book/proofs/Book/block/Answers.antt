@@ -1,4 +1,4 @@
-use Rattle.std.proofs.Common.{◌≡◌, IsTrue, true, sym, ap, subst, ◌∙◌}
+use Rattle.std.proofs.Common.{IsTrue, true, sym, ap, subst, ◌∙◌}
 use Rattle.ltxid_book.specs.declared.State.{State}
 use Rattle.ltxid_book.specs.Sessions.{Contents, state_in, sessions_in, may_commit, with_state}
 use Rattle.ltxid_book.proofs.Lookups.{state_in-put}

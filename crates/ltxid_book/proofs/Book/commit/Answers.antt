@@ -1,4 +1,4 @@
-use Rattle.std.proofs.Common.{◌≡◌, IsTrue, sym, subst}
+use Rattle.std.proofs.Common.{IsTrue, sym, subst}
 use Rattle.ltxid_book.specs.Sessions.{Contents, state_in, sessions_in, may_commit}
 use Rattle.ltxid_book.proofs.Lookups.{state_in-put}
 use Rattle.ltxid_book.proofs.Known.{may_known}

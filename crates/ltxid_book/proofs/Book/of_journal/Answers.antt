@@ -1,8 +1,8 @@
-use Rattle.std.proofs.Common.{◌≡◌, ℕ, ◌+◌, ◌<◌, ◌^◌, List, [], ◌∷◌, ◌++◌, map, take, get_or, length, sym, ap, ◌∙◌, arith, rules}
+use Rattle.std.proofs.Common.{◌≡◌, ◌+◌, List, [], ◌∷◌, ◌++◌, map, take, get_or, length, sym, ap, ◌∙◌, arith}
 use Rattle.std.proofs.lemmas.List.{take_more, map_push, length-map, length-take-le}
 use Rattle.svc_values.specs.declared.entry.Entry.{Entry}
 use Rattle.svc_values.specs.declared.entry.Ltxid.{Ltxid}
-use Rattle.ltxid_book.specs.Sessions.{Sessions, sessions_in}
+use Rattle.ltxid_book.specs.Sessions.{Sessions}
 use Rattle.ltxid_book.specs.Journal.{Committed, committed_of, book_of}
 use Rattle.ltxid_book.specs.InnerMaking.{counted, marked}
 use Rattle.ltxid_book.proofs.Making.{counted_on, marked_on, next_few}
