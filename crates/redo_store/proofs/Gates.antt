@@ -22,7 +22,7 @@ spelling_of-push (first ∷ records) payload =
     ap (λ (l : List ℕ). 1 ∷ length_bytes (length first) ++ first ++ l) (spelling_of-push records payload)
     ∙ sym (append_assoc (1 ∷ length_bytes (length first) ++ first) (spelling_of records) (1 ∷ length_bytes (length payload) ++ payload))
 
-few_spelled : (records : List (List ℕ)) → length records ≤ length (spelling_of records)
+pub few_spelled : (records : List (List ℕ)) → length records ≤ length (spelling_of records)
 few_spelled [] = omega arith
 few_spelled (payload ∷ records) = omega (arith, few_spelled records, length-append (1 ∷ length_bytes (length payload) ++ payload) (spelling_of records))
 

@@ -11,7 +11,7 @@ use Rattle.redo_store.specs.Store.{IsStore}
 use Rattle.redo_store.specs.Gate.{HasRecord}
 use Rattle.redo_store.specs.Walk.{StandsBehind}
 use Rattle.redo_store.proofs.Grammar.{length-length_bytes}
-use Rattle.redo_store.proofs.Gates.{reads}
+use Rattle.redo_store.proofs.Gates.{reads, few_spelled}
 use Rattle.redo_store.proofs.Walking.{walk_on, walk_start}
 
 abbrev IsShort : List ℕ → Type 0
@@ -60,6 +60,10 @@ stands_first tail image w done more is =
     let begins : take 8 image ≡ magic = ap (take 8) all ∙ take_at magic (spelling_of done ++ next.0 ∷ next.1.0) 8 refl in
     let behind : drop 8 image ≡ spelling_of done ++ next.0 ∷ next.1.0 = ap (drop 8) all ∙ drop_at magic (spelling_of done ++ next.0 ∷ next.1.0) 8 refl in
     walk_over image 8 [] done next.0 next.1.0 (walk_start image begins) (front_short done more (subst (λ (r : List (List ℕ)). All IsShort r) is w.lengths)) behind
+
+-- a gate stands behind more bytes than records
+pub few_behind : (place : ℕ) (done : List (List ℕ)) (image : List ℕ) → StandsBehind place done image → length done < place
+few_behind place done image stands = omega (arith, stands.at_place, few_spelled done)
 
 read_is : (r : Result (List (List ℕ)) ℕ) (a b : List (List ℕ)) → r ≡ Ok a → r ≡ Ok b → a ≡ b
 read_is r a b here there = let e : ◌≡◌ {A = Result (List (List ℕ)) ℕ} (Ok a) (Ok b) = sym here ∙ there in cc
