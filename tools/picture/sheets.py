@@ -45,7 +45,7 @@ class Sheets:
             yield '<p class="none">No event.</p>'
             return
         for (at, top), (end, bottom), pieces in zip(self.cuts, self.cuts[1:], self.pieces_by_sheet()):
-            yield self.sheet(self.rows.groups[at:end], top, bottom, pieces)
+            yield self.sheet((at, end), (top, bottom), pieces)
 
     def pieces_by_sheet(self):
         """The pieces that each sheet shows, in the order of their layers."""
@@ -57,15 +57,15 @@ class Sheets:
                 found[at].append(piece)
         return found
 
-    def sheet(self, groups, top, bottom, pieces):
+    def sheet(self, places, edges, pieces):
+        (at, end), (top, bottom) = places, edges
+        groups = self.rows.groups[at:end]
         drawn = {"numbers": [], "left": [], "right": []}
         self.finish(drawn, top, bottom)
         drawn["right"] += [f'<path class="axis" d="M{self.columns.axis[column]:g} {top:g}V{bottom:g}"/>'
                            for column in self.columns.order if not is_one_of_many(column)]
-        tick = None
-        for group in groups:
-            self.row(drawn, group, tick)
-            tick = group[0].tick
+        for place in range(at, end):
+            self.row(drawn, place, place == at)
         drawn["right"] += pieces
         heights = [[group[0].number, group[-1].number, self.rows.tops[group[0].number]] for group in groups]
         heights = json.dumps(heights + [[0, 0, bottom]], separators=(",", ":"))
@@ -91,8 +91,10 @@ class Sheets:
             said = "THE FINISH, made by the program after the schedule"
             drawn["left"].append(text(10, band + 18, said, "strong"))
 
-    def row(self, drawn, group, tick):
-        event, rows = group[0], self.rows
+    def row(self, drawn, place, is_first):
+        rows = self.rows
+        group = rows.groups[place]
+        event = group[0]
         number, top = event.number, rows.tops[event.number]
         if event.note == ["tick"]:
             for kind, width in self.sides:
@@ -102,8 +104,9 @@ class Sheets:
         numbers = f"{number}-{group[-1].number}" if len(group) > 1 else str(number)
         said = [text(rows.number_end, top + 17, numbers, "number end")]
         drawn["numbers"] += said
-        if event.tick != tick:
-            said.append(text(rows.tick_end, top + 17, str(event.tick), "faint end"))
+        is_same = place > 0 and rows.groups[place - 1][0].tick == event.tick
+        if is_first or not is_same:     # the first row of a sheet has it again, on paper alone
+            said.append(text(rows.tick_end, top + 17, str(event.tick), "faint end again" if is_same else "faint end"))
         said += [text(rows.words_left, top + 17 + LINE * at, line, "words " + tone)
                  for at, line in enumerate(rows.lines[number])]
         kind = "row bad" if tone == "bad" else "row"
