@@ -8,4 +8,9 @@ pub mod Joined
 pub mod Keeps
 pub mod Emptied
 pub mod ValueCmp
+pub mod Pairs
+pub mod Indexed
+pub mod Picked
+pub mod Takes
+pub mod Walks
 pub mod Offered

@@ -1,4 +1,5 @@
 pub mod Given
+pub mod Indexes
 pub mod Rows
 pub mod Selection
 pub mod Shelves

@@ -1,7 +1,26 @@
--- How many rows a select answers.
-use Rattle.std.specs.Prelude.{List, Option, Some, None, length, nat_lt, if◌then◌else◌}
+-- Which rows a select answers, and how many.
+use Rattle.std.specs.Prelude.{ℕ, Bool, List, Option, Some, None, filter, length, nat_lt, not, slice_get, if◌then◌else◌}
+use Rattle.std.specs.Option.{is_some}
+use Rattle.std.specs.BTreeMap.{BTreeMap, is_at}
+use Rattle.std.specs.Map.{lookup}
+use Rattle.svc_values.specs.declared.statement.Test.{Test}
 use Rattle.svc_values.specs.declared.value.Value.{Value}
+use Rattle.svc_values.specs.Order.{value_cmp}
+use Rattle.svc_values.specs.Tests.{value_meets}
+use Rattle.table_store.specs.Rows.{Keyed}
 
--- all of these rows, where they are at most 32
-abbrev pub at_most_32 : List (List Value) → Option (List (List Value))
+-- all of these, where they are at most 32
+abbrev pub at_most_32 : {A : Type 0} → List A → Option (List A)
 at_most_32 rows = if nat_lt 32 (length rows) then None else Some rows
+
+-- the rows whose value in the column meets the test, each with its key
+abbrev pub meeting : ℕ → Test → Value → Keyed → Keyed
+meeting column compared than rows = filter (λ entry. value_meets compared than (slice_get entry.1 column)) rows
+
+-- whether the key is one of these
+abbrev pub is_among : BTreeMap Value ℕ → Value → Bool
+is_among keys key = is_some (lookup (is_at (value_cmp key)) keys.entries)
+
+-- the rows whose keys are none of these
+abbrev pub apart_from : BTreeMap Value ℕ → Keyed → Keyed
+apart_from keys rows = filter (λ entry. not (is_among keys entry.0)) rows

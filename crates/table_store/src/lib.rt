@@ -1,8 +1,10 @@
 //! The committed tables of a service.
 #![tactic(auto)]
 
+mod column_index;
 mod row_map;
 mod select;
+mod shelf;
 mod shelves;
 mod tables;
 

@@ -41,6 +41,15 @@ impl RowMap {
         Ok(RowMap { rows, alloc })
     }
 
+    /// The rows of a map.
+    pub(crate) fn of(alloc: Global, rows: BTreeMap<Value, Row>) -> Result<RowMap, NoMemory>
+        ensures { IfOk result (λ made. made ≡ rows.entries) }
+    {
+        let _ = rows.len();
+        let rows = Rc::new(alloc, rows)?;
+        Ok(RowMap { rows, alloc })
+    }
+
     /// The row of a key. It takes the logarithm of the number of rows.
     pub fn get(&self, key: &Value) -> Option<&Row>
         ensures { option_copied result ≡ keyed_of self.now key.now }

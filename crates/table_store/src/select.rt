@@ -1,12 +1,19 @@
 //! Rows that meet a test.
-ghost use Rattle.std.specs.Prelude.{◌≡◌, IfOk};
-ghost use Rattle.std.specs.Option.{option_map};
-ghost use Rattle.std.specs.Map.{values_of};
+ghost use Rattle.std.specs.Prelude.{◌≡◌, ◌&&◌, not, IfOk, OnOk, None, length, if◌then◌else◌};
+ghost use Rattle.std.specs.Option.{is_some, option_map, option_or};
+ghost use Rattle.std.specs.Map.{values_of, lookup};
+ghost use Rattle.std.specs.BTreeMap.{is_at};
+ghost use Rattle.svc_values.specs.Order.{value_cmp};
 ghost use Rattle.svc_values.specs.Tests.{selected as selected_def};
-ghost use Rattle.table_store.specs.Selection.{at_most_32};
+ghost use Rattle.svc_values.specs.declared.value.Value.{Value as ValueSeen};
+ghost use Rattle.table_store.specs.Indexes.{IsIndexOf, is_spot_of};
+ghost use Rattle.table_store.specs.Rows.{keyed_of, KeysRise};
+ghost use Rattle.table_store.specs.Selection.{apart_from, at_most_32, is_among, meeting};
 
+use crate::column_index::{ColumnIndex, Pair, Spot, ends};
 use crate::row_map::RowMap;
 use std::alloc::Global;
+use std::collections::BTreeMap;
 use svc_values::{NoMemory, Row, Test, TryCopy, Value, value_meets};
 
 /// The most rows that a select answers.
@@ -31,6 +38,81 @@ pub(crate) fn selected(
             }
             found.push(row.copy(alloc)?)?;
         }
+    }
+    Ok(Some(found))
+}
+
+/// Copies of the rows whose value in a column meets the test and whose keys are none of these, by their
+/// keys, unless they are more than 32. Linear in the rows.
+pub(crate) fn found_in(
+    alloc: Global,
+    rows: &RowMap,
+    column: usize,
+    test: Test,
+    value: &Value,
+    but: &BTreeMap<Value, usize>,
+) -> Result<Option<BTreeMap<Value, Row>>, NoMemory>
+    ensures found { IfOk result (λ found. option_map (λ rows. rows.entries) found ≡ at_most_32 (apart_from but.now (meeting column test value.now rows.now))) }
+    ensures rising { KeysRise rows.now }
+{
+    let mut found = BTreeMap::new(alloc);
+    for (key, row) in rows.as_map() {
+        if value_meets(test, value, row.get(column)) && !but.contains_key(key) {
+            if found.len() >= ROW_LIMIT {
+                return Ok(None);
+            }
+            found.insert(key.copy(alloc)?, row.copy(alloc)?)?;
+        }
+    }
+    Ok(Some(found))
+}
+
+/// Puts a copy of the row at a pair's key to those found, unless the key is one of these.
+fn take_row(
+    alloc: Global,
+    rows: &RowMap,
+    but: &BTreeMap<Value, usize>,
+    pair: &Pair,
+    found: &mut BTreeMap<Value, Row>,
+) -> Result<(), NoMemory>
+    ensures { OnOk result ((q : ValueSeen) → keyed_of found.new.entries q ≡ (if is_spot_of pair.now.spot q && not (is_among but.now q) then option_or (keyed_of rows.now q) (keyed_of found.old.entries q) else keyed_of found.old.entries q)) }
+{
+    let Spot::At(key) = &pair.spot else {
+        return Ok(());
+    };
+    if but.contains_key(key) {
+        return Ok(());
+    }
+    let Some(row) = rows.get(key) else {
+        return Ok(());
+    };
+    found.insert(key.copy(alloc)?, row.copy(alloc)?)?;
+    Ok(())
+}
+
+/// The same rows by the index of the column. It takes the logarithm of the rows and 33 of them at most,
+/// beside those of these keys.
+pub(crate) fn found_by(
+    alloc: Global,
+    index: &ColumnIndex,
+    rows: &RowMap,
+    test: Test,
+    value: &Value,
+    but: &BTreeMap<Value, usize>,
+) -> Result<Option<BTreeMap<Value, Row>>, NoMemory>
+    requires { IsIndexOf (keyed_of rows.now) index.now }
+    ensures { IfOk result (λ found. option_map (λ rows. rows.entries) found ≡ at_most_32 (apart_from but.now (meeting index.now.column test value.now rows.now))) }
+{
+    let _ = rows.as_map();
+    let mut found = BTreeMap::new(alloc);
+    for pair in index.pairs.range(ends(alloc, test, value)?) {
+        if found.len() > ROW_LIMIT {
+            return Ok(None);
+        }
+        take_row(alloc, rows, but, pair, &mut found)?;
+    }
+    if found.len() > ROW_LIMIT {
+        return Ok(None);
     }
     Ok(Some(found))
 }

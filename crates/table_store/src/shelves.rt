@@ -6,7 +6,7 @@ ghost use Rattle.table_store.specs.Rows.{IsShelved, all_rows, shelf_of, shelf_ro
 ghost use Rattle.table_store.specs.Shelves.{Changes, ChangesAll};
 ghost use Rattle.table_store.specs.Stored.{AreApart};
 
-use crate::row_map::RowMap;
+use crate::shelf::Shelf;
 use std::alloc::Global;
 use std::collections::BTreeMap;
 use svc_values::{Name, NoMemory, Row, Schema, TryCopy, Value, schema_of};
@@ -19,7 +19,7 @@ pub struct TableRows {
 }
 
 /// The rows of each table that has had any, by its name.
-pub(crate) type Shelves = BTreeMap<Name, RowMap>;
+pub(crate) type Shelves = BTreeMap<Name, Shelf>;
 
 /// The rows of these tables, which are moved.
 pub(crate) fn filled(alloc: Global, tables: Vec<TableRows>) -> Result<Shelves, NoMemory>
@@ -71,12 +71,12 @@ fn taken(
     if schema_of(later, table).is_some() {
         return match shelves.get(table) {
             None => Ok(Vec::new(alloc)),
-            Some(rows) => rows.share()?.into_rows(),
+            Some(shelf) => shelf.rows().share()?.into_rows(),
         };
     }
     match shelves.remove(table) {
         None => Ok(Vec::new(alloc)),
-        Some(rows) => rows.into_rows(),
+        Some(shelf) => shelf.into_rows(),
     }
 }
 
@@ -95,7 +95,7 @@ fn put_all(
     match shelves.get_mut(&table) {
         Some(there) => there.put_all(rows),
         None => {
-            let mut there = RowMap::new(alloc)?;
+            let mut there = Shelf::new(alloc)?;
             there.put_all(rows)?;
             shelves.insert(table, there)?;
             Ok(())
@@ -119,7 +119,7 @@ pub(crate) fn put(
     match shelves.get_mut(table) {
         Some(rows) => rows.put(key, row),
         None => {
-            let mut rows = RowMap::new(alloc)?;
+            let mut rows = Shelf::new(alloc)?;
             rows.put(key, row)?;
             shelves.insert(table.copy(alloc)?, rows)?;
             Ok(())

@@ -13,7 +13,6 @@ ghost use Rattle.table_store.specs.Selection.{at_most_32};
 ghost use Rattle.table_store.specs.Stored.{AreKept, AreApart, HasSome};
 
 use crate::row_map::RowMap;
-use crate::select::selected;
 use crate::shelves::{self, Shelves, TableRows};
 use std::alloc::Global;
 use std::marker::Model;
@@ -97,7 +96,10 @@ impl Tables {
         ensures rows { rows_at self.now.rows (place.Table table.now) ≡ rows_if_any table.now (option_copied result) }
         ensures kept { AreKept self.now }
     {
-        self.shelves.get(table)
+        match self.shelves.get(table) {
+            None => None,
+            Some(shelf) => Some(shelf.rows()),
+        }
     }
 
     /// The row of a key of a table, `None` exactly where none stands there. It takes the logarithm of
@@ -107,7 +109,7 @@ impl Tables {
     {
         match self.shelves.get(table) {
             None => None,
-            Some(rows) => rows.get(key),
+            Some(shelf) => shelf.rows().get(key),
         }
     }
 
@@ -122,9 +124,9 @@ impl Tables {
     ) -> Result<Option<Vec<Row>>, NoMemory>
         ensures { IfOk result (λ found. option_map (λ rows. rows.items) found ≡ at_most_32 (selected_def column test value.now (map (λ one. one.row) (rows_at self.now.rows (place.Table table.now))))) }
     {
-        match self.row_map(table) {
+        match self.shelves.get(table) {
             None => Ok(Some(Vec::new(self.alloc))),
-            Some(rows) => selected(self.alloc, rows, column, test, value),
+            Some(shelf) => shelf.selected(column, test, value),
         }
     }
 
