@@ -27,7 +27,8 @@ class Row:
         first = self.cells[0]
         spans = re.findall(r"`([^`]+)`", first)
         texts = [text for span in spans for text in re.findall(r'"([^"]+)"', span)]
-        return texts[:1] or spans or [first]
+        # (a cell without backticks may have several numbers)
+        return texts[:1] or spans or (first.split(", ") if re.fullmatch(r"[\d, ]+", first) else [first])
 
     def inner(self):
         """The words that the cells after the first one give as a report prints them."""
@@ -86,11 +87,11 @@ def found(word, rows, sections):
 
 
 def known(rows):
-    """The words that rows are found by: numbers first."""
+    """The words that rows are found by, but for places in a document: numbers first."""
     words = {word for row in rows for word in row.words()}
     words |= {word for row in rows if row.page == REPORT for word in row.inner()}
     numbers = sorted((it for it in words if it.isdigit()), key=int)
-    return numbers + sorted(it for it in words if not it.isdigit())
+    return numbers + sorted(it for it in words if not it.isdigit() and "/" not in it)
 
 
 def line_of(code, rows):
@@ -123,7 +124,7 @@ def main(arguments=None):
         return 2
     print("\n\n".join(told))
     if word in WHERE and not given.line:
-        print(f"Where: {WHERE[word]}")
+        print(f"\nWhere the bytes of code {word} are no JSON: {WHERE[word]}")
     return 0
 
 

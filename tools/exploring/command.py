@@ -43,13 +43,15 @@ class Runner:
     def report_of(self, document):
         """The report of a document."""
         given = json.dumps(document).encode()
+        # The launcher may have to build the program, which takes long: what it says of that is seen at once.
+        errors = None if self.program == LAUNCHER else subprocess.PIPE
         try:
-            ran = subprocess.run([str(self.program), "run"], input=given, capture_output=True, check=False)
+            ran = subprocess.run([str(self.program), "run"], input=given, stdout=subprocess.PIPE, stderr=errors, check=False)
         except OSError as why:
             raise Stop(2, f"{self.program} cannot be run: {why.strerror}") from why
         if ran.returncode:
-            kept = self.kept(document, None, "at_fault")
-            raise Stop(2, f"the program ended with {ran.returncode}: {ran.stderr.decode(errors='replace').strip()}{kept}")
+            said = f": {ran.stderr.decode(errors='replace').strip()}" if ran.stderr else ""
+            raise Stop(2, f"the program ended with {ran.returncode}{said}{self.kept(document, None, 'at_fault')}")
         return json.loads(ran.stdout)
 
     def run(self, document, what=None, place=None):

@@ -39,6 +39,10 @@ REPORT = """# The report
 |:--|--:|
 | `["statelost",call]` | a call lost its state |
 
+| Code of a refusal | Says |
+|---|---|
+| 1, 2 | no table; no column |
+
 ## Served items
 
 Each is of an event.
@@ -67,6 +71,10 @@ class OfSmallPages(unittest.TestCase):
         self.assertIn("Status: 3\nWhen: reading failed\nLine: `read`", out)
         self.assertIn("Code: 3\nComes for: another kind: `a|b` or c\\|d\nPlace: the value", out)
 
+    def test_a_cell_of_several_numbers_is_found_by_each(self):
+        for number in ("1", "2"):
+            self.assertIn("Code of a refusal: 1, 2\nSays: no table; no column", told(self.docs, number)[1])
+
     def test_an_empty_cell_is_left_out(self):
         self.assertTrue(told(self.docs, "5")[1].endswith("Status: 5\nWhen: no document\n"))
 
@@ -85,7 +93,7 @@ class OfSmallPages(unittest.TestCase):
     def test_a_word_that_no_page_has_is_told_with_those_that_have_one(self):
         status, out, err = told(self.docs, "show")
         self.assertEqual((status, out), (2, ""))
-        self.assertIn("Words: 3, 5, 7, disabled, full, mismatch, off, statelost", err)
+        self.assertIn("Words: 1, 2, 3, 5, 7, disabled, full, mismatch, off, statelost", err)
 
     def test_one_line_of_a_code(self):
         line = "continuity: 7: a name twice; see docs/CODES.md\n"

@@ -9,6 +9,7 @@ import pathlib
 import sys
 import tempfile
 import unittest
+from unittest import mock
 
 sys.path.insert(0, str(pathlib.Path(__file__).resolve().parents[2]))
 from exploring import command, schedules, shown  # noqa: E402
@@ -189,6 +190,15 @@ class Commands(unittest.TestCase):
             with self.assertRaises(SystemExit) as ended:
                 explored(*words)
             self.assertEqual(ended.exception.code, 2)
+
+
+class OfTheLauncher(unittest.TestCase):
+    def test_what_it_says_while_it_builds_is_not_held_back(self):
+        ran = mock.Mock(returncode=70, stderr=None)
+        with mock.patch.object(command.subprocess, "run", return_value=ran) as run, tempfile.TemporaryDirectory() as keep:
+            with self.assertRaisesRegex(command.Stop, r"the program ended with 70 \("):
+                command.Runner(command.LAUNCHER, pathlib.Path(keep)).report_of({})
+        self.assertIsNone(run.call_args.kwargs["stderr"])
 
 
 @unittest.skipUnless(os.access(BUILT, os.X_OK), "the program is not built")
