@@ -24,6 +24,7 @@ use Rattle.server_model.specs.ServiceCalls.{is_failover}
 use Rattle.run_laws.specs.FinishShort.{AreLimits, calls_of_scripts, is_repeated_little}
 use Rattle.world_model.specs.records.Ready.{has_calls, is_rightly_repeated, is_right_request}
 use Rattle.world_model.specs.records.Ready as ready
+use Rattle.cover_core.specs.Made.{has_made_calls, has_made_requests}
 use Rattle.world_core.specs.Allowing.{IsAllowed}
 use Rattle.world_core.specs.Among.{IsFitScript}
 use Rattle.world_core.specs.Coursing.{IsFit}
@@ -219,3 +220,17 @@ pub events_allowed : (document : Document) → IsDocument document → AllByRecu
 events_allowed document is =
     all_by (is_event (length document.clients) false) (IsAllowed (length document.clients)) (allowed (length document.clients)) document.schedule
     (subst (λ (standby : Bool). list_all (is_event (length document.clients) standby) document.schedule ≡ true) is.standby is.schedule)
+
+-- COVER -------------------------------------------------------------------------------------------
+
+made_request : (request : Request) → is_request request ≡ true → has_made_calls request ≡ true
+unfolding has_made_calls
+made_request request is = (keeps_request request is).made
+
+made_client : (client : Client) → is_client client ≡ true → has_made_requests client ≡ true
+unfolding has_made_requests
+made_client client is = of_requests has_made_calls made_request client is
+
+-- each call of the scripts is one that there is
+pub made_scripts : (document : Document) → IsDocument document → list_all has_made_requests document.clients ≡ true
+made_scripts document is = all_imply is_client has_made_requests made_client document.clients is.clients

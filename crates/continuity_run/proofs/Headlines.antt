@@ -238,9 +238,9 @@ module _ (document : Document) (ran : Ran Within) (before : Before) (report : Re
     image = off.image;
   }
 
-pub headline_if : {E : Type 0} (document : Document) (ran : Ran Within) (before : Before) (result : Result Report E) → HasRun SeesIn document ran → Counts (journal_before document) before
-    → IfOk result (IsReadOff (bytes_in ran.service) before document.print_image ran) → (bytes : List ℕ) → journal_of bytes ≡ Ok (journal_before document) → HaveOneBase bytes (bytes_in ran.service) → RunsHold → all_requests_right document ≡ true → 1 ≤ document.service.retries
-    → IfOk result (Headline document)
-headline_if document ran before (Ok report) has counts off bytes reads kept laws calls tries =
+-- The report that is read off the store of a run says what the headline says.
+pub headline_of : (document : Document) (ran : Ran Within) (before : Before) (report : Report) → HasRun SeesIn document ran → Counts (journal_before document) before
+    → IsReadOff (bytes_in ran.service) before document.print_image ran report → (bytes : List ℕ) → journal_of bytes ≡ Ok (journal_before document) → HaveOneBase bytes (bytes_in ran.service) → RunsHold → all_requests_right document ≡ true → 1 ≤ document.service.retries
+    → Headline document report
+headline_of document ran before report has counts off bytes reads kept laws calls tries =
     headline document ran before report has counts off (kept (journal_before document) off.journal reads off.reads) laws calls tries
-headline_if document ran before (Err e) has counts off bytes reads kept laws calls tries = tt

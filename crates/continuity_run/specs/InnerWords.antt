@@ -7,12 +7,12 @@ use Rattle.clap.specs.Simple.{App, new_app, new_shape, on_top, with_subcommand}
 abbrev pub begins_with_hyphen : String Global → Bool
 begins_with_hyphen word = slice_index (string_bytes word) 0 == 45
 
--- the one command `run`, which has to be there, with no help and no version of clap's own
+-- the commands `run` and `cover`, one of which has to be there, with no help and no version of clap's own
 abbrev pub program : App
-program = with_subcommand (on_top (λ s. record s {
+program = with_subcommand (with_subcommand (on_top (λ s. record s {
   no_binary_name = true;
   disable_help_flag = true;
   disable_help_subcommand = true;
   disable_version_flag = true;
   subcommand_required = true;
-}) (new_app (codes "continuity"))) (new_shape (codes "run"))
+}) (new_app (codes "continuity"))) (new_shape (codes "run"))) (new_shape (codes "cover"))

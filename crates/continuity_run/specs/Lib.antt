@@ -12,3 +12,4 @@ pub mod Stores
 pub mod Runs
 pub mod RunLaws
 pub mod Told
+pub mod Words

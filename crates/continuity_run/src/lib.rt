@@ -1,6 +1,8 @@
 //! A run from the bytes in to the bytes out.
 #![tactic(auto)]
 
+mod answer;
+mod command;
 pub mod laws;
 mod memory;
 mod outside;
@@ -11,6 +13,7 @@ mod top;
 mod whole;
 mod words;
 
+pub use command::Command;
 pub use memory::{MemSink, MemSource};
 pub use outside::{Failed, Sink, Source};
 pub use run::run_document;

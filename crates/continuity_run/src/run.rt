@@ -18,7 +18,9 @@ use legal_laws::judged::{runs_are_fresh_new, runs_are_legal, runs_are_set_aside}
 use legal_laws::laws::runs_are_legal_told;
 use mutable_values::Grants;
 use once_laws::laws::{outcomes_are_stored, reports_are_once};
-use outage_schedule::{Client, Consistency, Document, Event, Failover, KeepOf, Report, ServiceOf};
+use outage_schedule::{
+    Client, Clients, Consistency, Document, Event, Failover, KeepOf, Report, ServiceOf,
+};
 use request_bounds::{BoundRule, DynamicRule, OffRule, StaticRule};
 use run_laws::finish_laws::finish_is_short;
 use run_laws::stored_laws::{
@@ -119,10 +121,11 @@ fn runs_hold()
     calm_runs_answer();
 }
 
-/// The run of a document, and its report.
-pub fn run_document(alloc: Global, document: Document) -> Result<Report, NoMemory>
+/// The run of a document: the scripts of its clients, as they were, and its report.
+pub fn run_document(alloc: Global, document: Document) -> Result<(Clients, Report), NoMemory>
     requires document { IsDocument document }
-    ensures { IfOk result (Headline document) }
+    ensures scripts { IfOk result (λ ran. ran.0 ≡ document.clients) }
+    ensures report { IfOk result (λ ran. Headline document ran.1) }
 {
     finish_falls();
     finish_goes_on();
@@ -152,5 +155,6 @@ pub fn run_document(alloc: Global, document: Document) -> Result<Report, NoMemor
         service,
         opened,
     )?;
-    report_of(alloc, ran, before, print_image)
+    let report = report_of(alloc, ran, before, print_image)?;
+    Ok((clients, report))
 }

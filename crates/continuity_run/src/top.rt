@@ -1,20 +1,20 @@
 //! The top call: from the words and the bytes in to the bytes out.
-ghost use Rattle.std.specs.Prelude.{◌≡◌, ◌⊎◌, false, Err, IfOk, IfErr, IsErrOf, OnOk};
+ghost use Rattle.std.specs.Prelude.{◌≡◌, ◌⊎◌, Err, IfOk, IfErr, IsErrOf, None, OnOk, Some};
 ghost use Rattle.continuity_run.specs.Causes.{Rose};
 ghost use Rattle.doc_reader.specs.Keeping.{IsDocument};
 ghost use Rattle.doc_reader.specs.Documents.{document_at};
-ghost use Rattle.continuity_run.specs.Clauses.{is_command as is_command_def, IsReported, IsDone, IsCut, IsRead, IsRefused, Writes, WritesFront, IfDocument, IsBefore, IsReply, UnlessRead};
-ghost use Rattle.continuity_run.specs.Complete.{IsFaultless};
+ghost use Rattle.continuity_run.specs.Words.{command_of as command_of_def};
+ghost use Rattle.continuity_run.specs.Clauses.{Tells, IsDone, IsCut, IsRead, IsRefused, Writes, WritesFront, IfDocument, IsBefore, IsReply, UnlessRead};
 ghost use Rattle.continuity_run.specs.InnerEnds.{ended_as, IsWritten};
 
+use crate::answer::text_of;
+use crate::command::Command;
 use crate::outside::{Sink, Source};
-use crate::run::run_document;
 use crate::whole::{ReadError, read_to_limit, write_whole};
-use crate::words::is_command;
+use crate::words::command_of;
 use doc_reader::{DOCUMENT_LIMIT, read_document};
 use json_form::{DocCode, DocFault, Pointer};
 use outage_schedule::Document;
-use report_text::report_bytes;
 use std::alloc::Global;
 use svc_values::NoMemory;
 
@@ -53,11 +53,15 @@ impl Status {
     }
 }
 
-/// The text of the report of the document that was read, or why none was. For the report there may
+/// The text that the command tells of the document that was read, or why none was. For the text there may
 /// be no memory.
-fn answer(alloc: Global, read: Result<Document, DocFault>) -> Result<Vec<u8>, DocFault>
+fn answer(
+    alloc: Global,
+    command: Command,
+    read: Result<Document, DocFault>,
+) -> Result<Vec<u8>, DocFault>
     requires document { IfOk read IsDocument }
-    ensures reported { IfOk read (λ document. IfOk result (λ text. IsReported document text.items)) }
+    ensures told { IfOk read (λ document. IfOk result (λ text. Tells command document text.items)) }
     ensures lacked { IfOk read (λ _. IfErr result (λ fault. fault ≡ DocFault.NoMemory)) }
     ensures refused { IfErr read (λ fault. result ≡ Err fault) }
 {
@@ -65,19 +69,10 @@ fn answer(alloc: Global, read: Result<Document, DocFault>) -> Result<Vec<u8>, Do
         Ok(document) => document,
         Err(fault) => return Err(fault),
     };
-    match report_text(alloc, document) {
+    match text_of(alloc, command, document) {
         Ok(text) => Ok(text),
         Err(NoMemory) => Err(DocFault::NoMemory),
     }
-}
-
-/// The text of the document's report.
-fn report_text(alloc: Global, document: Document) -> Result<Vec<u8>, NoMemory>
-    requires document { IsDocument document }
-    ensures { IfOk result (λ text. IsReported document text.items) }
-{
-    let report = run_document(alloc, document)?;
-    report_bytes(alloc, &report)
 }
 
 fn read_input<S: Source>(alloc: Global, source: &mut S) -> Result<Vec<u8>, ReadError>
@@ -106,10 +101,10 @@ fn write_answer<K: Sink>(answer: Result<Vec<u8>, DocFault>, sink: &mut K) -> Sta
     }
 }
 
-/// Judges the bytes, which are given up once they are read, and writes the report.
-fn respond<K: Sink>(alloc: Global, bytes: Vec<u8>, sink: &mut K) -> Status
-    ensures done { result ≡ Status.Done → Writes bytes.items (K.held sink.old) (K.held sink.new) }
-    ensures cut { result ≡ Status.Write → WritesFront bytes.items (K.held sink.old) (K.held sink.new) }
+/// Judges the bytes, which are given up once they are read, and writes what the command tells.
+fn respond<K: Sink>(alloc: Global, command: Command, bytes: Vec<u8>, sink: &mut K) -> Status
+    ensures done { result ≡ Status.Done → Writes command bytes.items (K.held sink.old) (K.held sink.new) }
+    ensures cut { result ≡ Status.Write → WritesFront command bytes.items (K.held sink.old) (K.held sink.new) }
     ensures write { result ≡ Status.Write → Rose (K.faults sink.old) (K.faults sink.new) }
     ensures document { IfDocument result (λ fault. document_at bytes.items ≡ Err fault) }
     ensures untouched { IsBefore result → sink.new ≡ sink.old }
@@ -117,11 +112,12 @@ fn respond<K: Sink>(alloc: Global, bytes: Vec<u8>, sink: &mut K) -> Status
 {
     let read = read_document(alloc, bytes.as_slice());
     drop(bytes);
-    write_answer(answer(alloc, read), sink)
+    write_answer(answer(alloc, command, read), sink)
 }
 
-/// Carries out a command. `run` reads a document from the source, runs its clients' scripts under its schedule, and
-/// writes the report to the sink as compact JSON. The words are looked at first, which wants memory;
+/// Carries out a command. Each reads a document from the source and runs its clients' scripts under its
+/// schedule. `run` writes the report to the sink as compact JSON, and `cover` how many calls of each report were
+/// protected. The words are looked at first, which wants memory;
 /// then the source is read, to one byte past the limit of 8,388,608 bytes at most; then the document is judged. Memory
 /// is proportional to the input, and the cost of reading, judging and writing is n log n in it.
 pub fn continuity<S: Source, K: Sink>(
@@ -131,9 +127,9 @@ pub fn continuity<S: Source, K: Sink>(
     sink: &mut K,
 ) -> Status
     // The words are those of no command, which want of memory may hide, and then the source is unread.
-    ensures words { result ≡ Status.Words → is_command_def words.now ≡ false }
-    ensures commands { is_command_def words.now ≡ false → (result ≡ Status.Words) ⊎ (result ≡ Status.NoMemory) }
-    ensures unread { is_command_def words.now ≡ false → source.new ≡ source.old }
+    ensures words { result ≡ Status.Words → command_of_def words.now ≡ None }
+    ensures commands { command_of_def words.now ≡ None → (result ≡ Status.Words) ⊎ (result ≡ Status.NoMemory) }
+    ensures unread { command_of_def words.now ≡ None → source.new ≡ source.old }
 
     // The source or the sink failed, and a source that failed is told of, not hidden as want of memory.
     ensures read { result ≡ Status.Read → Rose (S.faults source.old) (S.faults source.new) }
@@ -143,9 +139,12 @@ pub fn continuity<S: Source, K: Sink>(
     // The bytes are no document, and this is why.
     ensures document { IfDocument result (IsRefused (S.left source.old) (S.left source.new)) }
 
-    // The sink took the text of the report, or a front of it: the headline.
-    ensures done { result ≡ Status.Done → IsDone (S.left source.old) (S.left source.new) (K.held sink.old) (K.held sink.new) }
-    ensures cut { result ≡ Status.Write → IsCut (S.left source.old) (S.left source.new) (K.held sink.old) (K.held sink.new) }
+    // The sink took the text of the command, or a front of it: of the report with its headline, or of how many of
+    // its calls were protected.
+    ensures done { (command : Command) → command_of_def words.now ≡ Some command → result ≡ Status.Done
+        → IsDone command (S.left source.old) (S.left source.new) (K.held sink.old) (K.held sink.new) }
+    ensures cut { (command : Command) → command_of_def words.now ≡ Some command → result ≡ Status.Write
+        → IsCut command (S.left source.old) (S.left source.new) (K.held sink.old) (K.held sink.new) }
 
     // Where nothing is at fault there is a report, but for want of memory.
     ensures complete { IsFaultless words.now (S.left source.old) (S.faults source.old) (S.faults source.new) (K.faults sink.old) (K.faults sink.new) → (result ≡ Status.Done) ⊎ (result ≡ Status.NoMemory) }
@@ -153,17 +152,15 @@ pub fn continuity<S: Source, K: Sink>(
     // Else nothing was written.
     ensures untouched { IsBefore result → sink.new ≡ sink.old }
 {
-    let known = match is_command(alloc, words) {
-        Ok(known) => known,
+    let command = match command_of(alloc, words) {
+        Ok(Some(command)) => command,
+        Ok(None) => return Status::Words,
         Err(NoMemory) => return Status::NoMemory,
     };
-    if !known {
-        return Status::Words;
-    }
     let bytes = match read_input(alloc, source) {
         Ok(bytes) => bytes,
         Err(ReadError::NoMemory) => return Status::NoMemory,
         Err(ReadError::Failed) => return Status::Read,
     };
-    respond(alloc, bytes, sink)
+    respond(alloc, command, bytes, sink)
 }

@@ -164,8 +164,7 @@ pub coverage_is : {R : Type 0} (rules : R → Rules) → CoverageIsCover rules
 coverage_is rules rule service submission ruled =
     let agrees = starts service (rules rule) ruled rule in
     let calls : List Call = submission.request.calls in
-    let shown : List ShownCall = submission.copy.calls in
-    (
+    let shown : List ShownCall = submission.copy.calls in (
       covers service (rules rule) ruled (nothing_covered rule service.record_limit) [] 0 agrees calls shown ∙ from_none (protected_in (protections service [] 0 calls shown)),
       λ few. shows_all service (rules rule) ruled (nothing_covered rule service.record_limit) [] 0 agrees calls shown few ∙ from_none (length shown),
     )

@@ -98,6 +98,11 @@ pub(crate) fn counts_of(of: &ServiceOf, request: &Request, report: &RequestRepor
         (Failover::Off, _) => counts_by(OffRule, of, request, report),
         (Failover::Auto, _) => counts_by(AutoRule, of, request, report),
         (Failover::Transaction, Consistency::Static) => counts_by(StaticRule, of, request, report),
-        (Failover::Transaction, Consistency::Dynamic) => counts_by(DynamicRule, of, request, report),
+        (Failover::Transaction, Consistency::Dynamic) => counts_by(
+            DynamicRule,
+            of,
+            request,
+            report,
+        ),
     }
 }

@@ -8,7 +8,7 @@ use Rattle.continuity_run.specs.Runs.{IsRunOf}
 use Rattle.continuity_run.proofs.Beginning.{can_begin, run_begins}
 use Rattle.continuity_run.proofs.Lasting.{may_be_read}
 use Rattle.continuity_run.proofs.Documents.{are_limits, may_try}
-use Rattle.continuity_run.proofs.Headlines.{headline_if}
+use Rattle.continuity_run.proofs.Headlines.{headline_of}
 use Rattle.continuity_run.proofs.run.run_document.Goals as goal
 
 pub new-service-requires : goal.new-service-requires
@@ -30,11 +30,11 @@ report_of-requires c =
     c.new-service.ensures.made c.new-service.ensures.sound c.new-service.ensures.seen in
     may_be_read c.finish_goes_on.ensures.start c.finish_falls.ensures c.finish_goes_on.ensures.event c.finish_is_short.ensures c.runs_are_orderly.ensures c.args.document c.requires.document SeesIn c.in_ok-ran.ran (c.in_ok-ran.ensures.ran c.args.document begun)
 
-pub returns : goal.returns
-returns c =
+pub returns-clause-report : goal.returns-clause-report
+returns-clause-report c =
     let begun : IsRunOf (SeesIn c.new-service.result) (rules_of c.args.document.service.failover c.args.document.service.consistency) c.args.document.service c.as_slice.result.now c.as_slice-2.result.now c.in_ok-disk.field-0.opened c.args.document =
     run_begins c.args.document c.requires.document c.in_ok-disk.field-0 c.in_ok-disk.ensures c.as_slice.result.now c.as_slice-2.result.now c.grants_of.result c.new-service.result c.as_slice.ensures c.as_slice-2.ensures c.grants_of.ensures
     c.new-service.ensures.made c.new-service.ensures.sound c.new-service.ensures.seen in
     let reads : journal_of (bytes_in c.new-service.result) ≡ Ok (journal_before c.args.document) = ap (λ (service : Within). journal_of (bytes_in service)) c.new-service.ensures.made ∙ c.in_ok-disk.ensures.reads in
-    headline_if c.args.document c.in_ok-ran.ran c.in_ok-disk.field-0.before c.report_of.result (c.in_ok-ran.ensures.ran c.args.document begun) c.in_ok-disk.ensures.counts c.report_of.ensures (bytes_in c.new-service.result) reads c.in_ok-ran.ensures.base
+    headline_of c.args.document c.in_ok-ran.ran c.in_ok-disk.field-0.before c.in_ok-report.report (c.in_ok-ran.ensures.ran c.args.document begun) c.in_ok-disk.ensures.counts c.in_ok-report.ensures (bytes_in c.new-service.result) reads c.in_ok-ran.ensures.base
     c.runs_hold.ensures (are_limits c.args.document c.requires.document).have_calls (may_try c.args.document c.requires.document)

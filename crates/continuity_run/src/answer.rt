@@ -1,0 +1,47 @@
+//! The answer to a command: the text that it writes of a document.
+ghost use Rattle.std.specs.Prelude.{IfOk};
+ghost use Rattle.doc_reader.specs.Keeping.{IsDocument};
+ghost use Rattle.continuity_run.specs.Clauses.{IsReported, IsCovered, Tells};
+
+use crate::command::Command;
+use crate::run::run_document;
+use cover_core::{counts_of_run, cover_bytes};
+use outage_schedule::Document;
+use report_text::report_bytes;
+use std::alloc::Global;
+use svc_values::NoMemory;
+
+/// The text that the command tells of the document.
+pub(crate) fn text_of(
+    alloc: Global,
+    command: Command,
+    document: Document,
+) -> Result<Vec<u8>, NoMemory>
+    requires document { IsDocument document }
+    ensures { IfOk result (λ text. Tells command document text.items) }
+{
+    match command {
+        Command::Run => report_text(alloc, document),
+        Command::Cover => cover_text(alloc, document),
+    }
+}
+
+/// The text of the document's report.
+fn report_text(alloc: Global, document: Document) -> Result<Vec<u8>, NoMemory>
+    requires document { IsDocument document }
+    ensures { IfOk result (λ text. IsReported document text.items) }
+{
+    let (_, report) = run_document(alloc, document)?;
+    report_bytes(alloc, &report)
+}
+
+/// The text that tells how many calls of the document's report were protected.
+fn cover_text(alloc: Global, document: Document) -> Result<Vec<u8>, NoMemory>
+    requires document { IsDocument document }
+    ensures { IfOk result (λ text. IsCovered document text.items) }
+{
+    let of = document.service;
+    let (clients, report) = run_document(alloc, document)?;
+    let counts = counts_of_run(alloc, &of, clients.as_slice(), report.clients.as_slice())?;
+    cover_bytes(alloc, counts.as_slice())
+}
