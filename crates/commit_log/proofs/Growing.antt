@@ -1,5 +1,5 @@
 -- How stores grow, at a moment and from call to call.
-use Rattle.std.proofs.Common.{◌≡◌, ℕ, ◌+◌, ◌≤◌, zero, suc, List, [], ◌∷◌, ◌++◌, length, map, take, Some, None, inl, inr, refl, sym, ◌∙◌, ap, subst, arith, length-append, append_assoc, append-nil, fold}
+use Rattle.std.proofs.Common.{◌≡◌, ℕ, ◌+◌, ◌≤◌, zero, suc, List, [], ◌∷◌, ◌++◌, length, map, take, Option, Some, None, inl, inr, refl, sym, ◌∙◌, ap, subst, arith, length-append, append_assoc, append-nil, fold}
 use Rattle.std.specs.Prelude.{Bool, false, ◌||◌, IsTrue, Result, Ok, Err, if◌then◌else◌}
 use Rattle.std.proofs.lemmas.List.{map-append}
 use Rattle.disk_model.specs.Disk.{DiskState, Meanwhile, SameBytes}
@@ -12,11 +12,11 @@ use Rattle.commit_log.specs.declared.records.Record.TheVariants as kept
 use Rattle.commit_log.specs.Bases.{IsBase}
 use Rattle.commit_log.specs.RecordBytes.{spell_record}
 use Rattle.commit_log.specs.Rules.{SoFar, Empty, Begun, new_journal, with_record, is_opening, is_horizon, may_come, after}
-use Rattle.commit_log.specs.Journals.{journal_in, journal_of, so_far_of}
+use Rattle.commit_log.specs.Journals.{whole_record, journal_in, journal_of, so_far_of}
 use Rattle.commit_log.specs.Adding.{HasAlso, IsOldOrWith}
 use Rattle.commit_log.specs.Growth.{with_records, with_payloads, HasAdded, IsGrown}
 use Rattle.commit_log.specs.Laws.{GrowsByNone, GrowsByMore, GrowsOn, AddsOn}
-use Rattle.commit_log.proofs.Steps.{so_far_by_records, so_far_after, so_far_stays}
+use Rattle.commit_log.proofs.Steps.{read_back, so_far_by_records, so_far_after, so_far_stays}
 
 -- ---- no record more
 
@@ -29,7 +29,7 @@ no_payload (Ok payloads) = ap (λ (l : List (List ℕ)). Ok l) (append-nil paylo
 no_payload (Err place) = refl
 
 pub has_none : (old image : List ℕ) → records_of image ≡ records_of old → journal_of image ≡ journal_of old → HasAdded old [] image
-has_none old image records journal = record { records = records ∙ sym (no_payload (records_of old)); journal = journal ∙ sym (none_added (journal_of old)) }
+has_none old image records journal = record { records = records ∙ sym (no_payload (records_of old)); read = refl; journal = journal ∙ sym (none_added (journal_of old)) }
 
 pub has_itself : (old : List ℕ) → HasAdded old [] old
 has_itself old = has_none old old refl refl
@@ -49,9 +49,22 @@ payloads_on records more (Ok payloads) =
     ap (λ (l : List (List ℕ)). Ok l) (append_assoc payloads (map spell_record records) (map spell_record more) ∙ ap (λ (l : List (List ℕ)). payloads ++ l) (sym (map-append spell_record records more)))
 payloads_on records more (Err place) = refl
 
+-- a record that is read back from its bytes
+abbrev read_again : Record → Option Record
+read_again one = whole_record (spell_record one)
+
+read_on : (records more : List Record) → map read_again records ≡ map (λ (one : Record). Some one) records → map read_again more ≡ map (λ (one : Record). Some one) more
+    → map read_again (records ++ more) ≡ map (λ (one : Record). Some one) (records ++ more)
+read_on records more first second =
+    map-append read_again records more
+    ∙ ap (λ (l : List (Option Record)). l ++ map read_again more) first
+    ∙ ap (λ (l : List (Option Record)). map (λ (one : Record). Some one) records ++ l) second
+    ∙ sym (map-append (λ (one : Record). Some one) records more)
+
 pub adds_on : AddsOn
 adds_on old records between more image first second = record {
   records = second.records ∙ ap (with_payloads more) first.records ∙ payloads_on records more (records_of old);
+  read = read_on records more first.read second.read;
   journal = second.journal ∙ ap (with_records more) first.journal ∙ added_on records more (journal_of old);
 }
 
@@ -118,6 +131,7 @@ module _ (old : List ℕ) (one : Record) (journal : Journal) (is_opened has_hori
   pub has_one : (image : List ℕ) → HasAlso old one image → HasAdded old (one ∷ []) image
   has_one image also = record {
     records = also.records ∙ last_is_added one (records_of old);
+    read = ap (λ (o : Option Record). o ∷ []) (read_back one also.fits);
     journal = ap journal_in (comes_to image also) ∙ sym (ap (λ (r : Result SoFar ℕ). with_records (one ∷ []) (journal_in r)) begun);
   }
 

@@ -1,6 +1,7 @@
 pub mod Steps
 pub mod Growing
 pub mod Fronts
+pub mod Between
 pub mod KeepingCommits
 pub mod KeepingReservations
 pub mod KeepingJournals

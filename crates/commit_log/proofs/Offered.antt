@@ -6,3 +6,6 @@ pub use Rattle.commit_log.proofs.Committing.{may_beside, notes_commit, block_bes
 pub use Rattle.commit_log.proofs.Growing.{grown_stays, grown_more, grown_then}
 -- no record more, records behind records, and none of any records
 pub use Rattle.commit_log.proofs.Growing.{has_itself, adds_on, grows_by_none}
+-- a front of a journal's records is a journal, and one between two stores has some of the records that the second has more
+pub use Rattle.commit_log.proofs.Fronts.{fronts_are_journals}
+pub use Rattle.commit_log.proofs.Between.{fronts_are_grown}

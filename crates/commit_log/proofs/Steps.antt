@@ -90,7 +90,7 @@ damaged_record image done payload walk so_far place judges read misplaced at =
 
 -- ---- one record more
 
-read_back : (one : Record) → FitsRecord one → whole_record (spell_record one) ≡ Some one
+pub read_back : (one : Record) → FitsRecord one → whole_record (spell_record one) ≡ Some one
 read_back one fits = ap (λ (l : List ℕ). if_whole (record_at l)) (sym (append-nil (spell_record one))) ∙ ap if_whole (record_again one [] fits)
 
 pub so_far_after : (old image : List ℕ) (one : Record) (so_far next : SoFar) → so_far_of old ≡ Ok so_far → after so_far one ≡ Some next → HasAlso old one image → so_far_of image ≡ Ok next

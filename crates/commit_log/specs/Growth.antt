@@ -1,12 +1,12 @@
 -- What a call that adds records leaves of a store, and what a crash does.
-use Rattle.std.specs.Prelude.{◌≡◌, ℕ, ◌+◌, ◌≤◌, Bool, max, List, [], ◌∷◌, ◌++◌, length, take, map, fold, Result, Ok, Err, if◌then◌else◌}
+use Rattle.std.specs.Prelude.{◌≡◌, ℕ, ◌+◌, ◌≤◌, Bool, max, List, [], ◌∷◌, ◌++◌, length, take, map, fold, Some, Result, Ok, Err, if◌then◌else◌}
 use Rattle.redo_store.specs.Records.{records_of}
 use Rattle.commit_log.specs.declared.journal.Journal.{Journal}
 use Rattle.commit_log.specs.declared.records.Record.{Record}
 use Rattle.commit_log.specs.declared.records.Record.TheVariants as kept
 use Rattle.commit_log.specs.RecordBytes.{spell_record}
 use Rattle.commit_log.specs.Rules.{SoFar, Begun, rises, with_record}
-use Rattle.commit_log.specs.Journals.{journal_of}
+use Rattle.commit_log.specs.Journals.{whole_record, journal_of}
 
 -- the journal with these records more, in order
 abbrev pub with_records : List Record → Result Journal ℕ → Result Journal ℕ
@@ -18,9 +18,11 @@ abbrev pub with_payloads : List Record → Result (List (List ℕ)) ℕ → Resu
 with_payloads records (Err place) = Err place
 with_payloads records (Ok payloads) = Ok (payloads ++ map spell_record records)
 
--- the image has the records of the old one and behind them these, and so has its journal
+-- The image has the records of the old one and behind them these, each of which is read back from its bytes, and so has
+-- its journal.
 pub record HasAdded (old : List ℕ) (added : List Record) (image : List ℕ) : Type 0 where
   pub records : records_of image ≡ with_payloads added (records_of old)
+  pub read : map (λ one. whole_record (spell_record one)) added ≡ map (λ one. Some one) added
   pub journal : journal_of image ≡ with_records added (journal_of old)
 
 -- the image has the records of the old one, and behind them some of these, in order

@@ -73,6 +73,9 @@ pub record WasJournal (journal : Journal) (rest : List (List ℕ)) (front : List
   pub since : List Record
   pub spelled : map whole_record rest ≡ map (λ one. Some one) since
   pub grown : fold with_record earlier since ≡ journal
+  -- it began with the same base, and no opening since had a lower incarnation
+  pub base : earlier.base ≡ journal.base
+  pub lower : earlier.incarnation ≤ journal.incarnation
 
 -- a front of a journal's records, its base at least, is a journal
 abbrev pub FrontsAreJournals : Type 0

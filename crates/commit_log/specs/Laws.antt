@@ -1,5 +1,5 @@
 -- How stores grow, and which journal a log has.
-use Rattle.std.specs.Prelude.{◌≡◌, ℕ, max, List, [], ◌++◌, fold, Ok}
+use Rattle.std.specs.Prelude.{◌≡◌, ℕ, max, List, [], ◌∷◌, ◌++◌, fold, Ok}
 use Rattle.disk_model.specs.Disk.{DiskState}
 use Rattle.redo_store.specs.Records.{records_of, record_count}
 use Rattle.commit_log.specs.declared.journal.Journal.{Journal}
@@ -29,6 +29,15 @@ abbrev pub AddsOn : Type 0
 AddsOn =
     (old : List ℕ) (records : List Record) (between : List ℕ) (more : List Record) (image : List ℕ)
     → HasAdded old records between → HasAdded between more image → HasAdded old (records ++ more) image
+
+-- An image whose records lie between those of two stores, of which the second has these records more, has grown by some
+-- of them.
+abbrev pub FrontsAreGrown : Type 0
+FrontsAreGrown =
+    (old image whole : List ℕ) (added : List Record) (journal : Journal) (first : List ℕ) (mine some more : List (List ℕ))
+    → HasAdded old added whole → journal_of whole ≡ Ok journal
+    → records_of old ≡ Ok (first ∷ mine) → records_of image ≡ Ok (first ∷ mine ++ some) → records_of whole ≡ Ok (first ∷ mine ++ some ++ more)
+    → IsGrown old added image
 
 -- the journal of a log is the one that the disk holds, and it counts the disk's records
 abbrev pub HasItsJournal : Type 0
