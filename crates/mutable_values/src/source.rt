@@ -187,7 +187,7 @@ impl Source {
     /// linear in the sequences and in the kept draws.
     pub fn draw(
         &mut self,
-        alloc: Global,
+        _alloc: Global,
         kind: &DrawKind,
         kept: &mut Kept,
         now: u64,
@@ -204,7 +204,7 @@ impl Source {
             return Ok(Drawn::Value(draw));
         }
         match kind {
-            DrawKind::Seq(name) => self.next_value(alloc, name),
+            DrawKind::Seq(name) => self.next_value(name),
             DrawKind::Clock => Ok(Drawn::Value(Draw::Clock { tick: now })),
             DrawKind::Id => Ok(Drawn::Value(self.next_identifier())),
         }
@@ -231,7 +231,7 @@ impl Source {
     }
 
     /// A new value of the sequence, where it lies in the reservation. Past it another is asked for.
-    fn next_value(&mut self, alloc: Global, name: &Name) -> Result<Drawn, DrawFault>
+    fn next_value(&mut self, name: &Name) -> Result<Drawn, DrawFault>
         requires { HasRoom self.old }
         ensures drawn { IfOk result (λ answer. (kept : List One) → new_draw self.old kept (kind.Seq name.now) 0 ≡ Some (record { answer = answer; opening = self.new; kept = kept })) }
         ensures none { IsErrOf result DrawFault.NoSequence ↔ (sequence_of self.old.sequences name.now ≡ None) }
@@ -240,9 +240,7 @@ impl Source {
         let Some(at) = self.place(name) else {
             return Err(DrawFault::NoSequence);
         };
-        let Ok(name) = name.copy(alloc) else {
-            return Err(DrawFault::NoMemory);
-        };
+        let name = name.copied();
         let sequence = &self.sequences[at];
         if !sequence.has_value() {
             let upto = sequence.next_end();

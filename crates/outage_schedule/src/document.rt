@@ -165,7 +165,7 @@ impl TryCopy for ServiceOf {
 impl TryCopy for DocTable {
     fn copy(&self, alloc: Global) -> Result<DocTable, NoMemory> {
         Ok(DocTable {
-            name: self.name.copy(alloc)?,
+            name: self.name.copied(),
             columns: self.columns.copy(alloc)?,
             rows: self.rows.copy(alloc)?,
             index: self.index.copy(alloc)?,
@@ -174,9 +174,9 @@ impl TryCopy for DocTable {
 }
 
 impl TryCopy for DocSequence {
-    fn copy(&self, alloc: Global) -> Result<DocSequence, NoMemory> {
+    fn copy(&self, _alloc: Global) -> Result<DocSequence, NoMemory> {
         Ok(DocSequence {
-            name: self.name.copy(alloc)?,
+            name: self.name.copied(),
             start: self.start,
             keep: self.keep,
         })

@@ -41,7 +41,7 @@ pub struct Report {
 impl TryCopy for ReportTable {
     fn copy(&self, alloc: Global) -> Result<ReportTable, NoMemory> {
         Ok(ReportTable {
-            name: self.name.copy(alloc)?,
+            name: self.name.copied(),
             rows: self.rows.copy(alloc)?,
         })
     }

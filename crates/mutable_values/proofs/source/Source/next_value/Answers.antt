@@ -14,9 +14,6 @@ use Rattle.mutable_values.proofs.source.Source.next_value.Goals as goal
 pub returns-in_default-clause-none : goal.returns-in_default-clause-none
 returns-in_default-clause-none c = (λ err. sequence_none c.args.self.now.sequences c.args.name.now (sym c.place.ensures ∙ c.in_default.is), λ none. refl)
 
-pub returns-in_default-copy-clause-none : goal.returns-in_default-copy-clause-none
-returns-in_default-copy-clause-none c = (λ err. absurd (cc), λ none. absurd (placed c.args.self.now.sequences c.args.name.now c.in-Some.at (sym c.place.ensures ∙ c.in-Some.is) none))
-
 pub returns-then-not-has_value-clause-drawn : goal.returns-then-not-has_value-clause-drawn
 returns-then-not-has_value-clause-drawn c = λ kept.
     let opening = c.args.self.now in
@@ -27,7 +24,7 @@ returns-then-not-has_value-clause-drawn c = λ kept.
     let bits = to_z-of_z w64 c.next_end-upto.result fits ∙ c.next_end-upto.ensures in
     let told : List ℕ → ℤ → Option DrawnFrom = λ name upto. Some (record { answer = drawn.Reserve name upto; opening = opening; kept = kept }) in
     new_past opening kept c.args.name.now 0 at sequence (sym c.place.ensures ∙ c.in-Some.is) (c.index-sequence.ensures ∙ ap (λ l. get_or l at sequence) view) (sym c.has_value.ensures ∙ c.if-not-has_value.true)
-    ∙ sym (ap₂ told c.in-Ok.ensures bits)
+    ∙ sym (ap₂ told c.copied-name.ensures bits)
 
 pub returns-then-not-has_value-clause-none : goal.returns-then-not-has_value-clause-none
 returns-then-not-has_value-clause-none c = (λ err. absurd (cc), λ none. absurd (placed c.args.self.now.sequences c.args.name.now c.in-Some.at (sym c.place.ensures ∙ c.in-Some.is) none))
@@ -62,8 +59,8 @@ returns-clause-drawn c = λ kept.
     let after : Opening → SeqState → Opening = λ o s. record o { sequences = set o.sequences at s } in
     let bits = to_z-of_z w64 c.give-value.result fits ∙ c.give-value.ensures.given in
     new_within opening kept name 0 at sequence (ap are_sequences (sym view) ∙ c.self.invariant) place is within
-    ∙ sym (ap₂ (λ n value. told n value (after opening (next_value sequence))) c.in-Ok.ensures bits)
-    ∙ sym (ap₂ (λ o s. told c.in-Ok.name (cast_signed w64 (cast_unsigned w64 c.give-value.result)) (after o s)) c.self.view_is c.give-value.ensures.rest)
+    ∙ sym (ap₂ (λ n value. told n value (after opening (next_value sequence))) c.copied-name.ensures bits)
+    ∙ sym (ap₂ (λ o s. told c.copied-name.result (cast_signed w64 (cast_unsigned w64 c.give-value.result)) (after o s)) c.self.view_is c.give-value.ensures.rest)
 
 pub returns-clause-none : goal.returns-clause-none
 returns-clause-none c = (λ err. absurd (cc), λ none. absurd (placed c.args.self.now.sequences c.args.name.now c.in-Some.at (sym c.place.ensures ∙ c.in-Some.is) none))
