@@ -4,6 +4,7 @@ use Rattle.std.proofs.lemmas.Bool.{le-leb}
 use Rattle.std.proofs.lemmas.List.{length_push}
 use Rattle.serde_json.specs.Data.{Data}
 use Rattle.json_form.specs.Arrays.{each_of, array_of}
+use Rattle.json_form.specs.declared.hexadecimal.Digits.{Digits}
 use Rattle.svc_values.specs.declared.statement.Statement.{Statement}
 use Rattle.svc_values.specs.declared.call.Call.{Call}
 use Rattle.svc_values.specs.declared.call.Call.TheVariants as call
@@ -52,11 +53,11 @@ call_made (item.Statement s ∷ other ∷ items) one some few h = work_made [] (
 call_made (item.Commit ∷ other ∷ items) one some few h = absurd (cc)
 
 -- a call that was read can be made
-pub call_read : (d : Data) (one : Call) → call_of d ≡ Ok one → is_made one ≡ true
+pub call_read : (digits : Digits) (d : Data) (one : Call) → call_of digits d ≡ Ok one → is_made one ≡ true
 unfolding call_of
-call_read d one h =
-    let a = after (array_of 1 8 (each_of item_read) d) call_of_items one h in
-    let b = read_array 1 8 (each_of item_read) d a.0 a.1 in
-    let long = each_long (λ before. item_read) [] b.items a.0 b.gave in
+call_read digits d one h =
+    let a = after (array_of 1 8 (each_of (item_read digits)) d) call_of_items one h in
+    let b = read_array 1 8 (each_of (item_read digits)) d a.0 a.1 in
+    let long = each_long (λ before. item_read digits) [] b.items a.0 b.gave in
     let enough = b.enough in
     let few = b.few in call_made a.0 one (omega arith) (omega arith) a.2

@@ -2,6 +2,7 @@
 use Rattle.std.specs.Prelude.{List, [], ◌∷◌, ◌++◌, true, false, Result, Ok, Err}
 use Rattle.serde_json.specs.Data.{Data}
 use Rattle.json_form.specs.declared.fault.DocCode.TheVariants.{Rule}
+use Rattle.json_form.specs.declared.hexadecimal.Digits.{Digits}
 use Rattle.json_form.specs.Faults.{Fault, ◌>>=◌, here}
 use Rattle.json_form.specs.Arrays.{array_of, each_of}
 use Rattle.svc_values.specs.declared.statement.Statement.{Statement}
@@ -27,5 +28,5 @@ call_of_items (item.Rollback ∷ []) = Ok call.Rollback
 call_of_items items = work_of [] items
 
 -- an array of 1 to 8 items, each by itself, and then the rule
-unfoldable pub call_of : Data → Result Call Fault
-call_of d = array_of 1 8 (each_of item_read) d >>= call_of_items
+unfoldable pub call_of : Digits → Data → Result Call Fault
+call_of digits d = array_of 1 8 (each_of (item_read digits)) d >>= call_of_items

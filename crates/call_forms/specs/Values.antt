@@ -1,9 +1,10 @@
--- How names, values and operands stand in a document.
+-- How names, values and operands stand in a document, and with digits in lower case in a report.
 use Rattle.std.specs.Prelude.{ℕ, List, [], ◌∷◌, length, Bool, nat_le, Option, Some, None, Result, Ok, Err, codes, if◌then◌else◌}
 use Rattle.serde_json.specs.Data.{Data, Num, Members, no_members, member}
 use Rattle.std.specs.Str.{bytes_eq}
 use Rattle.serde_json.specs.Find.{as_str, as_number, as_object}
 use Rattle.json_form.specs.declared.fault.DocCode.TheVariants.{Unknown, Limit}
+use Rattle.json_form.specs.declared.hexadecimal.Digits.{Digits}
 use Rattle.json_form.specs.Faults.{Fault, ◌>>=◌, here, within}
 use Rattle.json_form.specs.Arrays.{fresh}
 use Rattle.json_form.specs.Values.{integer_of, text_of}
@@ -36,24 +37,24 @@ short make bytes = in_limits (nat_le (length bytes) 64) (make bytes)
 abbrev pub line_of : Data → Result (List ℕ) Fault
 line_of d = text_of d >>= short (λ text. text)
 
-abbrev pub bytes_value : Data → Result Value Fault
-bytes_value d = octets_of d >>= short value.Bytes
+abbrev pub bytes_value : Digits → Data → Result Value Fault
+bytes_value digits d = octets_of digits d >>= short value.Bytes
 
 -- bytes stand as an object with the one member `hex`
-unfoldable pub bytes_object : Data → Result Value Fault
-bytes_object d = object_with (codes "hex" ∷ []) d >>= λ ms. required (codes "hex") ms >>= λ hex. within (codes "hex") (bytes_value hex)
+unfoldable pub bytes_object : Digits → Data → Result Value Fault
+bytes_object digits d = object_with (codes "hex" ∷ []) d >>= λ ms. required (codes "hex") ms >>= λ hex. within (codes "hex") (bytes_value digits hex)
 
-abbrev pub number_or_bytes : Data → Option Num → Result Value Fault
-number_or_bytes d None = bytes_object d
-number_or_bytes d (Some n) = integer_of d >>= λ z. Ok (value.Int z)
+abbrev pub number_or_bytes : Digits → Data → Option Num → Result Value Fault
+number_or_bytes digits d None = bytes_object digits d
+number_or_bytes digits d (Some n) = integer_of d >>= λ z. Ok (value.Int z)
 
-abbrev pub text_or_other : Data → Option (List ℕ) → Result Value Fault
-text_or_other d None = number_or_bytes d (as_number d)
-text_or_other d (Some text) = line_of d >>= λ line. Ok (value.Text line)
+abbrev pub text_or_other : Digits → Data → Option (List ℕ) → Result Value Fault
+text_or_other digits d None = number_or_bytes digits d (as_number d)
+text_or_other digits d (Some text) = line_of d >>= λ line. Ok (value.Text line)
 
 -- a number is an integer, a text a text, and an object bytes
-unfoldable pub value_of : Data → Result Value Fault
-value_of d = text_or_other d (as_str d)
+unfoldable pub value_of : Digits → Data → Result Value Fault
+value_of digits d = text_or_other digits d (as_str d)
 
 -- an object that has another number of members than one names nothing
 abbrev pub only_member : Members → Result (List ℕ × Data) Fault
@@ -64,17 +65,17 @@ abbrev pub draw_words : List (List ℕ × DrawKind)
 draw_words = (codes "clock", kind.Clock) ∷ (codes "id", kind.Id) ∷ []
 
 -- what the member of this name says
-abbrev pub operand_named : List ℕ → Data → Result Operand Fault
-operand_named name inner =
-    if bytes_eq name (codes "hex") then (within name (bytes_value inner) >>= λ x. Ok (operand.Lit x)) else (
+abbrev pub operand_named : Digits → List ℕ → Data → Result Operand Fault
+operand_named digits name inner =
+    if bytes_eq name (codes "hex") then (within name (bytes_value digits inner) >>= λ x. Ok (operand.Lit x)) else (
     if bytes_eq name (codes "var") then (within name (name_of inner) >>= λ n. Ok (operand.Var n)) else (
     if bytes_eq name (codes "seq") then (within name (name_of inner) >>= λ n. Ok (operand.Draw (kind.Seq n))) else (
     if bytes_eq name (codes "draw") then (within name (word_of draw_words inner) >>= λ k. Ok (operand.Draw k)) else Err (here Unknown))))
 
-abbrev pub literal_or_named : Data → Option Members → Result Operand Fault
-literal_or_named d None = value_of d >>= λ x. Ok (operand.Lit x)
-literal_or_named d (Some ms) = only_member ms >>= λ only. operand_named only.0 only.1
+abbrev pub literal_or_named : Digits → Data → Option Members → Result Operand Fault
+literal_or_named digits d None = value_of digits d >>= λ x. Ok (operand.Lit x)
+literal_or_named digits d (Some ms) = only_member ms >>= λ only. operand_named digits only.0 only.1
 
 -- a value, or an object with one member that says where the value comes from
-unfoldable pub operand_of : Data → Result Operand Fault
-operand_of d = literal_or_named d (as_object d)
+unfoldable pub operand_of : Digits → Data → Result Operand Fault
+operand_of digits d = literal_or_named digits d (as_object d)

@@ -7,7 +7,7 @@ ghost use Rattle.call_forms.specs.Calls.{call_of, call_of_items as call_of_items
 use crate::item::Item;
 use crate::statement::ItemReader;
 use document_limits::Count;
-use json_form::{DocCode, DocFault, Reader, array_from};
+use json_form::{Digits, DocCode, DocFault, Reader, array_from};
 use serde_json::Value as Json;
 use std::alloc::Global;
 use svc_values::{Call, Limited};
@@ -72,16 +72,23 @@ fn call_of_items(alloc: Global, mut items: Vec<Item>) -> Result<Call, DocFault>
     }
 }
 
-/// Reads a call: its items each by itself, and then the rule on them. The cost is linear.
-pub struct CallReader;
+/// Reads a call: its items each by itself, and then the rule on them. Bytes stand in these digits.
+/// The cost is linear.
+#[derive(Clone, Copy, Debug, PartialEq, Eq)]
+pub struct CallReader {
+    pub digits: Digits,
+}
 
 impl Reader<Call> for CallReader {
-    ghost reads = { λ s. call_of };
+    ghost reads = { λ s. call_of s.digits };
 
     #[tactic(auto, unfolding(crate::specs::Calls::call_of))]
     fn read(&self, alloc: Global, value: Json) -> Result<Call, DocFault> {
         let limit = Count::Items.limit();
-        let items = array_from(alloc, value, limit.least, limit.most, &ItemReader)?;
+        let reader = ItemReader {
+            digits: self.digits,
+        };
+        let items = array_from(alloc, value, limit.least, limit.most, &reader)?;
         call_of_items(alloc, items)
     }
 }

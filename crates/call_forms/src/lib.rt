@@ -9,4 +9,6 @@ mod value;
 pub use call::CallReader;
 pub use item::{ChangeWord, Item, ItemWord};
 pub use statement::ItemReader;
-pub use value::{LineReader, NameReader, NewNameReader, OperandReader, ValueReader, copied};
+pub use value::{
+    LineReader, NameReader, NewNameReader, OperandReader, ValueReader, copied, only_member,
+};

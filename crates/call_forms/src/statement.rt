@@ -8,7 +8,7 @@ ghost use Rattle.call_forms.specs.Items.{insert_of, update_of, delete_of, get_of
 use crate::item::{ChangeWord, Item, ItemWord};
 use crate::value::{LineReader, NameReader, OperandReader, ValueReader};
 use document_limits::Count;
-use json_form::{DocFault, Reader, array_from, fixed, head_from, word_from};
+use json_form::{Digits, DocFault, Reader, array_from, fixed, head_from, word_from};
 use serde_json::Value as Json;
 use std::alloc::Global;
 use svc_values::{Change, Limited, Operand, Operands, Statement, Test};
@@ -44,28 +44,34 @@ impl Reader<ChangeWord> for ChangeReader {
 }
 
 /// Reads the operands of an insert.
-struct OperandsReader;
+#[derive(Clone, Copy)]
+struct OperandsReader {
+    digits: Digits,
+}
 
 impl Reader<Operands> for OperandsReader {
     ghost use Rattle.json_form.specs.Arrays.{array_of, each_of};
     ghost use Rattle.call_forms.specs.Values.{operand_of};
 
-    ghost reads = { λ s. array_of 1 8 (each_of operand_of) };
+    ghost reads = { λ s. array_of 1 8 (each_of (operand_of s.digits)) };
 
     fn read(&self, alloc: Global, value: Json) -> Result<Operands, DocFault> {
         let limit = Count::Operands.limit();
-        let operands = array_from(alloc, value, limit.least, limit.most, &OperandReader)?;
+        let reader = OperandReader {
+            digits: self.digits,
+        };
+        let operands = array_from(alloc, value, limit.least, limit.most, &reader)?;
         Ok(Limited::from_vec(operands))
     }
 }
 
 #[tactic(auto, unfolding(crate::specs::Items::insert_of), using(json_form::proofs::Offered::others_stay))]
-fn insert_from(alloc: Global, value: Json) -> Result<Item, DocFault>
-    ensures { Gives result (insert_of (view value)) }
+fn insert_from(alloc: Global, value: Json, digits: Digits) -> Result<Item, DocFault>
+    ensures { Gives result (insert_of digits (view value)) }
 {
     let mut parts = fixed(alloc, value, 3)?;
     let table = parts.read(alloc, 1, &NameReader)?;
-    let values = parts.read(alloc, 2, &OperandsReader)?;
+    let values = parts.read(alloc, 2, &OperandsReader { digits })?;
     Ok(Item::Statement(Statement::Insert { table, values }))
 }
 
@@ -79,15 +85,15 @@ fn change_of(word: ChangeWord, operand: Operand) -> Change
 }
 
 #[tactic(auto, unfolding(crate::specs::Items::update_of), using(json_form::proofs::Offered::others_stay))]
-fn update_from(alloc: Global, value: Json) -> Result<Item, DocFault>
-    ensures { Gives result (update_of (view value)) }
+fn update_from(alloc: Global, value: Json, digits: Digits) -> Result<Item, DocFault>
+    ensures { Gives result (update_of digits (view value)) }
 {
     let mut parts = fixed(alloc, value, 6)?;
     let table = parts.read(alloc, 1, &NameReader)?;
-    let key = parts.read(alloc, 2, &OperandReader)?;
+    let key = parts.read(alloc, 2, &OperandReader { digits })?;
     let column = parts.read(alloc, 3, &NameReader)?;
     let word = parts.read(alloc, 4, &ChangeReader)?;
-    let operand = parts.read(alloc, 5, &OperandReader)?;
+    let operand = parts.read(alloc, 5, &OperandReader { digits })?;
     Ok(Item::Statement(Statement::Update {
         table,
         key,
@@ -97,34 +103,34 @@ fn update_from(alloc: Global, value: Json) -> Result<Item, DocFault>
 }
 
 #[tactic(auto, unfolding(crate::specs::Items::delete_of), using(json_form::proofs::Offered::others_stay))]
-fn delete_from(alloc: Global, value: Json) -> Result<Item, DocFault>
-    ensures { Gives result (delete_of (view value)) }
+fn delete_from(alloc: Global, value: Json, digits: Digits) -> Result<Item, DocFault>
+    ensures { Gives result (delete_of digits (view value)) }
 {
     let mut parts = fixed(alloc, value, 3)?;
     let table = parts.read(alloc, 1, &NameReader)?;
-    let key = parts.read(alloc, 2, &OperandReader)?;
+    let key = parts.read(alloc, 2, &OperandReader { digits })?;
     Ok(Item::Statement(Statement::Delete { table, key }))
 }
 
 #[tactic(auto, unfolding(crate::specs::Items::get_of), using(json_form::proofs::Offered::others_stay))]
-fn get_from(alloc: Global, value: Json) -> Result<Item, DocFault>
-    ensures { Gives result (get_of (view value)) }
+fn get_from(alloc: Global, value: Json, digits: Digits) -> Result<Item, DocFault>
+    ensures { Gives result (get_of digits (view value)) }
 {
     let mut parts = fixed(alloc, value, 3)?;
     let table = parts.read(alloc, 1, &NameReader)?;
-    let key = parts.read(alloc, 2, &OperandReader)?;
+    let key = parts.read(alloc, 2, &OperandReader { digits })?;
     Ok(Item::Statement(Statement::Get { table, key }))
 }
 
 #[tactic(auto, unfolding(crate::specs::Items::select_of), using(json_form::proofs::Offered::others_stay))]
-fn select_from(alloc: Global, value: Json) -> Result<Item, DocFault>
-    ensures { Gives result (select_of (view value)) }
+fn select_from(alloc: Global, value: Json, digits: Digits) -> Result<Item, DocFault>
+    ensures { Gives result (select_of digits (view value)) }
 {
     let mut parts = fixed(alloc, value, 5)?;
     let table = parts.read(alloc, 1, &NameReader)?;
     let column = parts.read(alloc, 2, &NameReader)?;
     let test = parts.read(alloc, 3, &TestReader)?;
-    let operand = parts.read(alloc, 4, &OperandReader)?;
+    let operand = parts.read(alloc, 4, &OperandReader { digits })?;
     Ok(Item::Statement(Statement::Select {
         table,
         column,
@@ -153,21 +159,21 @@ fn sum_from(alloc: Global, value: Json) -> Result<Item, DocFault>
 }
 
 #[tactic(auto, unfolding(crate::specs::Items::show_of), using(json_form::proofs::Offered::others_stay))]
-fn show_from(alloc: Global, value: Json) -> Result<Item, DocFault>
-    ensures { Gives result (show_of (view value)) }
+fn show_from(alloc: Global, value: Json, digits: Digits) -> Result<Item, DocFault>
+    ensures { Gives result (show_of digits (view value)) }
 {
     let mut parts = fixed(alloc, value, 2)?;
-    let operand = parts.read(alloc, 1, &OperandReader)?;
+    let operand = parts.read(alloc, 1, &OperandReader { digits })?;
     Ok(Item::Statement(Statement::Show { operand }))
 }
 
 #[tactic(auto, unfolding(crate::specs::Items::set_of), using(json_form::proofs::Offered::others_stay))]
-fn set_from(alloc: Global, value: Json) -> Result<Item, DocFault>
-    ensures { Gives result (set_of (view value)) }
+fn set_from(alloc: Global, value: Json, digits: Digits) -> Result<Item, DocFault>
+    ensures { Gives result (set_of digits (view value)) }
 {
     let mut parts = fixed(alloc, value, 3)?;
     let name = parts.read(alloc, 1, &NameReader)?;
-    let value = parts.read(alloc, 2, &ValueReader)?;
+    let value = parts.read(alloc, 2, &ValueReader { digits })?;
     Ok(Item::Set { name, value })
 }
 
@@ -187,19 +193,19 @@ fn alone_from(alloc: Global, value: Json, one: Item) -> Result<Item, DocFault>
     Ok(one)
 }
 
-fn item_by(alloc: Global, value: Json, word: ItemWord) -> Result<Item, DocFault>
-    ensures { Gives result (item_by_def word (view value)) }
+fn item_by(alloc: Global, value: Json, word: ItemWord, digits: Digits) -> Result<Item, DocFault>
+    ensures { Gives result (item_by_def digits word (view value)) }
 {
     match word {
-        ItemWord::Insert => insert_from(alloc, value),
-        ItemWord::Update => update_from(alloc, value),
-        ItemWord::Delete => delete_from(alloc, value),
-        ItemWord::Get => get_from(alloc, value),
-        ItemWord::Select => select_from(alloc, value),
+        ItemWord::Insert => insert_from(alloc, value, digits),
+        ItemWord::Update => update_from(alloc, value, digits),
+        ItemWord::Delete => delete_from(alloc, value, digits),
+        ItemWord::Get => get_from(alloc, value, digits),
+        ItemWord::Select => select_from(alloc, value, digits),
         ItemWord::Count => count_from(alloc, value),
         ItemWord::Sum => sum_from(alloc, value),
-        ItemWord::Show => show_from(alloc, value),
-        ItemWord::Set => set_from(alloc, value),
+        ItemWord::Show => show_from(alloc, value, digits),
+        ItemWord::Set => set_from(alloc, value, digits),
         ItemWord::Alter => alter_from(alloc, value),
         ItemWord::Disable => alone_from(alloc, value, Item::Disable),
         ItemWord::Rollback => alone_from(alloc, value, Item::Rollback),
@@ -223,15 +229,18 @@ const WORDS: [(&str, ItemWord); 13] = [
     ("commit", ItemWord::Commit),
 ];
 
-/// Reads an item of a call, by its first word.
-pub struct ItemReader;
+/// Reads an item of a call, by its first word. Bytes stand in these digits.
+#[derive(Clone, Copy, Debug, PartialEq, Eq)]
+pub struct ItemReader {
+    pub digits: Digits,
+}
 
 impl Reader<Item> for ItemReader {
-    ghost reads = { λ s. item_read };
+    ghost reads = { λ s. item_read s.digits };
 
     #[tactic(auto, unfolding(crate::specs::Items::item_read))]
     fn read(&self, alloc: Global, value: Json) -> Result<Item, DocFault> {
         let word = head_from(alloc, &value, &WORDS)?;
-        item_by(alloc, value, word)
+        item_by(alloc, value, word, self.digits)
     }
 }

@@ -8,7 +8,7 @@ ghost use Rattle.json_form.specs.declared.fault.DocFault.TheVariants.{NoMemory};
 ghost use Rattle.call_forms.specs.Values.{name_of, new_name, value_of, bytes_value, bytes_object, line_of, only_member as only_member_def, operand_named as operand_named_def, operand_of, draw_words};
 
 use json_form::{
-    DocCode, DocFault, Integer, Reader, Taken, object_with, octets_from, text_from, within,
+    Digits, DocCode, DocFault, Integer, Reader, Taken, object_with, octets_from, text_from, within,
     word_from,
 };
 use serde_json::{Map, Value as Json};
@@ -74,10 +74,10 @@ impl Reader<Text> for LineReader {
 }
 
 /// At most 64 bytes, as hexadecimal digits.
-fn bytes_from(alloc: Global, value: Json) -> Result<Value, DocFault>
-    ensures { Gives result (bytes_value (view value)) }
+fn bytes_from(alloc: Global, value: Json, digits: Digits) -> Result<Value, DocFault>
+    ensures { Gives result (bytes_value digits (view value)) }
 {
-    let bytes = octets_from(alloc, value)?;
+    let bytes = octets_from(alloc, value, digits)?;
     match Octets::from_vec(bytes) {
         Ok(bytes) => Ok(Value::Bytes(bytes)),
         Err(_) => Err(DocFault::here(alloc, DocCode::Limit)),
@@ -85,19 +85,22 @@ fn bytes_from(alloc: Global, value: Json) -> Result<Value, DocFault>
 }
 
 #[tactic(auto, unfolding(crate::specs::Values::bytes_object))]
-fn bytes_member(alloc: Global, value: Json) -> Result<Value, DocFault>
-    ensures { Gives result (bytes_object (view value)) }
+fn bytes_member(alloc: Global, value: Json, digits: Digits) -> Result<Value, DocFault>
+    ensures { Gives result (bytes_object digits (view value)) }
 {
     let mut members = object_with(alloc, value, &["hex"])?;
     let hex = members.required(alloc, "hex")?;
-    within(alloc, "hex", bytes_from(alloc, hex))
+    within(alloc, "hex", bytes_from(alloc, hex, digits))
 }
 
-/// Reads a value: a number, a text, or an object of bytes.
-pub struct ValueReader;
+/// Reads a value: a number, a text, or an object of bytes in these digits.
+#[derive(Clone, Copy, Debug, PartialEq, Eq)]
+pub struct ValueReader {
+    pub digits: Digits,
+}
 
 impl Reader<Value> for ValueReader {
-    ghost reads = { λ s. value_of };
+    ghost reads = { λ s. value_of s.digits };
 
     #[tactic(auto, unfolding(crate::specs::Values::value_of))]
     fn read(&self, alloc: Global, value: Json) -> Result<Value, DocFault> {
@@ -107,12 +110,12 @@ impl Reader<Value> for ValueReader {
         if value.is_number() {
             return Ok(Value::Int(Integer.read(alloc, value)?));
         }
-        bytes_member(alloc, value)
+        bytes_member(alloc, value, self.digits)
     }
 }
 
 /// The name and the value of an object's only member.
-fn only_member(alloc: Global, members: Map<String, Json>) -> Result<(String, Json), DocFault>
+pub fn only_member(alloc: Global, members: Map<String, Json>) -> Result<(String, Json), DocFault>
     ensures { GivesBy (λ only. (string_bytes only.0, view only.1)) result
         (only_member_def (members_view members.entries)) }
 {
@@ -127,11 +130,16 @@ fn only_member(alloc: Global, members: Map<String, Json>) -> Result<(String, Jso
 }
 
 /// The operand that the member of this name says.
-fn operand_named(alloc: Global, name: &str, inner: Json) -> Result<Operand, DocFault>
-    ensures { Gives result (operand_named_def name.now (view inner)) }
+fn operand_named(
+    alloc: Global,
+    name: &str,
+    inner: Json,
+    digits: Digits,
+) -> Result<Operand, DocFault>
+    ensures { Gives result (operand_named_def digits name.now (view inner)) }
 {
     if name == "hex" {
-        let bytes = within(alloc, name, bytes_from(alloc, inner))?;
+        let bytes = within(alloc, name, bytes_from(alloc, inner, digits))?;
         return Ok(Operand::Lit(bytes));
     }
     if name == "var" {
@@ -171,19 +179,24 @@ impl Reader<DrawKind> for DrawReader {
 }
 
 /// Reads an operand: a value, or an object with one member that says where the value comes from.
-pub struct OperandReader;
+/// Bytes stand in these digits.
+#[derive(Clone, Copy, Debug, PartialEq, Eq)]
+pub struct OperandReader {
+    pub digits: Digits,
+}
 
 impl Reader<Operand> for OperandReader {
-    ghost reads = { λ s. operand_of };
+    ghost reads = { λ s. operand_of s.digits };
 
     #[tactic(auto, unfolding(crate::specs::Values::operand_of))]
     fn read(&self, alloc: Global, value: Json) -> Result<Operand, DocFault> {
+        let digits = self.digits;
         match value {
             Json::Object(members) => {
                 let (name, inner) = only_member(alloc, members)?;
-                operand_named(alloc, name.as_str(), inner)
+                operand_named(alloc, name.as_str(), inner, digits)
             }
-            literal => Ok(Operand::Lit(ValueReader.read(alloc, literal)?)),
+            literal => Ok(Operand::Lit(ValueReader { digits }.read(alloc, literal)?)),
         }
     }
 }

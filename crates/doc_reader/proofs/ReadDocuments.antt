@@ -173,6 +173,11 @@ document_read d document h =
     let g = after (begin_of ms) (λ begin. rest_of (ms (codes "schedule")) b.0 begin) document b.2 in
     rest_read (ms (codes "schedule")) b.0 g.0 document (begin_read ms g.0 g.1) g.2
 
+-- the document of a JSON value keeps to what documents keep to
+pub of_value : (d : Data) (result : Result Document DocFault) → Gives result (document_of d) → IfOk result IsDocument
+of_value d (Ok document) h = document_read d document h
+of_value d (Err e) h = tt
+
 -- the bytes' document keeps to what documents keep to
 is_document : (bytes : List ℕ) (document : Document) → document_at bytes ≡ Ok document → IsDocument document
 is_document bytes document h =

@@ -164,9 +164,12 @@ const MEMBERS: [&str; 7] = [
     "schedule",
 ];
 
+/// The document of a JSON value, or the first fault and its place. How many bytes the value was read
+/// from is no matter. The cost is that of `read_document`.
 #[tactic(auto, unfolding(crate::specs::Documents::document_of), using(crate::proofs::Parts::parts_stay))]
-fn document_from(alloc: Global, value: Json) -> Result<Document, DocFault>
-    ensures { Gives result (document_of (view value)) }
+pub fn document_from(alloc: Global, value: Json) -> Result<Document, DocFault>
+    ensures read { Gives result (document_of (view value)) }
+    ensures document { IfOk result IsDocument }
 {
     let mut members = object_with(alloc, value, &MEMBERS)?;
     let clients = members.required(alloc, "clients")?;

@@ -6,5 +6,5 @@ mod document;
 mod image;
 mod streamed;
 
-pub use document::read_document;
+pub use document::{document_from, read_document};
 pub use document_limits::DOCUMENT_LIMIT;

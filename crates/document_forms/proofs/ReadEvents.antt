@@ -3,6 +3,7 @@ use Rattle.std.proofs.Common.{◌≡◌, ◌≤◌, ℕ, ◌+◌, ◌||◌, nat_
 use Rattle.std.specs.List.{list_all}
 use Rattle.std.proofs.lemmas.Bool.{le-leb, leb-true}
 use Rattle.serde_json.specs.Data.{Data}
+use Rattle.json_form.specs.declared.hexadecimal.Digits.TheVariants as digits
 use Rattle.json_form.specs.declared.fault.DocCode.TheVariants.{Rule}
 use Rattle.json_form.specs.Faults.{Fault, ◌>>=◌, here}
 use Rattle.json_form.specs.Values.{whole_of}
@@ -113,9 +114,9 @@ bare_read clients standby made d one is h =
 outside_read : (clients : ℕ) (standby : Bool) (d : Data) (one : Event) → outside_of d ≡ Ok one → Fits clients standby one
 unfolding outside_of is_event
 outside_read clients standby d one h =
-    let a = after (fixed 2 d) (λ ds. part 1 (array_of 1 1024 (each_of call_of)) ds >>= λ calls. Ok (event.Outside calls)) one h in
-    let b = after (part 1 (array_of 1 1024 (each_of call_of)) a.0) (λ calls. Ok (event.Outside calls)) one a.2 in
-    let c = part_read 1 (array_of 1 1024 (each_of call_of)) a.0 b.0 b.1 in
+    let a = after (fixed 2 d) (λ ds. part 1 (array_of 1 1024 (each_of (call_of digits.Any))) ds >>= λ calls. Ok (event.Outside calls)) one h in
+    let b = after (part 1 (array_of 1 1024 (each_of (call_of digits.Any))) a.0) (λ calls. Ok (event.Outside calls)) one a.2 in
+    let c = part_read 1 (array_of 1 1024 (each_of (call_of digits.Any))) a.0 b.0 b.1 in
     let are = calls_read c.0 b.0 c.1 in as_made clients standby (event.Outside b.0) one (both_true _ _ are.made are.count) b.2
 
 abbrev with_number : Placed → ℕ → ℕ → Result Ltxid Fault

@@ -3,6 +3,7 @@ use Rattle.std.proofs.Common.{◌≡◌, ◌≤◌, ℕ, ◌||◌, ◌==◌, Lis
 use Rattle.std.specs.List.{list_all}
 use Rattle.std.proofs.lemmas.Bool.{le-leb}
 use Rattle.serde_json.specs.Data.{Data}
+use Rattle.json_form.specs.declared.hexadecimal.Digits.TheVariants as digits
 use Rattle.json_form.specs.declared.fault.DocCode.TheVariants.{Rule}
 use Rattle.json_form.specs.Faults.{Fault, ◌>>=◌, here, within}
 use Rattle.json_form.specs.Pointers.{escaped}
@@ -27,13 +28,13 @@ pub record AreCalls (calls : List Call) : Type 0 where
   pub made : list_all is_made calls ≡ true
   pub count : is_between 1 1024 (length calls) ≡ true
 
-pub calls_read : (d : Data) (calls : List Call) → array_of 1 1024 (each_of call_of) d ≡ Ok calls → AreCalls calls
+pub calls_read : (d : Data) (calls : List Call) → array_of 1 1024 (each_of (call_of digits.Any)) d ≡ Ok calls → AreCalls calls
 calls_read d calls h =
-    let a = read_array 1 1024 (each_of call_of) d calls h in
-    let long = each_long (λ before. call_of) [] a.items calls a.gave in
+    let a = read_array 1 1024 (each_of (call_of digits.Any)) d calls h in
+    let long = each_long (λ before. call_of digits.Any) [] a.items calls a.gave in
     let enough = a.enough in
     let few = a.few in record {
-      made = all_read is_made call_of call_read a.items calls a.gave;
+      made = all_read is_made (call_of digits.Any) (call_read digits.Any) a.items calls a.gave;
       count = both_true _ _ (le-leb 1 (length calls) (omega (arith, long, enough))) (le-leb (length calls) 1024 (omega (arith, long, few)));
     }
 
@@ -41,7 +42,7 @@ abbrev with_again : Named → NamedValues → List Call → Result Request Fault
 with_again ms settings cs = optional (codes "again") 0 (whole_of 0 4) ms >>= λ again. if_submitted_rightly (record { settings = settings; calls = cs; again = again })
 
 abbrev with_calls : Named → Data → NamedValues → Result Request Fault
-with_calls ms calls settings = within (codes "calls") (array_of 1 1024 (each_of call_of) calls) >>= with_again ms settings
+with_calls ms calls settings = within (codes "calls") (array_of 1 1024 (each_of (call_of digits.Any)) calls) >>= with_again ms settings
 
 abbrev with_settings : Named → Data → Result Request Fault
 with_settings ms calls = optional (codes "settings") [] settings_of ms >>= with_calls ms calls
@@ -57,7 +58,7 @@ request_read d one h =
     let ms = a.0 in
     let b = after (required (codes "calls") ms) (with_settings ms) one a.2 in
     let s = after (optional (codes "settings") [] settings_of ms) (with_calls ms b.0) one b.2 in
-    let cs = after (within (codes "calls") (array_of 1 1024 (each_of call_of) b.0)) (with_again ms s.0) one s.2 in
+    let cs = after (within (codes "calls") (array_of 1 1024 (each_of (call_of digits.Any)) b.0)) (with_again ms s.0) one s.2 in
     let n = after (optional (codes "again") 0 (whole_of 0 4) ms) (λ again. if_submitted_rightly (record { settings = s.0; calls = cs.0; again = again })) one cs.2 in
     let made : Request = record { settings = s.0; calls = cs.0; again = n.0 } in
     let p = passed ((n.0 == 0) || is_one_transaction cs.0) (Ok made) (here Rule) one n.2 in

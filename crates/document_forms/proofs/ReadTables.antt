@@ -5,6 +5,7 @@ use Rattle.std.specs.List.{list_all}
 use Rattle.std.specs.Str.{bytes_eq}
 use Rattle.std.proofs.lemmas.Bool.{le-leb}
 use Rattle.serde_json.specs.Data.{Data}
+use Rattle.json_form.specs.declared.hexadecimal.Digits.TheVariants as digits
 use Rattle.json_form.specs.declared.fault.DocCode.TheVariants.{WrongKind, Unknown}
 use Rattle.json_form.specs.Faults.{Fault, ◌>>=◌, here, within}
 use Rattle.json_form.specs.Pointers.{escaped}
@@ -59,7 +60,7 @@ KeyIsNew taken [] = Unit {0}
 KeyIsNew taken (key ∷ rest) = taken key ≡ false
 
 field_new : (taken : Value → Bool) (before : List Value) (d : Data) (x : Value) → KeyIsNew taken before → field_of taken before d ≡ Ok x → KeyIsNew taken (before ++ x ∷ [])
-field_new taken [] d x good h = new_key (value_of d) taken x h
+field_new taken [] d x good h = new_key (value_of digits.Any d) taken x h
 field_new taken (key ∷ rest) d x good h = good
 
 row_key : (taken : Value → Bool) (columns : List Column) (row : List Value) → 1 ≤ length columns → row_fits columns row ≡ true → KeyIsNew taken row → taken (key_of row) ≡ false

@@ -1,6 +1,7 @@
 -- How events stand in a schedule: arrays that begin with a word.
 use Rattle.std.specs.Prelude.{ℕ, ◌+◌, List, [], ◌∷◌, Bool, Result, Ok, Err, codes, if◌then◌else◌}
 use Rattle.serde_json.specs.Data.{Data}
+use Rattle.json_form.specs.declared.hexadecimal.Digits.TheVariants as digits
 use Rattle.json_form.specs.declared.fault.DocCode.TheVariants.{Rule}
 use Rattle.json_form.specs.Faults.{Fault, ◌>>=◌, here}
 use Rattle.json_form.specs.Values.{whole_of}
@@ -55,7 +56,7 @@ bare_of one d = fixed 1 d >>= λ _. Ok one
 
 -- ["outside",[call,...]] with 1 to 1,024 calls
 unfoldable pub outside_of : Data → Result Event Fault
-outside_of d = fixed 2 d >>= λ ds. part 1 (array_of 1 1024 (each_of call_of)) ds >>= λ calls. Ok (event.Outside calls)
+outside_of d = fixed 2 d >>= λ ds. part 1 (array_of 1 1024 (each_of (call_of digits.Any))) ds >>= λ calls. Ok (event.Outside calls)
 
 -- [incarnation,session,number]
 unfoldable pub ltxid_of : Data → Result Ltxid Fault

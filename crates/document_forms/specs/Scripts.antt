@@ -2,6 +2,7 @@
 use Rattle.std.specs.Prelude.{ℕ, ◌==◌, ◌||◌, ◌&&◌, not, List, [], ◌∷◌, Bool, false, fold, Result, Ok, Err, codes, if◌then◌else◌}
 use Rattle.std.specs.Str.{bytes_eq}
 use Rattle.serde_json.specs.Data.{Data}
+use Rattle.json_form.specs.declared.hexadecimal.Digits.TheVariants as digits
 use Rattle.json_form.specs.declared.fault.DocCode.TheVariants.{Rule}
 use Rattle.json_form.specs.Faults.{Fault, ◌>>=◌, here, within}
 use Rattle.json_form.specs.Values.{whole_of}
@@ -19,7 +20,7 @@ use Rattle.call_forms.specs.Calls.{call_of}
 
 -- a pair of a new name and a value
 unfoldable pub setting_of : (List ℕ → Bool) → Data → Result (List ℕ × Value) Fault
-setting_of taken d = fixed 2 d >>= λ ds. part 0 (new_name taken) ds >>= λ name. part 1 value_of ds >>= λ x. Ok (name, x)
+setting_of taken d = fixed 2 d >>= λ ds. part 0 (new_name taken) ds >>= λ name. part 1 (value_of digits.Any) ds >>= λ x. Ok (name, x)
 
 -- settings, by name
 abbrev pub by_name : NamedValues → NamedValues
@@ -49,7 +50,7 @@ if_submitted_rightly request = if (request.again == 0) || is_one_transaction req
 unfoldable pub request_of : Data → Result Request Fault
 request_of d =
     object_with (codes "settings" ∷ codes "calls" ∷ codes "again" ∷ []) d >>= λ ms. required (codes "calls") ms >>= λ calls.
-    optional (codes "settings") [] settings_of ms >>= λ settings. within (codes "calls") (array_of 1 1024 (each_of call_of) calls) >>= λ cs.
+    optional (codes "settings") [] settings_of ms >>= λ settings. within (codes "calls") (array_of 1 1024 (each_of (call_of digits.Any)) calls) >>= λ cs.
     optional (codes "again") 0 (whole_of 0 4) ms >>= λ again. if_submitted_rightly (record { settings = settings; calls = cs; again = again })
 
 unfoldable pub client_of : Data → Result Client Fault

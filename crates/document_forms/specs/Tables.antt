@@ -2,6 +2,7 @@
 use Rattle.std.specs.Prelude.{ℕ, ℤ, pos, List, [], ◌∷◌, length, Bool, false, ◌&&◌, Result, Ok, Err, codes, if◌then◌else◌}
 use Rattle.std.specs.Str.{bytes_eq}
 use Rattle.serde_json.specs.Data.{Data}
+use Rattle.json_form.specs.declared.hexadecimal.Digits.TheVariants as digits
 use Rattle.json_form.specs.declared.fault.DocCode.TheVariants.{WrongKind, Unknown}
 use Rattle.json_form.specs.Faults.{Fault, ◌>>=◌, here, within}
 use Rattle.json_form.specs.Values.{text_of, whole_of, bool_of}
@@ -35,8 +36,8 @@ columns_of d = array_of 1 8 (distinct bytes_eq (λ column. column.name) column_o
 
 -- a value of a row: the first one is the key, which is new
 abbrev pub field_of : (Value → Bool) → List Value → Data → Result Value Fault
-field_of taken [] d = value_of d >>= λ key. fresh taken key >>= λ _. Ok key
-field_of taken (first ∷ before) d = value_of d
+field_of taken [] d = value_of digits.Any d >>= λ key. fresh taken key >>= λ _. Ok key
+field_of taken (first ∷ before) d = value_of digits.Any d
 
 abbrev pub fitting : List Column → List Value → Result (List Value) Fault
 fitting columns row = if row_fits columns row then Ok row else Err (here WrongKind)

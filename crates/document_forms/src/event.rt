@@ -9,7 +9,9 @@ use crate::built::{LateForm, require_built};
 use crate::number::whole;
 use call_forms::CallReader;
 use document_limits::{Count, Number};
-use json_form::{DocCode, DocFault, Reader, Whole, array_ahead, array_from, fixed, head_from};
+use json_form::{
+    Digits, DocCode, DocFault, Reader, Whole, array_ahead, array_from, fixed, head_from,
+};
 use outage_schedule::{Calls, Event, Events};
 use serde_json::Value as Json;
 use std::alloc::Global;
@@ -75,13 +77,17 @@ struct CallsReader;
 
 impl Reader<Calls> for CallsReader {
     ghost use Rattle.json_form.specs.Arrays.{array_of, each_of};
+    ghost use Rattle.json_form.specs.declared.hexadecimal.Digits.TheVariants as digits;
     ghost use Rattle.call_forms.specs.Calls.{call_of};
 
-    ghost reads = { λ s. array_of 1 1024 (each_of call_of) };
+    ghost reads = { λ s. array_of 1 1024 (each_of (call_of digits.Any)) };
 
     fn read(&self, alloc: Global, value: Json) -> Result<Calls, DocFault> {
         let limit = Count::OutsideCalls.limit();
-        let calls = array_from(alloc, value, limit.least, limit.most, &CallReader)?;
+        let reader = CallReader {
+            digits: Digits::Any,
+        };
+        let calls = array_from(alloc, value, limit.least, limit.most, &reader)?;
         Ok(Listed::from_vec(calls))
     }
 }

@@ -1,6 +1,7 @@
 //! Readers of clients and their requests.
 ghost use Rattle.std.specs.Prelude.{◌≡◌, IfOk, IfErr, codes};
 ghost use Rattle.serde_json.specs.View.{view};
+ghost use Rattle.json_form.specs.declared.hexadecimal.Digits.TheVariants as digits;
 ghost use Rattle.json_form.specs.Faults.{Gives, within};
 ghost use Rattle.json_form.specs.Arrays.{array_of, each_of};
 ghost use Rattle.call_forms.specs.Calls.{call_of};
@@ -10,7 +11,7 @@ use crate::number::whole;
 use call_forms::{CallReader, NewNameReader, ValueReader, copied};
 use document_limits::{Count, Number};
 use json_form::{
-    DocCode, DocFault, KeyedReader, Reader, Taken, array_at, distinct_list, fixed, list_at,
+    Digits, DocCode, DocFault, KeyedReader, Reader, Taken, array_at, distinct_list, fixed, list_at,
     object_with,
 };
 use outage_schedule::{Calls, Client, Request};
@@ -41,7 +42,8 @@ impl KeyedReader<(Name, Value)> for SettingReader {
     ) -> Result<(Name, Value), DocFault> {
         let mut parts = fixed(alloc, value, 2)?;
         let name = parts.read(alloc, 0, &NewNameReader { taken })?;
-        let value = parts.read(alloc, 1, &ValueReader)?;
+        let digits = Digits::Any;
+        let value = parts.read(alloc, 1, &ValueReader { digits })?;
         Ok((name, value))
     }
 }
@@ -106,10 +108,14 @@ fn submitted_rightly(alloc: Global, request: Request) -> Result<Request, DocFaul
 
 /// The calls of a request, which stand in its member `calls`.
 fn calls_from(alloc: Global, calls: Json) -> Result<Calls, DocFault>
-    ensures { Gives result (within (codes "calls") (array_of 1 1024 (each_of call_of) (view calls))) }
+    ensures { Gives result (within (codes "calls")
+        (array_of 1 1024 (each_of (call_of digits.Any)) (view calls))) }
 {
     let limit = Count::RequestCalls.limit();
-    let calls = array_at(alloc, "calls", calls, limit.least, limit.most, &CallReader)?;
+    let reader = CallReader {
+        digits: Digits::Any,
+    };
+    let calls = array_at(alloc, "calls", calls, limit.least, limit.most, &reader)?;
     Ok(Listed::from_vec(calls))
 }
 

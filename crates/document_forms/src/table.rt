@@ -15,8 +15,8 @@ use crate::table_ahead::table_ahead;
 use call_forms::{NewNameReader, ValueReader, copied};
 use document_limits::Count;
 use json_form::{
-    DocCode, DocFault, KeyedReader, Reader, Taken, distinct_ahead, distinct_from, distinct_list,
-    exact_from, fixed, object_with, text_from, within, within_item, word_from,
+    Digits, DocCode, DocFault, KeyedReader, Reader, Taken, distinct_ahead, distinct_from,
+    distinct_list, exact_from, fixed, object_with, text_from, within, within_item, word_from,
 };
 use outage_schedule::{DocRows, DocTable, DocTables, IndexColumns};
 use serde_json::Value as Json;
@@ -85,7 +85,8 @@ fn field_from(
     ensures { Gives result
         (field_of (is_key ⟦<Value as PartialEq>⟧.eq taken.now) before.now (view value)) }
 {
-    let field = ValueReader.read(alloc, value)?;
+    let digits = Digits::Any;
+    let field = ValueReader { digits }.read(alloc, value)?;
     if before.is_empty() {
         taken.fresh(alloc, &field)?;
     }

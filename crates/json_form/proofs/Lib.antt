@@ -12,5 +12,6 @@ pub mod Runs
 pub mod Shapes
 pub mod ShortNumbers
 pub mod TakenOut
+pub mod There
 pub mod Utf8
 pub mod WrittenTokens

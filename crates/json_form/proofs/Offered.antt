@@ -1,5 +1,5 @@
 -- Lemmas on this crate's words that the crates above cite.
-use Rattle.json_form.proofs.TakenOut.{has_after, required_after, optional_after, part_after}
+use Rattle.json_form.proofs.TakenOut.{has_after, required_after, member_after, optional_after, part_after}
 -- the tokens of an array, item by item
 pub use Rattle.json_form.proofs.WrittenTokens.{each_written, array_written}
 -- what a reading did that gave a value, one step after the other
@@ -24,4 +24,4 @@ pub use Rattle.json_form.proofs.PutThere.{named_put, without_put, without_other,
 pub use Rattle.json_form.proofs.Utf8.{is_json}
 
 -- a member or an item that was taken out changes nothing for the others
-pub ruleset others_stay = (has_after, required_after, optional_after, part_after)
+pub ruleset others_stay = (has_after, required_after, member_after, optional_after, part_after)

@@ -15,7 +15,7 @@ use Rattle.serde_json.specs.View.{view, items_view, members_view}
 use Rattle.serde_json.specs.declared.value.Value.{Value, Null, the_lemmas}
 use Rattle.serde_json.proofs.Views.{Entry, view-lookup, member_later}
 use Rattle.json_form.specs.Faults.{Fault}
-use Rattle.json_form.specs.Objects.{Named, named, has, required, optional, without}
+use Rattle.json_form.specs.Objects.{Named, named, has, required, optional, member_in, without}
 use Rattle.json_form.specs.Arrays.{Placed, placed, part, taken_at}
 
 -- the entry of a name
@@ -82,6 +82,10 @@ has_after name other ms apart = rw apart refl
 pub required_after : (name other : List ℕ) (ms : Named) → bytes_eq name other ≡ false → required name (without other ms) ≡ required name ms
 unfolding required without
 required_after name other ms apart = rw apart refl
+
+pub member_after : {A : Type 0} (name other : List ℕ) (read : Data → Result A Fault) (ms : Named) → bytes_eq name other ≡ false → member_in name read (without other ms) ≡ member_in name read ms
+unfolding member_in
+member_after name other read ms apart = rw (required_after name other ms apart) refl
 
 pub optional_after : {A : Type 0} (name other : List ℕ) (otherwise : A) (read : Data → Result A Fault) (ms : Named) → bytes_eq name other ≡ false → optional name otherwise read (without other ms) ≡ optional name otherwise read ms
 unfolding optional without

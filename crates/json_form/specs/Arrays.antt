@@ -67,8 +67,14 @@ Placed = ℕ → Option Data
 abbrev pub placed : Items → Placed
 placed ds i = get_item i ds
 
+abbrev pub items_at : held.Parts → Items
+items_at held = items_view held.items.items
+
 abbrev pub parts_at : held.Parts → Placed
-parts_at held = placed (items_view held.items.items)
+parts_at held = placed (items_at held)
+
+abbrev pub count_at : held.Parts → ℕ
+count_at held = items_len (items_at held)
 
 -- an array of exactly n items, by their positions
 abbrev pub fixed : ℕ → Data → Result Placed Fault

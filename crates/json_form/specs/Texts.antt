@@ -1,12 +1,15 @@
 -- Texts: fixed words, hexadecimal digits, and the bytes of a document.
-use Rattle.std.specs.Prelude.{ℕ, List, [], ◌∷◌, length, nat_lt, if◌then◌else◌, Option, Some, None, option_and_then, Result, Ok, Err}
+use Rattle.std.specs.Prelude.{ℕ, ◌&&◌, List, [], ◌∷◌, length, Bool, nat_lt, nat_le, if◌then◌else◌, Option, Some, None, option_and_then, Result, Ok, Err}
 use Rattle.std.specs.Str.{bytes_eq, is_utf8}
+use Rattle.std.specs.List.{list_any}
 use Rattle.serde_json.specs.Data.{Data}
 use Rattle.serde_json.specs.Find.{get_item, as_str}
 use Rattle.serde_json.specs.Read.{read}
 use Rattle.hex.specs.Hex.{decode_of}
 use Rattle.hex.specs.declared.error.FromHexError.{FromHexError}
 use Rattle.json_form.specs.declared.fault.DocCode.TheVariants.{TooLong, NotJson, Unknown, BadImage}
+use Rattle.json_form.specs.declared.hexadecimal.Digits.{Digits}
+use Rattle.json_form.specs.declared.hexadecimal.Digits.TheVariants as digits
 use Rattle.json_form.specs.Faults.{Fault, ◌>>=◌, here}
 use Rattle.json_form.specs.Values.{items_of, text_of}
 
@@ -37,9 +40,18 @@ octets_or_fault (Err e) = Err (here BadImage)
 abbrev pub octets_in : List ℕ → Result (List ℕ) Fault
 octets_in text = octets_or_fault (decode_of text)
 
+-- a digit from A to F
+abbrev pub is_capital : ℕ → Bool
+is_capital digit = nat_le 65 digit && nat_le digit 70
+
+-- the octets of digits in either case, or in lower case alone
+abbrev pub octets_by : Digits → List ℕ → Result (List ℕ) Fault
+octets_by digits.Any text = octets_in text
+octets_by digits.Lower text = if list_any is_capital text then Err (here BadImage) else octets_in text
+
 -- a text of pairs of hexadecimal digits
-abbrev pub octets_of : Data → Result (List ℕ) Fault
-octets_of d = text_of d >>= octets_in
+abbrev pub octets_of : Digits → Data → Result (List ℕ) Fault
+octets_of case d = text_of d >>= octets_by case
 
 -- a reading as JSON, if there is one
 abbrev pub json_or_fault : Option Data → Result Data Fault

@@ -5,7 +5,7 @@ use crate::pointer::{Pointer, escape};
 use std::alloc::{AllocError, AllocFailed, Global};
 use thiserror::Error;
 
-/// What is wrong with a value of a document. The codes are 1 to 10, in this order.
+/// What is wrong with a value of a document or of a report. The codes are 1 to 11, in this order.
 #[derive(Clone, Copy, Debug, PartialEq, Eq, Error)]
 pub enum DocCode {
     /// The document has more bytes than its limit.
@@ -38,12 +38,15 @@ pub enum DocCode {
     /// A form that is not supported.
     #[error("not built")]
     NotBuilt,
+    /// A value that no report has at its place.
+    #[error("no report")]
+    BadReport,
 }
 
 impl DocCode {
     ghost use Rattle.json_form.specs.Codes.{number_of};
 
-    /// The code's number, 1 to 10.
+    /// The code's number, 1 to 11.
     pub fn number(self) -> u8
         ensures { result ≡ number_of self }
     {

@@ -20,9 +20,9 @@ pub use array::{array_ahead, array_at, array_from, exact_from, list_at, list_fro
 pub use bytes::json_from;
 pub use distinct::{KeyedReader, Taken, distinct_ahead, distinct_at, distinct_from, distinct_list};
 pub use fault::{DocCode, DocFault};
-pub use hexadecimal::{octets_from, octets_in};
+pub use hexadecimal::{Digits, octets_by, octets_from, octets_in};
 pub use object::{Members, is_among, object_with};
-pub use parts::{Parts, fixed};
+pub use parts::{Parts, fixed, parts_from};
 pub use pointer::Pointer;
 pub use reader::{Flag, Integer, Reader, Whole};
 pub use step::{within, within_item};

@@ -62,7 +62,7 @@ pub fn object_with(alloc: Global, value: Value, names: &[&str]) -> Result<Member
 
 impl Members {
     ghost use Rattle.std.specs.Prelude.{option_map};
-    ghost use Rattle.json_form.specs.Objects.{has as has_def, without, putting, required as required_def, optional as optional_def};
+    ghost use Rattle.json_form.specs.Objects.{has as has_def, without, putting, all_there, member_in, required as required_def, optional as optional_def};
 
     /// No members.
     pub fn new(alloc: Global) -> Members
@@ -108,6 +108,36 @@ impl Members {
             Some(member) => Ok(member),
             None => Err(DocFault::at_member(alloc, name, DocCode::Missing)),
         }
+    }
+
+    /// Refuses members among which one of these names is missing: the first one in this order is the
+    /// fault.
+    pub fn require(&self, alloc: Global, names: &[&str]) -> Result<(), DocFault>
+        ensures { GivesBy (λ _. tt) result
+            (all_there (map (λ n. n.now) names.now) (members_at self.now)) }
+    {
+        for name in names {
+            if !self.has(name) {
+                return Err(DocFault::at_member(alloc, name, DocCode::Missing));
+            }
+        }
+        Ok(())
+    }
+
+    /// A member that has to be there, taken out and read. A fault is placed there.
+    #[tactic(auto, unfolding(crate::specs::Objects::member_in))]
+    pub fn read<T, R: Reader<T>>(
+        &mut self,
+        alloc: Global,
+        name: &str,
+        reader: &R,
+    ) -> Result<T, DocFault>
+        ensures read { Gives result
+            (member_in name.now (R.Reader.reads reader.now) (members_at self.old)) }
+        ensures left { members_at self.new ≡ without name.now (members_at self.old) }
+    {
+        let value = self.required(alloc, name)?;
+        within(alloc, name, reader.read(alloc, value))
     }
 
     /// A member that may be missing, taken out and read. Where it is missing, `otherwise` stands for it.

@@ -1,5 +1,5 @@
 //! Readings of members and items, seen from the object or the array.
-ghost use Rattle.std.specs.Prelude.{Result};
+ghost use Rattle.std.specs.Prelude.{◌≡◌, Result, Ok, IfOk};
 ghost use Rattle.json_form.specs.Faults.{Fault, Gives, GivesBy, within as within_def, within_item as within_item_def};
 
 use crate::fault::DocFault;
@@ -8,7 +8,8 @@ use std::alloc::Global;
 /// The reading of a member, seen from the object: a fault's place gets the member's name first. It
 /// costs nothing where there is no fault.
 pub fn within<T>(alloc: Global, name: &str, read: Result<T, DocFault>) -> Result<T, DocFault>
-    ensures { (r : Result T Fault) → Gives read r → Gives result (within_def name.now r) }
+    ensures read { (r : Result T Fault) → Gives read r → Gives result (within_def name.now r) }
+    ensures same { IfOk result (λ value. read ≡ Ok value) }
 {
     match read {
         Ok(value) => Ok(value),
@@ -18,7 +19,8 @@ pub fn within<T>(alloc: Global, name: &str, read: Result<T, DocFault>) -> Result
 
 /// The reading of the item at a position, seen from the array.
 pub fn within_item<T>(alloc: Global, at: usize, read: Result<T, DocFault>) -> Result<T, DocFault>
-    ensures { (r : Result T Fault) → Gives read r → Gives result (within_item_def at r) }
+    ensures read { (r : Result T Fault) → Gives read r → Gives result (within_item_def at r) }
+    ensures same { IfOk result (λ value. read ≡ Ok value) }
 {
     match read {
         Ok(value) => Ok(value),

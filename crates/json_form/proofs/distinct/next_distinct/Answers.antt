@@ -6,4 +6,4 @@ use Rattle.json_form.proofs.distinct.next_distinct.Goals as goal
 pub returns : goal.returns
 returns g c =
     let same : is_key g.R.Key.PartialEq.eq c.args.taken.now ≡ is_key g.R.Key.PartialEq.eq (map g.R.KeyedReader.key_of c.args.found.now) = fun_ext c.requires in
-    rw (sym same) (c.within_item.ensures _ c.read.ensures)
+    rw (sym same) (c.within_item.ensures.read _ c.read.ensures)

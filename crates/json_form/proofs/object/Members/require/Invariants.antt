@@ -1,0 +1,7 @@
+use Rattle.std.proofs.Common.{◌≡◌, map, drop}
+use Rattle.json_form.specs.Objects.{all_there, members_at}
+use Rattle.json_form.proofs.object.Members.require.Given as goal
+
+abbrev pub invariant-loop-name : goal.invariant-loop-name
+invariant-loop-name l =
+    all_there (map (λ n. n.now) (drop l.name-index l.names)) (members_at l.self) ≡ all_there (map (λ n. n.now) l.names) (members_at l.self)
