@@ -36,10 +36,10 @@ use Rattle.server_session.specs.Adding.{IsLeftOf}
 use Rattle.server_session.specs.Fits.{Fits, Belongs}
 use Rattle.server_session.specs.Plain.{IsStored, IsPlain}
 use Rattle.server_session.specs.SeenSession.{SeenSession, sess_of, begun_so, ended_so}
-use Rattle.server_session.specs.Serving.{HasServed, Serves, StepsTo, commits_as, stores_as}
+use Rattle.server_session.specs.Serving.{HasServed, Serves, StepsTo, StopsAtFronts, commits_as, stores_as}
 use Rattle.server_session.specs.Storing.{HasStored, Stores}
 use Rattle.server_session.proofs.Cores.{belongs_with, next_own, next_other}
-use Rattle.server_session.proofs.Gaining.{gained_none}
+use Rattle.server_session.proofs.Gaining.{gained_none, grown_left}
 use Rattle.server_session.proofs.Plains.{is_stored, reads_stored, reads_same, reads_more, stored_commit}
 use Rattle.server_session.proofs.Quiet.{no_reads}
 use Rattle.server_session.proofs.Telling.{plain_with}
@@ -65,6 +65,7 @@ unstored step most told old new core disk fits belongs steps = record {
   belongs = belongs;
   others = λ other apart stays. stays;
   steps = λ plain reads is noted. (plain, (is, steps plain reads is noted));
+  fronts = λ some. absurd (some refl);
 }
 
 -- ---- whether it may be stored
@@ -180,6 +181,22 @@ module _ (called : Call) (answers : List Answer) (draws : List Draw) (core : Cor
     holds = refl;
   }
 
+  commit_stops : (plain : Plain) (reads : List Read) (image : List ℕ) → IsStored plain fits.journal → IsLeftOf disk.now.seen [] (kept.Commit entry_here) image
+      → (after : Plain) × (IfOk (journal_of image) (IsStored after) × stores_as called answers draws plain (sess_of old reads) after (ended (sess_of old reads)) Stopped)
+  commit_stops plain reads image stands (inl none) =
+      (plain, (reads_stored plain image fits.journal (reads_same disk.now.seen image fits.journal fits.reads none) stands, λ may. StopsBefore may))
+  commit_stops plain reads image stands (inr one) = (
+    with_entry plain entry_here,
+    (
+      reads_stored (with_entry plain entry_here) image (with_record fits.journal (kept.Commit entry_here)) (reads_more disk.now.seen image fits.journal (kept.Commit entry_here) fits.reads one) (stored_commit plain fits.journal entry_here stands),
+      λ may. StopsAfter may,
+    ),
+  )
+
+  -- it was stopped without the entry or with it
+  commit_fronts : StopsAtFronts (stores_as called answers draws) old core disk (kept.Commit entry_here ∷ [])
+  commit_fronts plain reads stands noted image grown = commit_stops plain reads image (is_stored plain core disk fits stands) (grown_left disk.now.seen (kept.Commit entry_here) image grown)
+
   pub commit_told : (told : Down) (new : SeenSession) → told ≡ down.Reply answers draws (record old.ltxid { number = old.ltxid.number + 1 }) → new ≡ committed_so old
       → HasStored (kept.Commit entry_here) core disk later end → HasServed (stores_as called answers draws) 1 (Says told) old core disk new later end
   commit_told told new is seen stored =
@@ -197,19 +214,8 @@ module _ (called : Call) (answers : List Answer) (draws : List Draw) (core : Cor
             record { reads = []; noted = no_reads; steps = λ may. StoresIt may },
           ),
         );
+        fronts = λ some. commit_fronts;
       })
-
-  commit_stops : (plain : Plain) (reads : List Read) (image : List ℕ) → IsStored plain fits.journal → IsLeftOf disk.now.seen [] (kept.Commit entry_here) image
-      → (after : Plain) × (IfOk (journal_of image) (IsStored after) × stores_as called answers draws plain (sess_of old reads) after (ended (sess_of old reads)) Stopped)
-  commit_stops plain reads image stands (inl none) =
-      (plain, (reads_stored plain image fits.journal (reads_same disk.now.seen image fits.journal fits.reads none) stands, λ may. StopsBefore may))
-  commit_stops plain reads image stands (inr one) = (
-    with_entry plain entry_here,
-    (
-      reads_stored (with_entry plain entry_here) image (with_record fits.journal (kept.Commit entry_here)) (reads_more disk.now.seen image fits.journal (kept.Commit entry_here) fits.reads one) (stored_commit plain fits.journal entry_here stands),
-      λ may. StopsAfter may,
-    ),
-  )
 
   pub commit_fault : (error : ServeFault) (new : SeenSession) → Stores (kept.Commit entry_here) (Err error) core disk later end → Serves (stores_as called answers draws) 1 (Err error) old core disk new later end
   commit_fault fault.NoMemory new stores = stores
@@ -218,5 +224,5 @@ module _ (called : Call) (answers : List Answer) (draws : List Draw) (core : Cor
     last = kept.Commit entry_here;
     few = omega arith;
     halted = stores;
-    steps = λ plain reads stands noted image left. commit_stops plain reads image (is_stored plain core disk fits stands) (stores.left image left);
+    steps = commit_fronts;
   }

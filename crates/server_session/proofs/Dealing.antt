@@ -23,12 +23,13 @@ use Rattle.commit_log.specs.Rules.{with_record}
 use Rattle.stmt_meaning.specs.Asked.{kind_drawn, sequences_drawn, is_of_sequence}
 use Rattle.server_model.specs.Draws.{Draws, Gives, Reserves as ReservesFirst, DrawsAll}
 use Rattle.server_session.specs.Adding.{HasGained, HasHalted}
-use Rattle.server_session.specs.Dealing.{AtDesk, IsPrepared, HasReserved, HasDealt, HasHaltedAt, HasLackedAt, Reserves as ReservesAs, reserving, reservation_of}
+use Rattle.server_session.specs.Dealing.{AtDesk, IsPrepared, HasReserved, HasDealt, HasHaltedAt, HasLackedAt, Reserves as ReservesAs, reserving, reservation_of, with_reserved}
 use Rattle.server_model.specs.declared.fault.ServeFault.{ServeFault}
 use Rattle.server_model.specs.declared.fault.ServeFault.TheVariants as fault
 use Rattle.server_session.specs.Fits.{IsSourceOf}
 use Rattle.server_session.specs.Stored.{stored_as}
 use Rattle.server_session.proofs.Gaining.{gained_none, gained_then, gained_one, halted_one}
+use Rattle.server_session.proofs.Halting.{halts_first, halts_then, source_behind, source_none}
 use Rattle.server_session.proofs.Plains.{reads_same, reads_more}
 use Rattle.server_session.proofs.Reserving.{source_after, source_told, asks_reservation}
 
@@ -45,7 +46,15 @@ kind_is kind.Id (draw.Id id) h = refl
 
 -- nothing is drawn
 pub dealt_none : (now : ℕ) (desk : AtDesk) → IsPrepared desk.opening desk.log desk.disk → HasDealt now desk [] desk
-dealt_none now desk prepared = record { reservations = []; few = omega arith; gained = gained_none desk.disk; draws = (refl, refl); prepared = prepared }
+dealt_none now desk prepared = record {
+  reservations = [];
+  few = omega arith;
+  gained = gained_none desk.disk;
+  draws = (refl, refl);
+  moved = λ journal is. source_none desk.opening journal is;
+  halts = λ count few some. absurd (some refl);
+  prepared = prepared;
+}
 
 -- a source that gives a value at once
 pub dealt_value : (now : ℕ) (before : AtDesk) (asked : DrawKind) (given : Draw) (opening : Opening) (left : List Draw) → IsPrepared before.opening before.log before.disk → HasRoom before.opening
@@ -60,6 +69,8 @@ dealt_value now before asked given opening left prepared room is of_kind =
       few = omega arith;
       gained = gained_none before.disk;
       draws = (opening, left, (here, (refl, refl)));
+      moved = λ journal source. source_none opening journal (source_after before.opening before.left asked now told journal is source);
+      halts = λ count few some. absurd (some refl);
       prepared = record { ready = prepared.ready; journal = prepared.journal; reads = prepared.reads; source = source_after before.opening before.left asked now told prepared.journal is prepared.source };
     }
 
@@ -67,6 +78,14 @@ one_at_most : (name : List ℕ) (given : Draw) → kind_drawn given ≡ kind.Seq
 one_at_most name (draw.Seq other n) e = omega arith
 one_at_most name (draw.Clock tick) e = cc
 one_at_most name (draw.Id id) e = cc
+
+-- what a source answers that has to store a reservation first: it is as it was
+wanted_still : (before : AtDesk) (asked : DrawKind) (now : ℕ) (name : List ℕ) (upto : ℤ) (between : Opening) (same : List Draw)
+    → draw_of before.opening before.left asked now ≡ Some (record { answer = drawn.Reserve name upto; opening = between; kept = same })
+    → draw_of before.opening before.left asked now ≡ Some (record { answer = drawn.Reserve name upto; opening = before.opening; kept = before.left })
+wanted_still before asked now name upto between same wanted =
+    let asks = asks_reservation before.opening before.left asked now name upto between same wanted in
+    wanted ∙ (λ i. Some (record { answer = drawn.Reserve name upto; opening = asks.opening_is i; kept = asks.left_is i }))
 
 -- a source that has to store a reservation first
 pub dealt_reserved : (now : ℕ) (before : AtDesk) (asked : DrawKind) (name : List ℕ) (upto : ℤ) (between : Opening) (same : List Draw) (given : Draw) (opening : Opening) (left : List Draw) (log : Log) (disk : DiskState) → HasRoom before.opening
@@ -84,6 +103,10 @@ dealt_reserved now before asked name upto between same given opening left log di
       few = one_at_most name given (kind_is asked given of_kind ∙ asks.kind_is);
       gained = reserved.gained;
       draws = (opening, left, (here, (refl, refl)));
+      moved = λ journal source.
+          source_after (reserved_to between name upto) before.left asked now told (with_reserved journal (reservation_of name upto ∷ [])) is
+          (source_told between name upto journal (subst (λ (o : Opening). IsSourceOf o journal) (sym asks.opening_is) source));
+      halts = λ count few some. halts_first now before given name upto (subst (λ (k : DrawKind). draw_of before.opening before.left k now ≡ Some (record { answer = drawn.Reserve name upto; opening = before.opening; kept = before.left })) (sym (kind_is asked given of_kind)) (wanted_still before asked now name upto between same wanted)) [] count few;
       prepared = record {
         ready = reserved.prepared.ready;
         journal = reserved.prepared.journal;
@@ -113,6 +136,8 @@ dealt_then now a b c given more first second =
       gained = subst (λ (l : List Record). HasGained l a.disk c.disk) (sym (map-append (λ (one : Reservation). kept.Reserved one) first.reservations second.reservations))
           (gained_then a.disk b.disk c.disk (reserving first.reservations) (reserving second.reservations) first.gained second.gained);
       draws = (d.0, d.1, (d.2.0, on));
+      moved = λ journal is. source_behind c.opening journal first.reservations second.reservations (second.moved (with_reserved journal first.reservations) (first.moved journal is));
+      halts = halts_then now a b given more first.reservations second.reservations first.draws first.moved first.halts second.halts;
       prepared = second.prepared;
     }
 
@@ -140,7 +165,7 @@ halted_in now before after asked name upto between same wanted halted =
       name = name;
       upto = upto;
       is = asks.kind_is;
-      wanted = wanted ∙ (λ i. Some (record { answer = drawn.Reserve name upto; opening = asks.opening_is i; kept = asks.left_is i }));
+      wanted = wanted_still before asked now name upto between same wanted;
       halted = halted;
     }
 

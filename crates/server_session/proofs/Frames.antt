@@ -14,6 +14,7 @@ use Rattle.svc_values.specs.Calls.{sequences_in}
 use Rattle.ltxid_book.specs.declared.verdict.Verdict.{Verdict}
 use Rattle.ltxid_book.specs.Sessions.{Sessions}
 use Rattle.mutable_values.specs.Sources.{Opening}
+use Rattle.commit_log.specs.declared.records.Record.{Record}
 use Rattle.commit_log.specs.declared.records.Record.TheVariants as kept
 use Rattle.commit_log.specs.Journals.{journal_of}
 use Rattle.commit_log.specs.Rules.{with_record}
@@ -29,15 +30,22 @@ use Rattle.server_session.specs.Adding.{IsLeftOf}
 use Rattle.server_session.specs.Fits.{Fits, Belongs}
 use Rattle.server_session.specs.Plain.{IsStored}
 use Rattle.server_session.specs.SeenSession.{SeenSession, sess_of, ended_so}
-use Rattle.server_session.specs.Serving.{HasServed, HasLacked, Serves, called_as, served_as}
-use Rattle.server_session.specs.Storing.{HasStored, Stores, HasTold, Tells}
+use Rattle.server_session.specs.Serving.{HasServed, HasLacked, Serves, StopsAtFronts, called_as, served_as}
+use Rattle.server_session.specs.Storing.{HasStored, Stores, HasTold, StopsTelling, Tells}
 use Rattle.server_session.proofs.Cores.{belongs_with}
+use Rattle.server_session.proofs.Gaining.{grown_left}
 use Rattle.server_session.proofs.Plains.{is_stored, reads_stored, reads_same, reads_more, stored_alert}
 use Rattle.server_session.proofs.Lifting.{serves_quietly}
 use Rattle.server_session.proofs.Quiet.{made_more, noting, refuses_alter}
 use Rattle.server_session.proofs.Telling.{plain_with}
 
 -- ---- an outcome
+
+asks_fronts : (x : Ltxid) (now : ℕ) (seen : SeenSession) (core : Core) (disk : DiskState) (records : List Record) → IsTrue (is_serving seen.life)
+    → StopsTelling x core disk records → StopsAtFronts (served_as (up.Outcome x) now) seen core disk records
+asks_fronts x now seen core disk records serving stops plain reads stands noted image grown =
+    let next = stops plain stands image grown in
+    (next.0, (next.1.0, Asks x next.0 Stopped serving next.1.1))
 
 pub outcome_told : (x : Ltxid) (now : ℕ) (told : Verdict) (answered : Down) (seen : SeenSession) (core : Core) (disk : DiskState) (later : Core) (end : DiskState) → IsTrue (is_serving seen.life) → Belongs core seen
     → answered ≡ down_of told → HasTold x told core disk later end → HasServed (served_as (up.Outcome x) now) 1 (Says answered) seen core disk seen later end
@@ -51,6 +59,7 @@ outcome_told x now told answered seen core disk later end serving belongs is tel
   steps = λ plain reads stands noted.
       let step = tells.steps plain stands in
       (if_blocks told plain x, (step.1, record { reads = reads; noted = noted; steps = rw is (Asks x (if_blocks told plain x) (Says (down_of told)) serving (IsTold told step.0)) }));
+  fronts = λ some. asks_fronts x now seen core disk tells.records serving (tells.fronts some);
 }
 
 pub outcome_fault : (x : Ltxid) (now : ℕ) (error : ServeFault) (seen : SeenSession) (core : Core) (disk : DiskState) (later : Core) (end : DiskState) → IsTrue (is_serving seen.life)
@@ -61,14 +70,23 @@ outcome_fault x now fault.Stopped seen core disk later end serving tells = recor
   last = kept.Blocked x;
   few = omega arith;
   halted = tells.halted;
-  steps = λ plain reads stands noted image left.
-      let next = tells.steps plain stands image left in
-      (next.0, (next.1.0, Asks x next.0 Stopped serving next.1.1));
+  steps = asks_fronts x now seen core disk (kept.Blocked x ∷ []) serving tells.steps;
 }
 
 -- ---- a line
 
 module _ (line : List ℕ) (replay : Bool) (marks : List Draw) (now : ℕ) (unmarked : IsTrue (not replay)) where
+  line_stops : (old : SeenSession) (core : Core) (disk : DiskState) (plain : Plain) (reads : List Read) (image : List ℕ) (fits : Fits core disk) → IsStored plain fits.journal → IsLeftOf disk.now.seen [] (kept.Alert line) image
+      → (after : Plain) × (IfOk (journal_of image) (IsStored after) × called_as replay marks (call.Alter line) now plain (sess_of old reads) after (ended (sess_of old reads)) Stopped)
+  line_stops old core disk plain reads image fits stands (inl none) =
+      (plain, (reads_stored plain image fits.journal (reads_same disk.now.seen image fits.journal fits.reads none) stands, AlterStops line plain unmarked (inl refl)))
+  line_stops old core disk plain reads image fits stands (inr one) =
+      (with_alert plain line, (reads_stored (with_alert plain line) image (with_record fits.journal (kept.Alert line)) (reads_more disk.now.seen image fits.journal (kept.Alert line) fits.reads one) (stored_alert plain fits.journal line stands), AlterStops line (with_alert plain line) unmarked (inr refl)))
+
+  -- it was stopped without the line or with it
+  line_fronts : (old : SeenSession) (core : Core) (disk : DiskState) → Fits core disk → StopsAtFronts (called_as replay marks (call.Alter line) now) old core disk (kept.Alert line ∷ [])
+  line_fronts old core disk fits plain reads stands noted image grown = line_stops old core disk plain reads image fits (is_stored plain core disk fits stands) (grown_left disk.now.seen (kept.Alert line) image grown)
+
   pub line_told : (told : Down) (old new : SeenSession) (core : Core) (disk : DiskState) (later : Core) (end : DiskState) → Fits core disk → Belongs core old
       → told ≡ down.Reply (answer.Done 1 ∷ []) [] old.ltxid → new ≡ noting old (piece_of (call.Alter line) (answer.Done 1 ∷ []) [])
       → HasStored (kept.Alert line) core disk later end → HasServed (called_as replay marks (call.Alter line) now) 1 (Says told) old core disk new later end
@@ -90,14 +108,8 @@ module _ (line : List ℕ) (replay : Bool) (marks : List Draw) (now : ℕ) (unma
             record { reads = reads; noted = noted; steps = IsAlter line unmarked },
           ),
         );
+        fronts = λ some. line_fronts old core disk fits;
       })
-
-  line_stops : (old : SeenSession) (core : Core) (disk : DiskState) (plain : Plain) (reads : List Read) (image : List ℕ) (fits : Fits core disk) → IsStored plain fits.journal → IsLeftOf disk.now.seen [] (kept.Alert line) image
-      → (after : Plain) × (IfOk (journal_of image) (IsStored after) × called_as replay marks (call.Alter line) now plain (sess_of old reads) after (ended (sess_of old reads)) Stopped)
-  line_stops old core disk plain reads image fits stands (inl none) =
-      (plain, (reads_stored plain image fits.journal (reads_same disk.now.seen image fits.journal fits.reads none) stands, AlterStops line plain unmarked (inl refl)))
-  line_stops old core disk plain reads image fits stands (inr one) =
-      (with_alert plain line, (reads_stored (with_alert plain line) image (with_record fits.journal (kept.Alert line)) (reads_more disk.now.seen image fits.journal (kept.Alert line) fits.reads one) (stored_alert plain fits.journal line stands), AlterStops line (with_alert plain line) unmarked (inr refl)))
 
   pub line_fault : (error : ServeFault) (old new : SeenSession) (core : Core) (disk : DiskState) (later : Core) (end : DiskState) → Fits core disk
       → Stores (kept.Alert line) (Err error) core disk later end → Serves (called_as replay marks (call.Alter line) now) 1 (Err error) old core disk new later end
@@ -107,7 +119,7 @@ module _ (line : List ℕ) (replay : Bool) (marks : List Draw) (now : ℕ) (unma
     last = kept.Alert line;
     few = omega arith;
     halted = stores;
-    steps = λ plain reads stands noted image left. line_stops old core disk plain reads image fits (is_stored plain core disk fits stands) (stores.left image left);
+    steps = line_fronts old core disk fits;
   }
 
 -- a record was stored, and then there was no memory

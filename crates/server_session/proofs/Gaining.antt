@@ -71,6 +71,10 @@ left_by old last image (suc (suc count)) le has = absurd (omega (arith, le))
 settled_of : (log : Log) (disk : DiskState) → CanLog log disk → IsSettled disk
 settled_of log disk ready = ready.append.settled
 
+-- none of it, or all
+pub grown_left : (old : List ℕ) (one : Record) (image : List ℕ) → IsGrown old (one ∷ []) image → IsLeftOf old [] one image
+grown_left old one image grown = left_by old one image grown.count grown.within grown.has
+
 pub gained_one : (log : Log) (old new : DiskState) (one : Record) → Adds (Ok tt) log old new one → HasGained (one ∷ []) old new
 gained_one log old new one adds = record {
   added = adds.added;
@@ -84,9 +88,9 @@ gained_one log old new one adds = record {
 pub halted_one : (before log : Log) (old new : DiskState) (one : Record) → CanLog before old → Adds (Err fault.Stopped) log old new one → HasHalted [] one old new
 halted_one before log old new one ready adds = record {
   left = λ image left.
-      let grown = crash_now old new (IsGrown old.now.seen (one ∷ [])) adds.any_moment
-      (λ i now. grows_by_none old.now.seen (one ∷ []) i (subst (λ (bytes : List ℕ). HasAdded old.now.seen [] bytes) (sym (settled_of before old ready i now)) (has_itself old.now.seen))) image left in
-      left_by old.now.seen one image grown.count grown.within grown.has;
+      grown_left old.now.seen one image
+      (crash_now old new (IsGrown old.now.seen (one ∷ [])) adds.any_moment
+      (λ i now. grows_by_none old.now.seen (one ∷ []) i (subst (λ (bytes : List ℕ). HasAdded old.now.seen [] bytes) (sym (settled_of before old ready i now)) (has_itself old.now.seen))) image left);
   moments = adds.any_moment;
   stop = adds.stop;
   faults = adds.cause.counted refl;

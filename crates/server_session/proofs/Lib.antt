@@ -5,9 +5,12 @@ mod Desks
 mod Drawing
 mod Frames
 mod Framing
+mod Fronts
 mod Gaining
+mod Halting
 mod Holding
 mod Lifting
+pub mod Offered
 mod Plains
 mod Quiet
 mod Reaching

@@ -1,10 +1,11 @@
 -- What is served, from the parts of a frame to the whole.
-use Rattle.std.proofs.Common.{ℕ, List, [], sym, ◌∙◌, ap, arith}
+use Rattle.std.proofs.Common.{ℕ, List, [], ◌∷◌, ◌++◌, refl, sym, ◌∙◌, ap, arith}
 use Rattle.std.specs.Prelude.{Option, Result, Ok, Err}
 use Rattle.disk_model.specs.Disk.{DiskState}
 use Rattle.svc_values.specs.declared.entry.Ltxid.{Ltxid}
 use Rattle.svc_values.specs.declared.frame.Down.{Down}
 use Rattle.ltxid_book.specs.Sessions.{sessions_in}
+use Rattle.commit_log.specs.declared.records.Record.{Record}
 use Rattle.stmt_meaning.specs.Reads.{Read}
 use Rattle.table_txn.specs.Readings.{AreReadings}
 use Rattle.server_model.specs.Core.{Core as Plain}
@@ -16,7 +17,7 @@ use Rattle.server_model.specs.declared.fault.ServeFault.TheVariants as fault
 use Rattle.server_session.specs.Fits.{Fits, Belongs}
 use Rattle.server_session.specs.Plain.{IsPlain}
 use Rattle.server_session.specs.SeenSession.{SeenSession, sess_of}
-use Rattle.server_session.specs.Serving.{Quietly, HasServed, HasLacked, Serves, told_of}
+use Rattle.server_session.specs.Serving.{Quietly, HasServed, HasLacked, Serves, StopsAtFronts, told_of}
 use Rattle.server_session.proofs.Gaining.{gained_none}
 
 -- a session belongs to its core still, where its identifier stays
@@ -40,9 +41,18 @@ serves_quietly step most told old new core disk quiet fits belongs = record {
   belongs = belongs_still core old new step told quiet belongs;
   others = λ other apart stays. stays;
   steps = λ plain reads is noted. (plain, (is, quiet.steps plain reads noted));
+  fronts = λ some. absurd (some refl);
 }
 
 -- what holds of each part's step holds of the whole's
+
+stops_as : (step wider : Plain → Sess → Plain → Sess → Telling → Type 0) (old : SeenSession) (core : Core) (disk : DiskState) (records : List Record)
+    → ((plain : Plain) (reads : List Read) → IsPlain plain core disk → AreReadings old.txn.readings reads → (after : Plain) (t : Sess) (told : Telling) → step plain (sess_of old reads) after t told → wider plain (sess_of old reads) after t told)
+    → StopsAtFronts step old core disk records → StopsAtFronts wider old core disk records
+stops_as step wider old core disk records widens stops plain reads is noted image grown =
+    let next = stops plain reads is noted image grown in
+    (next.0, (next.1.0, widens plain reads is noted next.0 (ended (sess_of old reads)) Stopped next.1.1))
+
 pub serves_as : (step wider : Plain → Sess → Plain → Sess → Telling → Type 0) (most : ℕ) (result : Result (Option Down) ServeFault) (old : SeenSession) (core : Core) (disk : DiskState) (new : SeenSession) (later : Core) (end : DiskState)
     → ((plain : Plain) (reads : List Read) → IsPlain plain core disk → AreReadings old.txn.readings reads → (after : Plain) (t : Sess) (told : Telling) → step plain (sess_of old reads) after t told → wider plain (sess_of old reads) after t told)
     → Serves step most result old core disk new later end → Serves wider most result old core disk new later end
@@ -57,6 +67,7 @@ serves_as step wider most (Ok told) old core disk new later end widens served = 
       let next = served.steps plain reads is noted in
       let steps = next.1.1 in
       (next.0, (next.1.0, record { reads = steps.reads; noted = steps.noted; steps = widens plain reads is noted next.0 (sess_of new steps.reads) (told_of told) steps.steps }));
+  fronts = λ some. stops_as step wider old core disk served.records widens (served.fronts some);
 }
 serves_as step wider most (Err fault.NoMemory) old core disk new later end widens served = served
 serves_as step wider most (Err fault.Stopped) old core disk new later end widens served = record {
@@ -64,9 +75,7 @@ serves_as step wider most (Err fault.Stopped) old core disk new later end widens
   last = served.last;
   few = served.few;
   halted = served.halted;
-  steps = λ plain reads is noted image left.
-      let next = served.steps plain reads is noted image left in
-      (next.0, (next.1.0, widens plain reads is noted next.0 (ended (sess_of old reads)) Stopped next.1.1));
+  steps = stops_as step wider old core disk (served.records ++ served.last ∷ []) widens served.steps;
 }
 
 -- what is said of a fault is said whatever became of the session

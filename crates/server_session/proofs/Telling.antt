@@ -23,9 +23,9 @@ use Rattle.server_model.specs.declared.fault.ServeFault.TheVariants as fault
 use Rattle.server_session.specs.Adding.{HasHalted, IsLeftOf}
 use Rattle.server_session.specs.Fits.{Fits}
 use Rattle.server_session.specs.Plain.{IsStored, IsPlain}
-use Rattle.server_session.specs.Storing.{HasStored, Stores, HasTold, HasStoppedTelling, Tells}
+use Rattle.server_session.specs.Storing.{HasStored, Stores, HasTold, HasStoppedTelling, StopsTelling, Tells}
 use Rattle.server_session.proofs.Cores.{belongs_with, next_blocked}
-use Rattle.server_session.proofs.Gaining.{gained_none}
+use Rattle.server_session.proofs.Gaining.{gained_none, grown_left}
 use Rattle.server_session.proofs.Plains.{is_stored, reads_stored, reads_same, reads_more, stored_block}
 
 -- the plain server's book is that of the core
@@ -86,7 +86,20 @@ tells_as_it_is x told core disk fits is other = record {
   fits = fits;
   belongs = λ seen belongs. belongs;
   steps = λ plain stands. (same_verdict plain core disk x fits stands ∙ sym is, subst (λ (after : Plain). IsPlain after core disk) (unblocked told plain x other) stands);
+  fronts = λ some. absurd (some refl);
 }
+
+-- the block was stopped, and stands or not
+stops_by : (x : Ltxid) (core : Core) (disk : DiskState) (plain : Plain) (image : List ℕ) (fits : Fits core disk) → verdict_on plain x ≡ verdict.BlockIt → IsStored plain fits.journal → IsLeftOf disk.now.seen [] (kept.Blocked x) image
+    → (after : Plain) × (IfOk (journal_of image) (IsStored after) × Outcomes plain x after Stopped)
+stops_by x core disk plain image fits is stands (inl none) =
+    (plain, (reads_stored plain image fits.journal (reads_same disk.now.seen image fits.journal fits.reads none) stands, BlockStops plain is (inl refl)))
+stops_by x core disk plain image fits is stands (inr one) =
+    (with_block plain x, (reads_stored (with_block plain x) image (with_record fits.journal (kept.Blocked x)) (reads_more disk.now.seen image fits.journal (kept.Blocked x) fits.reads one) (stored_block plain fits.journal x stands), BlockStops (with_block plain x) is (inr refl)))
+
+block_fronts : (x : Ltxid) (core : Core) (disk : DiskState) → Fits core disk → verdict.BlockIt ≡ verdict_of (sessions_in core.book) x → StopsTelling x core disk (kept.Blocked x ∷ [])
+block_fronts x core disk fits is plain stands image grown =
+    stops_by x core disk plain image fits (same_verdict plain core disk x fits stands ∙ sym is) (is_stored plain core disk fits stands) (grown_left disk.now.seen (kept.Blocked x) image grown)
 
 -- the block is stored
 pub tells_blocked : (x : Ltxid) (core : Core) (disk : DiskState) (later : Core) (end : DiskState) → Fits core disk → verdict.BlockIt ≡ verdict_of (sessions_in core.book) x
@@ -100,20 +113,14 @@ tells_blocked x core disk later end fits is stored = record {
   belongs = λ seen belongs. belongs_with core later seen stored.schemas stored.moves (ap (λ (o : Opening). o.incarnation) stored.source)
       (ap (λ (s : Sessions). (s.state seen.ltxid.incarnation seen.ltxid.session).next) stored.book ∙ next_blocked (sessions_in core.book) x seen.ltxid.incarnation seen.ltxid.session) belongs;
   steps = λ plain stands. (same_verdict plain core disk x fits stands ∙ sym is, plain_with plain (with_block plain x) (kept.Blocked x) core disk later end fits stored stands refl refl (stored_block plain fits.journal x (is_stored plain core disk fits stands)));
+  fronts = λ some. block_fronts x core disk fits is;
 }
 
 -- the block was stopped
-stops_by : (x : Ltxid) (core : Core) (disk : DiskState) (plain : Plain) (image : List ℕ) (fits : Fits core disk) → verdict_on plain x ≡ verdict.BlockIt → IsStored plain fits.journal → IsLeftOf disk.now.seen [] (kept.Blocked x) image
-    → (after : Plain) × (IfOk (journal_of image) (IsStored after) × Outcomes plain x after Stopped)
-stops_by x core disk plain image fits is stands (inl none) =
-    (plain, (reads_stored plain image fits.journal (reads_same disk.now.seen image fits.journal fits.reads none) stands, BlockStops plain is (inl refl)))
-stops_by x core disk plain image fits is stands (inr one) =
-    (with_block plain x, (reads_stored (with_block plain x) image (with_record fits.journal (kept.Blocked x)) (reads_more disk.now.seen image fits.journal (kept.Blocked x) fits.reads one) (stored_block plain fits.journal x stands), BlockStops (with_block plain x) is (inr refl)))
-
 pub stops_telling : (x : Ltxid) (core : Core) (disk end : DiskState) → Fits core disk → verdict.BlockIt ≡ verdict_of (sessions_in core.book) x → HasHalted [] (kept.Blocked x) disk end → HasStoppedTelling x core disk end
 stops_telling x core disk end fits is halted = record {
   halted = halted;
-  steps = λ plain stands image left. stops_by x core disk plain image fits (same_verdict plain core disk x fits stands ∙ sym is) (is_stored plain core disk fits stands) (halted.left image left);
+  steps = block_fronts x core disk fits is;
 }
 
 -- the block was not stored

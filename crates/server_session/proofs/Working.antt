@@ -1,5 +1,5 @@
 -- A work call: what its statements leave, and its commit where it reaches one.
-use Rattle.std.proofs.Common.{◌≡◌, ◌≤◌, ◌+◌, inl, inr, ℕ, ℤ, Bool, true, false, List, [], ◌∷◌, ◌++◌, length, map, fold, refl, sym, ◌∙◌, ap, subst, arith, length-append, append-nil, append_assoc}
+use Rattle.std.proofs.Common.{◌≡◌, ◌≢◌, ◌⊎◌, ◌≤◌, ◌+◌, inl, inr, ℕ, Bool, true, false, List, [], ◌∷◌, ◌++◌, length, map, take, fold, refl, sym, ◌∙◌, ap, subst, arith, length-append, append-nil, append_assoc}
 use Rattle.std.proofs.lemmas.List.{length-map, map-append}
 use Rattle.std.specs.Prelude.{IsTrue, IfOk, Option, Some, Result, Ok, Err}
 use Rattle.disk_model.specs.Disk.{DiskState}
@@ -21,7 +21,7 @@ use Rattle.canon_bytes.specs.Entries.{IsMadePiece}
 use Rattle.svc_values.specs.Tables.{with_writes}
 use Rattle.ltxid_book.specs.Sessions.{is_forgotten}
 use Rattle.mutable_values.specs.declared.grants.Grants.{Grants}
-use Rattle.mutable_values.specs.Sources.{Opening, names_of, reserved_to}
+use Rattle.mutable_values.specs.Sources.{Opening, names_of}
 use Rattle.table_store.specs.Stored.{Stored}
 use Rattle.table_txn.specs.declared.txn.Ran.{Ran}
 use Rattle.table_txn.specs.Readings.{AreReadings, StayUnchanged}
@@ -32,19 +32,18 @@ use Rattle.commit_log.specs.declared.journal.Reservation.{Reservation}
 use Rattle.commit_log.specs.declared.records.Record.{Record}
 use Rattle.commit_log.specs.declared.records.Record.TheVariants as kept
 use Rattle.commit_log.specs.Bases.{sequence_name, shape_of as shape_of_base}
-use Rattle.commit_log.specs.Growth.{HasAdded, with_records}
+use Rattle.commit_log.specs.Growth.{HasAdded, IsGrown, with_records}
 use Rattle.commit_log.specs.Journals.{journal_of}
 use Rattle.commit_log.specs.Judging.{IsBookFor}
 use Rattle.commit_log.specs.Rules.{sessions_of, with_record}
 use Rattle.commit_log.proofs.Offered.{grown_then}
-use Rattle.stmt_meaning.specs.Asked.{kind_drawn}
 use Rattle.stmt_meaning.specs.Laws.{closed_by}
 use Rattle.stmt_meaning.specs.Meaning.{Meant, mean}
 use Rattle.stmt_meaning.specs.Reads.{Read, reads_at}
 use Rattle.stmt_meaning.proofs.Offered.{commits_last, sequences-few}
 use Rattle.server_model.specs.Base.{Sequence}
 use Rattle.server_model.specs.Core.{Core as Plain, committed}
-use Rattle.server_model.specs.Draws.{brought, DrawsAll, HaltsAt, BlockLost, BlockStands}
+use Rattle.server_model.specs.Draws.{brought, DrawsAll}
 use Rattle.server_model.specs.Outcomes.{Telling, Says, Stopped}
 use Rattle.server_model.specs.Sessions.{Sess, ended, piece_of, with_piece, with_work}
 use Rattle.server_model.specs.Serve.{Commits, Means, Works, Answers, Reaches, HaltsInDraw, IsWork, reply, with_opening}
@@ -52,26 +51,25 @@ use Rattle.server_session.specs.declared.shared.Core.{Core}
 use Rattle.server_model.specs.declared.fault.ServeFault.{ServeFault}
 use Rattle.server_model.specs.declared.fault.ServeFault.TheVariants as fault
 use Rattle.server_session.specs.Alone.{begun_at}
-use Rattle.server_session.specs.Adding.{HasGained, HasHalted, IsLeftOf}
-use Rattle.server_session.specs.Dealing.{AtDesk, IsPrepared, HasDealt, reserving, reservation_of}
+use Rattle.server_session.specs.Adding.{HasGained, HasHalted}
+use Rattle.server_session.specs.Dealing.{AtDesk, HaltsAtFront, IsPrepared, reserving, reservation_of, with_reserved}
 use Rattle.server_session.specs.Fits.{Fits, Belongs, IsSourceOf, sequence_of, tables_of}
 use Rattle.server_session.specs.Plain.{IsStored, IsPlain}
 use Rattle.server_session.specs.Running.{Ground, HasRunOver, HasHaltedOver, RunsOver}
 use Rattle.server_session.specs.SeenSession.{SeenSession, sess_of}
-use Rattle.server_session.specs.Serving.{HasServed, HasStopped, HasLacked, Serves, called_as, commits_as, told_of}
+use Rattle.server_session.specs.Serving.{HasServed, HasStopped, HasLacked, Serves, StopsAtFronts, called_as, commits_as, told_of}
 use Rattle.server_session.proofs.Holding.{holds_then, moves_none}
 use Rattle.server_session.proofs.Committing.{same_rows}
 use Rattle.server_session.proofs.Cores.{belongs_with, same_journal}
 use Rattle.server_session.proofs.Desks.{given_few, with_meant}
+use Rattle.server_session.proofs.Fronts.{HasSome, among_or_behind, grown_some, some_reserved}
 use Rattle.server_session.proofs.Gaining.{gained_then, halted_then}
+use Rattle.server_session.proofs.Halting.{halts_last, some_there}
 use Rattle.server_session.proofs.Plains.{is_stored, reads_stored}
 use Rattle.server_session.proofs.Quiet.{made_more, noting}
-use Rattle.server_session.proofs.Reserving.{names_by, source_told}
+use Rattle.server_session.proofs.Reserving.{names_by}
 
 -- ---- a journal with reservations more
-
-abbrev pub with_reserved : Journal → List Reservation → Journal
-with_reserved journal more = record journal { reserved = journal.reserved ++ more }
 
 fold_reserving : (journal : Journal) (more : List Reservation) → fold with_record journal (reserving more) ≡ with_reserved journal more
 fold_reserving journal [] = ap (λ (l : List Reservation). let j : Journal = record journal { reserved = l } in j) (sym (append-nil journal.reserved))
@@ -198,6 +196,24 @@ module _ (statements : List Statement) (commit replay : Bool) (marks : List Draw
         subst (λ (g : Grants). DrawsAll now plain.opening (brought g plain.opening replay marks) draws opening left) (sym is.grants)
         (subst (λ (o : Opening). DrawsAll now o (brought core.grants o replay marks) draws opening left) (sym is.opening) drawn)
 
+  -- ---- the store was stopped in a draw
+
+  halts_at : (given : List Draw) (stored : List Reservation) → HaltsAtFront now before given stored → (meant : Meant) → meaning core.tables (names_of core.source.sequences) old.settings old.txn statements given ≡ Some meant → meant.rest ≡ []
+      → (plain : Plain) (reads : List Read) → IsPlain plain core disk → (image : List ℕ) → HasAdded disk.now.seen (reserving stored) image
+      → (after : Plain) × (IfOk (journal_of image) (IsStored after) × called_as replay marks called now plain (sess_of old reads) after (ended (sess_of old reads)) Stopped)
+  halts_at given stored h meant means used plain reads is image added =
+      let journal = with_reserved fits.journal stored in
+      let all : Meant = record meant { answers = closed_by commit meant.answers } in
+      let asked : Means plain (sess_of old reads) called (h.front ++ h.next ∷ h.back) all =
+      subst (λ (draws : List Draw). Means plain (sess_of old reads) called draws all) h.split (means_here plain is reads given meant means used) in (
+        with_opening plain h.opening,
+        (
+          reads_stored (with_opening plain h.opening) image journal (reads_reserved disk.now.seen image fits.journal stored fits.reads added)
+              (stored_at plain fits.journal stored h.opening journal (is_stored plain core disk fits is) refl (h.source fits.journal fits.source)),
+          IsWork statements commit _ _ _ (HaltsInDraw h.between h.opening h.front h.next h.back h.left all (draws_here plain is h.front h.between h.left h.draws) asked h.halts),
+        ),
+      )
+
   -- ---- the statements ran
 
   module _ (ran : Ran) (txn : Transaction) (desk : AtDesk) (over : HasRunOver now ground before ran txn desk) (answers : List Answer) (closed : answers ≡ closed_by commit ran.answers) where
@@ -239,6 +255,15 @@ module _ (statements : List Statement) (commit replay : Bool) (marks : List Draw
       reads = reads_then plain reads;
     }
 
+    -- it was stopped in a draw
+    halts_among : (plain : Plain) (reads : List Read) → IsPlain plain core disk → (image : List ℕ) → over.dealt.reservations ≢ [] → HasSome disk.now.seen over.dealt.reservations image
+        → (after : Plain) × (IfOk (journal_of image) (IsStored after) × called_as replay marks called now plain (sess_of old reads) after (ended (sess_of old reads)) Stopped)
+    halts_among plain reads is image there some =
+        halts_at ran.draws (take some.count over.dealt.reservations) (over.dealt.halts some.count some.within there) over.run.meant over.run.means over.run.used plain reads is image some.has
+
+    draw_fronts : reserving over.dealt.reservations ≢ [] → StopsAtFronts (called_as replay marks called now) old core disk (reserving over.dealt.reservations)
+    draw_fronts there plain reads is noted image grown = halts_among plain reads is image (some_reserved over.dealt.reservations there) (grown_some disk.now.seen over.dealt.reservations image grown)
+
     -- it is answered, and its transaction goes on
     pub answered : (told : Down) (new : SeenSession) → ends_committed answers ≡ false → IsMade called → told ≡ down.Reply answers ran.draws old.ltxid → new ≡ noting (seen_at txn) (piece_of called answers ran.draws)
         → HasServed (called_as replay marks called now) most (Says told) old core disk new (core_at desk) desk.disk
@@ -257,6 +282,7 @@ module _ (statements : List Statement) (commit replay : Bool) (marks : List Draw
               record { reads = reads_then plain reads; noted = noted_then plain is reads noted; steps = step plain is reads },
             ),
           );
+          fronts = draw_fronts;
         })
       where
         works : (plain : Plain) (is : IsPlain plain core disk) (reads : List Read) (a : List Answer) → a ≡ closed_by commit over.run.meant.answers → ends_committed a ≡ false
@@ -280,6 +306,25 @@ module _ (statements : List Statement) (commit replay : Bool) (marks : List Draw
         IsWork statements commit after t told
         (Reaches desk.opening ran.draws desk.left meant_here after t told (draws_here plain is ran.draws desk.opening desk.left over.dealt.draws) (means_here plain is reads ran.draws over.run.meant over.run.means over.run.used) (ap ends_committed (sym answers_here) ∙ ends) there)
 
+    -- it was stopped behind the draws
+    commit_fronts : (records : List Record) → ends_committed answers ≡ true → StopsAtFronts (commits_as replay called answers ran.draws) (seen_at txn) (core_at desk) desk.disk records
+        → StopsAtFronts (called_as replay marks called now) old core disk (reserving over.dealt.reservations ++ records)
+    commit_fronts records ends stops plain reads is noted image grown = by (among_or_behind disk.now.seen desk.disk.now.seen image over.dealt.reservations records over.dealt.gained.added grown)
+      where
+        by : ((over.dealt.reservations ≢ []) × HasSome disk.now.seen over.dealt.reservations image) ⊎ IsGrown desk.disk.now.seen records image
+            → (after : Plain) × (IfOk (journal_of image) (IsStored after) × called_as replay marks called now plain (sess_of old reads) after (ended (sess_of old reads)) Stopped)
+        by (inl among) = halts_among plain reads is image among.0 among.1
+        by (inr behind) =
+            let next = stops (with_opening plain desk.opening) (reads_then plain reads) (plain_at desk over.dealt.reservations over.dealt.gained over.dealt.prepared plain is) (noted_then plain is reads noted) image behind in
+            (next.0, (next.1.0, commits_on plain next.0 is reads (ended (sess_of old reads)) Stopped ends next.1.1))
+
+    -- a commit that stored nothing has the draws alone
+    all_fronts : (records : List Record) → ends_committed answers ≡ true → (records ≢ [] → StopsAtFronts (commits_as replay called answers ran.draws) (seen_at txn) (core_at desk) desk.disk records)
+        → reserving over.dealt.reservations ++ records ≢ [] → StopsAtFronts (called_as replay marks called now) old core disk (reserving over.dealt.reservations ++ records)
+    all_fronts [] ends stops =
+        subst (λ (l : List Record). l ≢ [] → StopsAtFronts (called_as replay marks called now) old core disk l) (sym (append-nil (reserving over.dealt.reservations))) draw_fronts
+    all_fronts (one ∷ more) ends stops = λ some. commit_fronts (one ∷ more) ends (stops (some_there one more))
+
     pub committed_on : (result : Result (Option Down) ServeFault) (new : SeenSession) (later : Core) (end : DiskState) → ends_committed answers ≡ true
         → Serves (commits_as replay called answers ran.draws) 1 result (seen_at txn) (core_at desk) desk.disk new later end → Serves (called_as replay marks called now) most result old core disk new later end
     committed_on (Ok told) new later end ends served = record {
@@ -293,6 +338,7 @@ module _ (statements : List Statement) (commit replay : Bool) (marks : List Draw
           let next = served.steps (with_opening plain desk.opening) (reads_then plain reads) (plain_at desk over.dealt.reservations over.dealt.gained over.dealt.prepared plain is) (noted_then plain is reads noted) in
           let steps = next.1.1 in
           (next.0, (next.1.0, record { reads = steps.reads; noted = steps.noted; steps = commits_on plain next.0 is reads (sess_of new steps.reads) (told_of told) ends steps.steps }));
+      fronts = all_fronts served.records ends served.fronts;
     }
     committed_on (Err fault.NoMemory) new later end ends served = record {
       records = reserving over.dealt.reservations ++ served.records;
@@ -304,47 +350,17 @@ module _ (statements : List Statement) (commit replay : Bool) (marks : List Draw
       last = served.last;
       few = simp (length-append, length-map) (omega (arith, few_here, served.few));
       halted = halted_then disk desk.disk end (reserving over.dealt.reservations) served.records served.last over.dealt.gained served.halted;
-      steps = λ plain reads is noted image left.
-          let next = served.steps (with_opening plain desk.opening) (reads_then plain reads) (plain_at desk over.dealt.reservations over.dealt.gained over.dealt.prepared plain is) (noted_then plain is reads noted) image left in
-          (next.0, (next.1.0, commits_on plain next.0 is reads (ended (sess_of old reads)) Stopped ends next.1.1));
+      steps = subst (λ (l : List Record). StopsAtFronts (called_as replay marks called now) old core disk l) (sym (append_assoc (reserving over.dealt.reservations) served.records (served.last ∷ [])))
+          (commit_fronts (served.records ++ served.last ∷ []) ends served.steps);
     }
 
     -- no memory behind the run
     pub lacked_on : HasLacked most disk desk.disk
     lacked_on = record { records = reserving over.dealt.reservations; few = simp length-map (omega (arith, few_here)); moments = over.dealt.gained.moments }
 
-  -- ---- the store was stopped in a draw
+  -- ---- the run was ended
 
-  halts_by : (h : AtDesk) (name : List ℕ) (upto : ℤ) (plain : Plain) (reads : List Read) (is : IsPlain plain core disk) (given more : List Draw) (next : Draw) (dealt : HasDealt now before given h) (meant : Meant)
-      → Means plain (sess_of old reads) called (given ++ next ∷ more) meant → HaltsAt now h.left (kind_drawn next) h.opening h.opening → HaltsAt now h.left (kind_drawn next) h.opening (reserved_to h.opening name upto)
-      → (image : List ℕ) → IsLeftOf disk.now.seen (reserving dealt.reservations) (kept.Reserved (reservation_of name upto)) image
-      → (after : Plain) × (IfOk (journal_of image) (IsStored after) × called_as replay marks called now plain (sess_of old reads) after (ended (sess_of old reads)) Stopped)
-  halts_by h name upto plain reads is given more next dealt meant means lost stands image (inl none) =
-      let journal = with_reserved fits.journal dealt.reservations in
-      let source : IsSourceOf h.opening journal = subst (λ (j : Journal). IsSourceOf h.opening j) (journal_is h dealt.reservations dealt.gained dealt.prepared) dealt.prepared.source in (
-        with_opening plain h.opening,
-        (
-          reads_stored (with_opening plain h.opening) image journal (reads_reserved disk.now.seen image fits.journal dealt.reservations fits.reads none)
-              (stored_at plain fits.journal dealt.reservations h.opening journal (is_stored plain core disk fits is) refl source),
-          IsWork statements commit _ _ _ (HaltsInDraw h.opening h.opening given next more h.left meant (draws_here plain is given h.opening h.left dealt.draws) means lost),
-        ),
-      )
-  halts_by h name upto plain reads is given more next dealt meant means lost stands image (inr one) =
-      let opening = reserved_to h.opening name upto in
-      let all = dealt.reservations ++ reservation_of name upto ∷ [] in
-      let journal = with_reserved fits.journal all in
-      let between : IsSourceOf h.opening (with_reserved fits.journal dealt.reservations) = subst (λ (j : Journal). IsSourceOf h.opening j) (journal_is h dealt.reservations dealt.gained dealt.prepared) dealt.prepared.source in
-      let more_reserved : ◌≡◌ {A = Journal} (with_record (with_reserved fits.journal dealt.reservations) (kept.Reserved (reservation_of name upto))) journal =
-      ap (λ (l : List Reservation). let j : Journal = record fits.journal { reserved = l } in j) (append_assoc fits.journal.reserved dealt.reservations (reservation_of name upto ∷ [])) in
-      let source : IsSourceOf opening journal = subst (λ (j : Journal). IsSourceOf opening j) more_reserved (source_told h.opening name upto (with_reserved fits.journal dealt.reservations) between) in
-      let added : HasAdded disk.now.seen (reserving all) image = subst (λ (l : List Record). HasAdded disk.now.seen l image) (sym (map-append (λ (r : Reservation). kept.Reserved r) dealt.reservations (reservation_of name upto ∷ []))) one in (
-        with_opening plain opening,
-        (
-          reads_stored (with_opening plain opening) image journal (reads_reserved disk.now.seen image fits.journal all fits.reads added) (stored_at plain fits.journal all opening journal (is_stored plain core disk fits is) refl source),
-          IsWork statements commit _ _ _ (HaltsInDraw h.opening opening given next more h.left meant (draws_here plain is given h.opening h.left dealt.draws) means stands),
-        ),
-      )
-
+  -- the store was stopped in a draw
   pub halted_on : (end : DiskState) → HasHaltedOver now ground before end → HasStopped (called_as replay marks called now) most old core disk end
   halted_on end h =
       let at = h.halted in
@@ -360,12 +376,14 @@ module _ (statements : List Statement) (commit replay : Bool) (marks : List Draw
         last = kept.Reserved (reservation_of at.name at.upto);
         few = simp length-map (omega (arith, dealt.few, few));
         halted = halts;
-        steps = λ plain reads is noted image left.
-            halts_by h.between at.name at.upto plain reads is h.given h.more h.next dealt _ (means_here plain is reads (h.given ++ h.next ∷ h.more) means.0 means.1.0 means.1.1)
-            (BlockLost at.name at.upto at.wanted) (BlockStands at.name at.upto at.wanted) image (halts.left image left);
+        steps = λ plain reads is noted image grown.
+            let all = dealt.reservations ++ reservation_of at.name at.upto ∷ [] in
+            let some = grown_some disk.now.seen all image (subst (λ (l : List Record). IsGrown disk.now.seen l image) (sym (map-append (λ (r : Reservation). kept.Reserved r) dealt.reservations (reservation_of at.name at.upto ∷ []))) grown) in
+            halts_at (h.given ++ h.next ∷ h.more) (take some.count all)
+            (halts_last now before h.between h.after h.given h.more h.next dealt at some.count (omega (arith, some.within, length-append dealt.reservations (reservation_of at.name at.upto ∷ []))))
+            means.0 means.1.0 means.1.1 plain reads is image some.has;
       }
 
-  -- the run was ended
   pub ended_on : (error : ServeFault) (txn : Transaction) (after : AtDesk) (new : SeenSession) (later : Core) → RunsOver now ground most before (Err error) txn after → Serves (called_as replay marks called now) most (Err error) old core disk new later after.disk
   ended_on fault.NoMemory txn after new later lacked = lacked
   ended_on fault.Stopped txn after new later halted = halted_on after.disk halted

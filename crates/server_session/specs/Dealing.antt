@@ -1,5 +1,5 @@
 -- What one draw of a call does to the source, to the draws that are kept for a replay, and to the log.
-use Rattle.std.specs.Prelude.{◌≡◌, ◌≤◌, ℕ, ℤ, true, IsTrue, IsFalse, List, [], ◌∷◌, length, map, Some, Result, Ok, Err}
+use Rattle.std.specs.Prelude.{◌≡◌, ◌≢◌, ◌≤◌, ℕ, ℤ, true, IsTrue, IsFalse, List, [], ◌∷◌, ◌++◌, length, map, take, Some, Result, Ok, Err}
 use Rattle.disk_model.specs.Disk.{DiskState, Meanwhile}
 use Rattle.svc_values.specs.declared.draw.Draw.{Draw}
 use Rattle.svc_values.specs.declared.draw.DrawKind.{DrawKind}
@@ -15,9 +15,9 @@ use Rattle.commit_log.specs.Journals.{journal_of}
 use Rattle.commit_log.specs.Logs.{is_live, CanLog}
 use Rattle.mutable_values.specs.declared.source.Drawn.TheVariants as drawn
 use Rattle.mutable_values.specs.Sources.{Opening, draw_of, reserved_to}
-use Rattle.stmt_meaning.specs.Asked.{sequences_drawn}
+use Rattle.stmt_meaning.specs.Asked.{kind_drawn, sequences_drawn}
 use Rattle.stmt_meaning.specs.Drawing.{Drew, Gave, Lacked, Halted}
-use Rattle.server_model.specs.Draws.{DrawsAll}
+use Rattle.server_model.specs.Draws.{DrawsAll, HaltsAt}
 use Rattle.server_model.specs.declared.fault.ServeFault.{ServeFault}
 use Rattle.server_model.specs.declared.fault.ServeFault.TheVariants as fault
 use Rattle.server_session.specs.Adding.{HasGained, HasHalted}
@@ -70,13 +70,34 @@ Reserves name upto (Ok done) opening disk later log end = HasReserved name upto 
 Reserves name upto (Err fault.NoMemory) opening disk later log end = HasLackedReservation opening disk later log end name upto
 Reserves name upto (Err fault.Stopped) opening disk later log end = HasHaltedReservation name upto opening disk later log end
 
--- These were given, one after the other, with the reservations that had to be stored first: at most one
--- for each value of a sequence.
+-- the journal with these reservations behind its own
+abbrev pub with_reserved : Journal → List Reservation → Journal
+with_reserved journal more = record journal { reserved = journal.reserved ++ more }
+
+-- The store may have stopped among these draws with just these reservations: some draws were given,
+-- and the next one asked for a reservation that is the last of them, or was lost behind them.
+pub record HaltsAtFront (now : ℕ) (before : AtDesk) (given : List Draw) (stored : List Reservation) : Type 0 where
+  pub front : List Draw
+  pub next : Draw
+  pub back : List Draw
+  pub split : given ≡ front ++ next ∷ back
+  pub between : Opening
+  pub left : List Draw
+  pub draws : DrawsAll now before.opening before.left front between left
+  pub opening : Opening
+  pub halts : HaltsAt now left (kind_drawn next) between opening
+  pub source : (journal : Journal) → IsSourceOf before.opening journal → IsSourceOf opening (with_reserved journal stored)
+
+-- These were given, one after the other, with the reservations that had to be stored first: at most
+-- one for each value of a sequence. The source goes on beside any journal that it was the source of,
+-- and the store may have stopped behind any of the reservations, or before all.
 pub record HasDealt (now : ℕ) (before : AtDesk) (given : List Draw) (after : AtDesk) : Type 0 where
   pub reservations : List Reservation
   pub few : length reservations ≤ sequences_drawn given
   pub gained : HasGained (reserving reservations) before.disk after.disk
   pub draws : DrawsAll now before.opening before.left given after.opening after.left
+  pub moved : (journal : Journal) → IsSourceOf before.opening journal → IsSourceOf after.opening (with_reserved journal reservations)
+  pub halts : (count : ℕ) → count ≤ length reservations → reservations ≢ [] → HaltsAtFront now before given (take count reservations)
   pub prepared : IsPrepared after.opening after.log after.disk
 
 -- The store was stopped at the reservation that a value of a sequence asked for.

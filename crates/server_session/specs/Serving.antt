@@ -1,7 +1,6 @@
 -- What a served frame, or a part of one, comes to.
-use Rattle.std.specs.Prelude.{◌≡◌, ◌≢◌, ◌+◌, ◌≤◌, ℕ, Bool, false, IsTrue, List, length, Option, Some, None, Result, Ok, Err, IfOk}
+use Rattle.std.specs.Prelude.{◌≡◌, ◌≢◌, ◌+◌, ◌≤◌, ℕ, Bool, false, IsTrue, List, [], ◌∷◌, ◌++◌, length, Option, Some, None, Result, Ok, Err, IfOk}
 use Rattle.std.specs.List.{AllByRecursion}
-use Rattle.disk_model.specs.Moment.{MayLeave}
 use Rattle.disk_model.specs.Disk.{DiskState, Meanwhile}
 use Rattle.svc_values.specs.declared.answer.Answer.{Answer}
 use Rattle.svc_values.specs.declared.call.Call.{Call}
@@ -65,8 +64,16 @@ pub record Quietly (step : Plain → Sess → Plain → Sess → Telling → Typ
   pub made : AllByRecursion IsMadePiece old.txn.pieces → AllByRecursion IsMadePiece new.txn.pieces
   pub holds : (core : Core) → HoldsSince core old.since old.txn.readings → HoldsSince core new.since new.txn.readings
 
--- A step that was answered: it added at most so many records. Everything fits again, the other sessions
--- too, and the plain server may do the same.
+-- Whatever front of these records an image holds behind those of the disk, the plain server may
+-- have been stopped in the step with it, before an answer.
+abbrev pub StopsAtFronts : (step : Plain → Sess → Plain → Sess → Telling → Type 0) → SeenSession → Core → DiskState → List Record → Type 0
+StopsAtFronts step old core disk records =
+    (plain : Plain) (reads : List Read) → IsPlain plain core disk → AreReadings old.txn.readings reads → (image : List ℕ) → IsGrown disk.now.seen records image
+    → (after : Plain) × (IfOk (journal_of image) (IsStored after) × step plain (sess_of old reads) after (ended (sess_of old reads)) Stopped)
+
+-- A step that was answered: it added at most so many records. Everything fits again, the other
+-- sessions too, and the plain server may do the same. Where records were added it may as well have
+-- been stopped behind any of them, or before all: an answer that reached nobody.
 pub record HasServed (step : Plain → Sess → Plain → Sess → Telling → Type 0) (most : ℕ) (told : Telling) (old : SeenSession) (core : Core) (disk : DiskState) (new : SeenSession) (later : Core) (end : DiskState) : Type 0 where
   pub records : List Record
   pub few : length records ≤ most
@@ -76,16 +83,16 @@ pub record HasServed (step : Plain → Sess → Plain → Sess → Telling → T
   pub others : (other : SeenSession) → other.ltxid.session ≢ old.ltxid.session → Belongs core other → Belongs later other
   pub steps : (plain : Plain) (reads : List Read) → IsPlain plain core disk → AreReadings old.txn.readings reads
       → (after : Plain) × (IsPlain after later end × StepsTo step told plain (sess_of old reads) after new)
+  pub fronts : records ≢ [] → StopsAtFronts step old core disk records
 
--- A step that was stopped in a record: whatever a crash then leaves, the plain server may have been
--- stopped with it.
+-- A step that was stopped in a record: with whatever front of its records, this last one too, the
+-- plain server may have been stopped. A crash leaves such a front.
 pub record HasStopped (step : Plain → Sess → Plain → Sess → Telling → Type 0) (most : ℕ) (old : SeenSession) (core : Core) (disk : DiskState) (end : DiskState) : Type 0 where
   pub records : List Record
   pub last : Record
   pub few : length records + 1 ≤ most
   pub halted : HasHalted records last disk end
-  pub steps : (plain : Plain) (reads : List Read) → IsPlain plain core disk → AreReadings old.txn.readings reads → (image : List ℕ) → MayLeave end.now image
-      → (after : Plain) × (IfOk (journal_of image) (IsStored after) × step plain (sess_of old reads) after (ended (sess_of old reads)) Stopped)
+  pub steps : StopsAtFronts step old core disk (records ++ last ∷ [])
 
 -- A step for which there was no memory: a crash at any moment leaves a front of the records that it
 -- would have added.

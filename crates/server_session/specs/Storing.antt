@@ -1,6 +1,5 @@
 -- What a core comes to with one record more, and what is told of an identifier.
-use Rattle.std.specs.Prelude.{◌≡◌, ◌≤◌, ℕ, List, [], ◌∷◌, length, Result, Ok, Err, IfOk}
-use Rattle.disk_model.specs.Moment.{MayLeave}
+use Rattle.std.specs.Prelude.{◌≡◌, ◌≢◌, ◌≤◌, ℕ, List, [], ◌∷◌, length, Result, Ok, Err, IfOk}
 use Rattle.disk_model.specs.Disk.{DiskState}
 use Rattle.svc_values.specs.declared.entry.Ltxid.{Ltxid}
 use Rattle.ltxid_book.specs.declared.verdict.Verdict.{Verdict}
@@ -8,6 +7,7 @@ use Rattle.ltxid_book.specs.Sessions.{Sessions, sessions_in, after_commit, after
 use Rattle.ltxid_book.specs.Outcomes.{verdict_of}
 use Rattle.commit_log.specs.declared.records.Record.{Record}
 use Rattle.commit_log.specs.declared.records.Record.TheVariants as kept
+use Rattle.commit_log.specs.Growth.{IsGrown}
 use Rattle.commit_log.specs.Journals.{journal_of}
 use Rattle.server_model.specs.Core.{Core as Plain}
 use Rattle.server_model.specs.Outcomes.{Stopped, if_blocks, verdict_on, Outcomes}
@@ -46,8 +46,15 @@ Stores one (Err fault.Stopped) core disk later end = HasHalted [] one disk end
 
 -- ---- outcomes
 
--- An identifier's outcome by the book. Where it is to be blocked that is stored, and no session is at
--- another number.
+-- Whatever front of these records an image holds behind those of the disk, the plain server may
+-- have been stopped with it before the outcome was told.
+abbrev pub StopsTelling : Ltxid → Core → DiskState → List Record → Type 0
+StopsTelling x core disk records =
+    (plain : Plain) → IsPlain plain core disk → (image : List ℕ) → IsGrown disk.now.seen records image → (after : Plain) × (IfOk (journal_of image) (IsStored after) × Outcomes plain x after Stopped)
+
+-- An identifier's outcome by the book. Where it is to be blocked that is stored, and no session is
+-- at another number. Where it was stored, it may as well have been stopped, with the block or without
+-- it.
 pub record HasTold (x : Ltxid) (told : Verdict) (core : Core) (disk : DiskState) (later : Core) (end : DiskState) : Type 0 where
   pub verdict : told ≡ verdict_of (sessions_in core.book) x
   pub records : List Record
@@ -56,11 +63,12 @@ pub record HasTold (x : Ltxid) (told : Verdict) (core : Core) (disk : DiskState)
   pub fits : Fits later end
   pub belongs : (seen : SeenSession) → Belongs core seen → Belongs later seen
   pub steps : (plain : Plain) → IsPlain plain core disk → (verdict_on plain x ≡ told) × IsPlain (if_blocks told plain x) later end
+  pub fronts : records ≢ [] → StopsTelling x core disk records
 
 -- The block was stopped, and stands in what a crash then leaves or not.
 pub record HasStoppedTelling (x : Ltxid) (core : Core) (disk end : DiskState) : Type 0 where
   pub halted : HasHalted [] (kept.Blocked x) disk end
-  pub steps : (plain : Plain) → IsPlain plain core disk → (image : List ℕ) → MayLeave end.now image → (after : Plain) × (IfOk (journal_of image) (IsStored after) × Outcomes plain x after Stopped)
+  pub steps : StopsTelling x core disk (kept.Blocked x ∷ [])
 
 abbrev pub Tells : Ltxid → Result Verdict ServeFault → Core → DiskState → Core → DiskState → Type 0
 Tells x (Ok told) core disk later end = HasTold x told core disk later end

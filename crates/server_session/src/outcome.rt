@@ -20,7 +20,8 @@ use server_model::ServeFault;
 use svc_values::{Ahead, Down, Ltxid};
 
 /// Tells the outcome of an identifier by the book. One that is to be blocked is blocked first: the
-/// block is stored before it is told. Logarithmic in the sessions of the book.
+/// block is stored before it is told. As long as it is not told, the call may be taken as one that
+/// was stopped, with the block or without it. Logarithmic in the sessions of the book.
 pub fn tell_outcome<D: Disk>(
     core: &mut Core,
     disk: &mut D,
