@@ -7,8 +7,10 @@ use request_bounds::{After, BoundRule};
 use std::marker::Model;
 use svc_values::{Answer, Call};
 
-/// What of a request is protected, call by call, under a rule and a limit of recorded calls. A call is
-/// protected where nothing had ended the protection when it was submitted, its own submission included.
+/// What of a request is protected, call by call, under a rule and a limit of recorded calls. A
+/// call is
+/// protected where nothing had ended the protection when it was submitted, its own submission
+/// included.
 #[derive(Clone, Copy)]
 pub struct Coverage<R> {
     rule: R,
@@ -34,7 +36,8 @@ impl<R> Model for Coverage<R> {
 }
 
 impl<R: BoundRule> Coverage<R> {
-    /// A request of which nothing was submitted, under this rule and with at most so many recorded calls.
+    /// A request of which nothing was submitted, under this rule and with at most so many recorded
+    /// calls.
     /// It takes no memory.
     pub fn new(rule: R, limit: u64) -> Coverage<R>
         ensures { result ≡ nothing_covered rule limit }

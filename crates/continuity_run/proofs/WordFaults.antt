@@ -1,4 +1,5 @@
--- Where no word begins with `-`, `clap` finds fault with the words exactly where they are no command's.
+-- Where no word begins with `-`, `clap` finds fault with the words exactly where they are no
+-- command's.
 use Rattle.std.proofs.Common.{◌≡◌, ◌∙◌, ◌==◌, ◌||◌, inl, inr, Bool, true, false, List, [], ◌∷◌, Option, Some, None, String, codes, string_bytes, map, refl, sym, ap, subst, slice_index}
 use Rattle.std.specs.Prelude.{Box, option_and_then, option_map}
 use Rattle.std.specs.Box.{box_value}
@@ -37,13 +38,15 @@ some_kind : {k : ErrorKind} {ks : Kinds} → k ∷ ks ≡ [] → ⊥
 some_kind e = cc
 
 -- at a level with no arguments a word is a subcommand or a stray one
-stray : (s : Shape) (names : Names) (word : Text) → (slice_index word 0 == 45) ≡ false → subcommand_met names idle word ≡ None
+stray : (s : Shape) (names : Names) (word : Text) → (slice_index word 0 == 45) ≡ false
+    → subcommand_met names idle word ≡ None
     → turn_fault (record s { rules = [] }) names (walk_from nothing_held) word ≡ stray_fault s
 stray s names [] hyphen none = rw none refl
 stray s names (x ∷ xs) hyphen none = simp (none, hyphen)
 
 -- a first word that is no command's
-other_word : (word : Text) (rest : List Text) → (slice_index word 0 == 45) ≡ false → bytes_eq (codes "run") word ≡ false → bytes_eq (codes "cover") word ≡ false
+other_word : (word : Text) (rest : List Text) → (slice_index word 0 == 45) ≡ false
+    → bytes_eq (codes "run") word ≡ false → bytes_eq (codes "cover") word ≡ false
     → fault_of program (word ∷ rest) ≡ [] → ⊥
 unfolding walk_fault
 other_word word rest hyphen no_run no_cover e =
@@ -52,7 +55,8 @@ other_word word rest hyphen no_run no_cover e =
     some_kind (sym (stray a.top (names_of a) word hyphen none) ∙ first _ _ (first _ _ e))
 
 -- a word behind a command
-one_more_run : (word : Text) (rest : List Text) → (slice_index word 0 == 45) ≡ false → fault_of program (codes "run" ∷ word ∷ rest) ≡ [] → ⊥
+one_more_run : (word : Text) (rest : List Text) → (slice_index word 0 == 45) ≡ false
+    → fault_of program (codes "run" ∷ word ∷ rest) ≡ [] → ⊥
 unfolding clap_on_literals
 one_more_run word rest hyphen e =
     let a = built program in
@@ -60,7 +64,8 @@ one_more_run word rest hyphen e =
     = ap (λ w. entered_fault a w.stopped) (walk_stopped [] (names_of a) (walk_from nothing_held) (codes "run") [] (word ∷ rest)) ∙ first _ _ (second _ _ e) in
     some_kind (sym (stray (new_shape (codes "run")) [] word hyphen refl) ∙ first _ _ (first _ _ at_run))
 
-one_more_cover : (word : Text) (rest : List Text) → (slice_index word 0 == 45) ≡ false → fault_of program (codes "cover" ∷ word ∷ rest) ≡ [] → ⊥
+one_more_cover : (word : Text) (rest : List Text) → (slice_index word 0 == 45) ≡ false
+    → fault_of program (codes "cover" ∷ word ∷ rest) ≡ [] → ⊥
 unfolding clap_on_literals
 one_more_cover word rest hyphen e =
     let a = built program in
@@ -92,7 +97,9 @@ data IsKnown : List Text → Type 0 where
   IsRun : IsKnown (codes "run" ∷ [])
   IsCover : IsKnown (codes "cover" ∷ [])
 
-by_word : (word : String Global) (rest : List (String Global)) (run cover : Bool) → bytes_eq (codes "run") (string_bytes word) ≡ run → bytes_eq (codes "cover") (string_bytes word) ≡ cover
+by_word : (word : String Global) (rest : List (String Global)) (run cover : Bool)
+    → bytes_eq (codes "run") (string_bytes word) ≡ run
+    → bytes_eq (codes "cover") (string_bytes word) ≡ cover
     → list_any begins_with_hyphen (word ∷ rest) ≡ false → fault_of program (map string_bytes (word ∷ rest)) ≡ [] → IsKnown (map string_bytes (word ∷ rest))
 by_word word rest false false no_run no_cover hyphens e = absurd (other_word (string_bytes word) (map string_bytes rest) (neither _ _ hyphens).0 no_run no_cover e)
 by_word word [] true cover is_run is_cover hyphens e = subst (λ w. IsKnown (w ∷ [])) (sym (same_word (codes "run") (string_bytes word) is_run)) IsRun
@@ -104,7 +111,8 @@ by_word word (other ∷ rest) false true is_run is_cover hyphens e =
     absurd (one_more_cover (string_bytes other) (map string_bytes rest) (neither _ _ (neither _ _ hyphens).1).0
     (subst (λ w. fault_of program (w ∷ map string_bytes (other ∷ rest)) ≡ []) (same_word (codes "cover") (string_bytes word) is_cover) e))
 
-known : (words : List (String Global)) → list_any begins_with_hyphen words ≡ false → fault_of program (map string_bytes words) ≡ [] → IsKnown (map string_bytes words)
+known : (words : List (String Global)) → list_any begins_with_hyphen words ≡ false
+    → fault_of program (map string_bytes words) ≡ [] → IsKnown (map string_bytes words)
 known [] hyphens e = absurd (no_words e)
 known (word ∷ rest) hyphens e = by_word word rest _ _ refl refl hyphens e
 
@@ -113,49 +121,60 @@ abbrev command_in : List Text → Option Command
 command_in (word ∷ []) = command_named word
 command_in _ = None
 
-same_command : (words : List (String Global)) → command_in (map string_bytes words) ≡ command_of words
+same_command : (words : List (String Global))
+    → command_in (map string_bytes words) ≡ command_of words
 same_command [] = refl
 same_command (word ∷ []) = refl
 same_command (word ∷ other ∷ rest) = refl
 
-entered_run : option_map (λ met. met.0) (subcommand_of program (codes "run" ∷ [])) ≡ Some (codes "run")
+entered_run : option_map (λ met. met.0) (subcommand_of program (codes "run" ∷ []))
+    ≡ Some (codes "run")
 unfolding clap_on_literals
 entered_run = refl
 
-entered_cover : option_map (λ met. met.0) (subcommand_of program (codes "cover" ∷ [])) ≡ Some (codes "cover")
+entered_cover : option_map (λ met. met.0) (subcommand_of program (codes "cover" ∷ []))
+    ≡ Some (codes "cover")
 unfolding clap_on_literals
 entered_cover = refl
 
-entered : (words : List Text) → IsKnown words → option_and_then command_named (option_map (λ met. met.0) (subcommand_of program words)) ≡ command_in words
+entered : (words : List Text) → IsKnown words
+    → option_and_then command_named (option_map (λ met. met.0) (subcommand_of program words)) ≡ command_in words
 entered _ IsRun = ap (option_and_then command_named) entered_run
 entered _ IsCover = ap (option_and_then command_named) entered_cover
 
-named_of : {Z : Type 0} (met : Option (Box SubCommand Z)) → option_map (λ b. (out-SubCommand (box_value b)).name.now) met ≡ option_map (λ one. one.0) (subcommand_rows met)
+named_of : {Z : Type 0} (met : Option (Box SubCommand Z))
+    → option_map (λ b. (out-SubCommand (box_value b)).name.now) met ≡ option_map (λ one. one.0) (subcommand_rows met)
 named_of None = refl
 named_of (Some b) = refl
 
 -- the name of what a parse entered
-pub name_entered : (m : ArgMatches) → subcommand_name_of m ≡ option_map (λ met. met.0) (subcommand_rows_of m)
+pub name_entered : (m : ArgMatches)
+    → subcommand_name_of m ≡ option_map (λ met. met.0) (subcommand_rows_of m)
 name_entered m = named_of (out-ArgMatches m).subcommand
 
 -- of words without a fault the subcommand is the command
-pub passed : (words : List (String Global)) → list_any begins_with_hyphen words ≡ false → fault_of program (map string_bytes words) ≡ []
+pub passed : (words : List (String Global)) → list_any begins_with_hyphen words ≡ false
+    → fault_of program (map string_bytes words) ≡ []
     → option_and_then command_named (option_map (λ met. met.0) (subcommand_of program (map string_bytes words))) ≡ command_of words
 passed words hyphens e = entered (map string_bytes words) (known words hyphens e) ∙ same_command words
 
 -- the words of a command have no fault
-named_passes : (name : Text) (run cover : Bool) → bytes_eq name (codes "run") ≡ run → bytes_eq name (codes "cover") ≡ cover → (one : Command) → command_named name ≡ Some one → fault_of program (name ∷ []) ≡ []
+named_passes : (name : Text) (run cover : Bool) → bytes_eq name (codes "run") ≡ run
+    → bytes_eq name (codes "cover") ≡ cover → (one : Command) → command_named name ≡ Some one
+    → fault_of program (name ∷ []) ≡ []
 named_passes name true cover is_run is_cover one is = subst (λ w. fault_of program (w ∷ []) ≡ []) (sym ((bytes_eq-Decides name (codes "run")).0 is_run)) run_passes
 named_passes name false true is_run is_cover one is = subst (λ w. fault_of program (w ∷ []) ≡ []) (sym ((bytes_eq-Decides name (codes "cover")).0 is_cover)) cover_passes
 named_passes name false false is_run is_cover one is = absurd (let none : command_named name ≡ None = rw (is_run, is_cover) refl in let no : ⊥ = cc in no)
 
-command_passes : (words : List (String Global)) (one : Command) → command_of words ≡ Some one → fault_of program (map string_bytes words) ≡ []
+command_passes : (words : List (String Global)) (one : Command) → command_of words ≡ Some one
+    → fault_of program (map string_bytes words) ≡ []
 command_passes [] one is = absurd (let none : ⊥ = cc in none)
 command_passes (word ∷ []) one is = named_passes (string_bytes word) _ _ refl refl one is
 command_passes (word ∷ other ∷ rest) one is = absurd (let none : ⊥ = cc in none)
 
 -- words with a fault, other than want of memory, are no command's
-pub refused : (words : List (String Global)) (e : Error) → (kind_of e ≡ OutOfMemory → ⊥) → HasKind (fault_of program (map string_bytes words)) e → command_of words ≡ None
+pub refused : (words : List (String Global)) (e : Error) → (kind_of e ≡ OutOfMemory → ⊥)
+    → HasKind (fault_of program (map string_bytes words)) e → command_of words ≡ None
 refused words e other kind = go (command_of words) refl
   where
     none : HasKind [] e → ⊥

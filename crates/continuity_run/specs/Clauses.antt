@@ -55,7 +55,8 @@ pub record IsRead (left_before left_after : Option (List ℕ)) (bytes : List ℕ
   pub judged : IsJudged left_before bytes
 
 -- what was read is a document, and the sink took the text that the command tells of it
-pub record IsDone (command : Command) (left_before left_after held_before held_after : Option (List ℕ)) : Type 0 where
+pub record IsDone (command : Command)
+    (left_before left_after held_before held_after : Option (List ℕ)) : Type 0 where
   pub bytes : List ℕ
   pub text : List ℕ
   pub read : IsRead left_before left_after bytes
@@ -63,7 +64,8 @@ pub record IsDone (command : Command) (left_before left_after held_before held_a
   pub wrote : Appends held_before held_after text
 
 -- what was read is a document, and the sink took a front of the text that the command tells of it
-pub record IsCut (command : Command) (left_before left_after held_before held_after : Option (List ℕ)) : Type 0 where
+pub record IsCut (command : Command)
+    (left_before left_after held_before held_after : Option (List ℕ)) : Type 0 where
   pub bytes : List ℕ
   pub text : List ℕ
   pub read : IsRead left_before left_after bytes
@@ -77,10 +79,12 @@ pub record IsRefused (left_before left_after : Option (List ℕ)) (fault : Fault
   pub refused : document_at bytes ≡ Err fault
 
 abbrev pub Writes : Command → List ℕ → Option (List ℕ) → Option (List ℕ) → Type 0
-Writes command bytes held_before held_after = (text : List ℕ) × (IsAnswer command bytes text × Appends held_before held_after text)
+Writes command bytes held_before held_after =
+    (text : List ℕ) × (IsAnswer command bytes text × Appends held_before held_after text)
 
 abbrev pub WritesFront : Command → List ℕ → Option (List ℕ) → Option (List ℕ) → Type 0
-WritesFront command bytes held_before held_after = (text : List ℕ) × (IsAnswer command bytes text × AppendsFront held_before held_after text)
+WritesFront command bytes held_before held_after =
+    (text : List ℕ) × (IsAnswer command bytes text × AppendsFront held_before held_after text)
 
 -- a fact on the fault, where there is one
 abbrev pub IfDocument : Status → (Fault → Type 0) → Type 0

@@ -7,7 +7,8 @@ use Rattle.clap.specs.Simple.{App, new_app, new_shape, on_top, with_subcommand}
 abbrev pub begins_with_hyphen : String Global → Bool
 begins_with_hyphen word = slice_index (string_bytes word) 0 == 45
 
--- the commands `run` and `cover`, one of which has to be there, with no help and no version of clap's own
+-- the commands `run` and `cover`, one of which has to be there, with no help and no version of
+-- clap's own
 abbrev pub program : App
 program = with_subcommand (with_subcommand (on_top (λ s. record s {
   no_binary_name = true;

@@ -7,7 +7,8 @@ use Rattle.continuity_run.specs.declared.command.Command.TheVariants as command
 
 abbrev pub command_named : List ℕ → Option Command
 command_named name =
-    if bytes_eq name (codes "run") then Some command.Run else (if bytes_eq name (codes "cover") then Some command.Cover else None)
+    if bytes_eq name (codes "run") then Some command.Run
+    else (if bytes_eq name (codes "cover") then Some command.Cover else None)
 
 -- one word, the name of the command
 abbrev pub command_of : List (String Global) → Option Command

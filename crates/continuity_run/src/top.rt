@@ -53,8 +53,8 @@ impl Status {
     }
 }
 
-/// The text that the command tells of the document that was read, or why none was. For the text there may
-/// be no memory.
+/// The text that the command tells of the document that was read, or why none was. For the text
+/// there may be no memory.
 fn answer(
     alloc: Global,
     command: Command,
@@ -115,11 +115,12 @@ fn respond<K: Sink>(alloc: Global, command: Command, bytes: Vec<u8>, sink: &mut 
     write_answer(answer(alloc, command, read), sink)
 }
 
-/// Carries out a command. Each reads a document from the source and runs its clients' scripts under its
-/// schedule. `run` writes the report to the sink as compact JSON, and `cover` how many calls of each report were
-/// protected. The words are looked at first, which wants memory;
-/// then the source is read, to one byte past the limit of 8,388,608 bytes at most; then the document is judged. Memory
-/// is proportional to the input, and the cost of reading, judging and writing is n log n in it.
+/// Carries out a command. Each reads a document from the source and runs its clients' scripts under
+/// its schedule. `run` writes the report to the sink as compact JSON, and `cover` how many calls of
+/// each report were shown and protected. The words are looked at first, which wants memory; then the
+/// source is read, to one byte past the limit of 8,388,608 bytes at most; then the document is
+/// judged. Memory is proportional to the input, and the cost of reading, judging and writing is
+/// n log n in it.
 pub fn continuity<S: Source, K: Sink>(
     alloc: Global,
     words: &[String],
@@ -139,12 +140,16 @@ pub fn continuity<S: Source, K: Sink>(
     // The bytes are no document, and this is why.
     ensures document { IfDocument result (IsRefused (S.left source.old) (S.left source.new)) }
 
-    // The sink took the text of the command, or a front of it: of the report with its headline, or of how many of
-    // its calls were protected.
-    ensures done { (command : Command) → command_of_def words.now ≡ Some command → result ≡ Status.Done
-        → IsDone command (S.left source.old) (S.left source.new) (K.held sink.old) (K.held sink.new) }
-    ensures cut { (command : Command) → command_of_def words.now ≡ Some command → result ≡ Status.Write
-        → IsCut command (S.left source.old) (S.left source.new) (K.held sink.old) (K.held sink.new) }
+    // The sink took the text of the command, or a front of it: of a report with its headline, or of
+    // how many of its calls were protected.
+    ensures done { (command : Command) → command_of_def words.now ≡ Some command
+        → result ≡ Status.Done
+        → IsDone command (S.left source.old) (S.left source.new)
+            (K.held sink.old) (K.held sink.new) }
+    ensures cut { (command : Command) → command_of_def words.now ≡ Some command
+        → result ≡ Status.Write
+        → IsCut command (S.left source.old) (S.left source.new)
+            (K.held sink.old) (K.held sink.new) }
 
     // Where nothing is at fault there is a report, but for want of memory.
     ensures complete { IsFaultless words.now (S.left source.old) (S.faults source.old) (S.faults source.new) (K.faults sink.old) (K.faults sink.new) → (result ≡ Status.Done) ⊎ (result ≡ Status.NoMemory) }

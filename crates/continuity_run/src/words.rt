@@ -11,7 +11,8 @@ use clap::error::ErrorKind;
 use std::alloc::{AllocError, Global};
 use svc_values::NoMemory;
 
-/// The command that the words are, if they are one. A word that begins with `-` is of none, and of the
+/// The command that the words are, if they are one. A word that begins with `-` is of none, and of
+/// the
 /// others `clap` judges, which wants memory before it looks at a word.
 pub(crate) fn command_of(alloc: Global, words: &[String]) -> Result<Option<Command>, NoMemory>
     ensures { IfOk result (λ command. command ≡ command_of_def words.now) }
@@ -37,7 +38,8 @@ fn any_hyphen(words: &[String]) -> bool
 
 /// The command of this name.
 fn command_named(name: Option<&str>) -> Option<Command>
-    ensures { result ≡ option_and_then command_named_def (option_map (λ name. name.now) name.entry) }
+    ensures { result
+        ≡ option_and_then command_named_def (option_map (λ name. name.now) name.entry) }
 {
     match name {
         Some("run") => Some(Command::Run),
@@ -46,7 +48,8 @@ fn command_named(name: Option<&str>) -> Option<Command>
     }
 }
 
-/// The subcommands `run` and `cover`, one of which has to be there, with neither help nor a version of
+/// The subcommands `run` and `cover`, one of which has to be there, with neither help nor a
+/// version of
 /// clap's own.
 fn command_line<'a>(alloc: Global) -> Result<Line<'a>, AllocError>
     ensures { IfOk result (λ line. app_of line ≡ program) }

@@ -13,13 +13,15 @@ use Rattle.cover_core.specs.Walks.{client_cover, clients_cover}
 abbrev pub reports_in : List (List RequestReport) → ℕ → List RequestReport
 reports_in transcripts place = option_map_or (λ reports. reports) (slice_get transcripts place) []
 
-get_first : {A : Type 0} (items : List A) (place : ℕ) → slice_get (drop place items) 0 ≡ slice_get items place
+get_first : {A : Type 0} (items : List A) (place : ℕ)
+    → slice_get (drop place items) 0 ≡ slice_get items place
 get_first [] zero = refl
 get_first [] (suc place) = refl
 get_first (a ∷ items) zero = refl
 get_first (a ∷ items) (suc place) = get_first items place
 
-drop_one : {A : Type 0} (items : List A) (place : ℕ) → drop 1 (drop place items) ≡ drop (suc place) items
+drop_one : {A : Type 0} (items : List A) (place : ℕ)
+    → drop 1 (drop place items) ≡ drop (suc place) items
 drop_one [] zero = refl
 drop_one [] (suc place) = refl
 drop_one (a ∷ items) zero = refl
@@ -36,7 +38,8 @@ module _ (service : ServiceOf) where
     left = clients_cover service (drop place clients) (drop place transcripts)
 
     -- one client more
-    pub client_more : (client : Client) (so_far : List (List Counts)) → place < length clients → client ≡ get_or clients place client
+    pub client_more : (client : Client) (so_far : List (List Counts)) → place < length clients
+        → client ≡ get_or clients place client
         → (so_far ++ client_cover service client.requests (reports_in transcripts place) ∷ []) ++ clients_cover service (drop (place + 1) clients) (drop (place + 1) transcripts) ≡ so_far ++ left
     client_more client so_far within is =
         let one : List Counts = client_cover service client.requests (reports_in transcripts place) in
@@ -49,5 +52,6 @@ module _ (service : ServiceOf) where
         ∙ ap (λ all. one ∷ clients_cover service (drop (place + 1) clients) all) (drop_one transcripts place ∙ ap (λ n. drop n transcripts) (sym (add-one place)))))))
 
     -- no client is left
-    pub none_left : (so_far : List (List Counts)) → length clients ≤ place → so_far ++ left ≡ so_far
+    pub none_left : (so_far : List (List Counts)) → length clients ≤ place
+        → so_far ++ left ≡ so_far
     none_left so_far all = ap (λ clients. so_far ++ clients_cover service clients (drop place transcripts)) (drop_all place clients all) ∙ append-nil so_far

@@ -8,17 +8,18 @@ use Rattle.outage_schedule.specs.declared.document.ServiceOf.{ServiceOf}
 use Rattle.outage_schedule.specs.declared.request.ShownCall.{ShownCall}
 use Rattle.shown_clauses.specs.Turns.{ends_decided}
 use Rattle.shown_clauses.specs.Facts.{Fact, Submitted, Showed}
-use Rattle.shown_clauses.specs.Reasons.{after_commit_at, full_at, submission_reason, showing_reason, reason_of}
+use Rattle.shown_clauses.specs.Reasons.{after_commit_at, submission_reason, showing_reason, reason_of}
 use Rattle.shown_clauses.specs.Cover.{protections}
 use Rattle.world_model.specs.Settings.{rules_of}
 use Rattle.auto_bounds.specs.Covered.{Covered, nothing_covered, submitted, counted, showed}
 use Rattle.cover_core.specs.Coverings.{covered}
 use Rattle.cover_core.specs.Laws.{CoverageIsCover}
 use Rattle.cover_core.proofs.Facts.{some_or, since_of, since_submitted, since_showed, reason_submitted, reason_showed}
-use Rattle.cover_core.proofs.Replied.{is_off, submit_same, off_stops, ends_at, recorded_after, replied_is, ShowsSame, shows_same}
+use Rattle.cover_core.proofs.Replied.{submit_same, off_stops, ends_at, recorded_after, replied_is, ShowsSame, shows_same}
 
 -- no call is left
-pub no_calls : {R : Type 0} (rules : Rules) (before : Covered R) (shown : List ShownCall) → covered rules before [] shown ≡ before
+pub no_calls : {R : Type 0} (rules : Rules) (before : Covered R) (shown : List ShownCall)
+    → covered rules before [] shown ≡ before
 no_calls rules before [] = refl
 no_calls rules before (one ∷ shown) = refl
 
@@ -29,7 +30,8 @@ neither true b e = absurd (let none : ⊥ = cc in none)
 abbrev protected_in : List Bool → ℕ
 protected_in flags = length (filter (λ protected. protected) flags)
 
-one_more : (guarded : ℕ) (stopped : Bool) (flags : List Bool) → (if stopped then guarded else guarded + 1) + protected_in flags ≡ guarded + protected_in (not stopped ∷ flags)
+one_more : (guarded : ℕ) (stopped : Bool) (flags : List Bool)
+    → (if stopped then guarded else guarded + 1) + protected_in flags ≡ guarded + protected_in (not stopped ∷ flags)
 one_more guarded true flags = refl
 one_more guarded false flags = let n : ℕ = protected_in flags in let same : guarded + 1 + n ≡ guarded + suc n = omega arith in same
 
@@ -49,7 +51,8 @@ module _ {R : Type 0} (service : ServiceOf) (rules : Rules) (ruled : rules ≡ r
     sent_facts = before ++ Submitted call index 0 ∷ []
 
     -- the rule ends the protection at the submission where the table has a reason
-    same_end : is_some (rules.submit call so_far.shown) ≡ is_some (submission_reason service call index)
+    same_end : is_some (rules.submit call so_far.shown)
+        ≡ is_some (submission_reason service call index)
     same_end =
         ap (λ (r : Rules). is_some (r.submit call so_far.shown)) ruled
         ∙ (ap (λ n. is_some ((rules_of service.failover service.consistency).submit call n)) agrees.shown
@@ -72,7 +75,8 @@ module _ {R : Type 0} (service : ServiceOf) (rules : Rules) (ruled : rules ≡ r
       abbrev ends : Bool
       ends = ends_at so_far.limit so_far.recorded (rules.reply answers)
 
-      fields : after ≡ record (counted sent) { stopped = sent.stopped || ends; recorded = recorded_after so_far.limit so_far.recorded (rules.reply answers) }
+      fields : after
+          ≡ record (counted sent) { stopped = sent.stopped || ends; recorded = recorded_after so_far.limit so_far.recorded (rules.reply answers) }
       fields = replied_is (counted sent) (rules.reply answers)
 
       one_counted : after.guarded ≡ (if sent.stopped then so_far.guarded else so_far.guarded + 1)
@@ -81,7 +85,8 @@ module _ {R : Type 0} (service : ServiceOf) (rules : Rules) (ruled : rules ≡ r
       one_shown : after.shown ≡ so_far.shown + 1
       one_shown = ap (λ c. c.shown) fields
 
-      -- where nothing has ended the protection, so many calls are recorded as were shown since the last that was decided
+      -- where nothing has ended the protection, so many calls are recorded as were shown since the
+      -- last that was decided
       counted_since : sent.stopped ≡ false → so_far.recorded ≡ since_of 0 sent_facts
       counted_since goes = agrees.recorded (neither so_far.stopped _ goes).0 ∙ sym (since_submitted 0 before call index 0)
 
@@ -96,12 +101,14 @@ module _ {R : Type 0} (service : ServiceOf) (rules : Rules) (ruled : rules ≡ r
       abbrev as_told : ℕ → Rules → Bool
       as_told recorded r = ends_at service.record_limit recorded (r.reply answers)
 
-      told : sent.stopped ≡ false → ends ≡ as_told (since_of 0 sent_facts) (rules_of service.failover service.consistency)
+      told : sent.stopped ≡ false
+          → ends ≡ as_told (since_of 0 sent_facts) (rules_of service.failover service.consistency)
       told goes =
           ap (λ n. ends_at n so_far.recorded (rules.reply answers)) agrees.limit
           ∙ (ap (λ n. as_told n rules) (counted_since goes) ∙ ap (as_told (since_of 0 sent_facts)) ruled)
 
-      ended : (b : Bool) → sent.stopped ≡ b → (b || ends) ≡ (b || is_some (showing_reason service (since_of 0 sent_facts) answers))
+      ended : (b : Bool) → sent.stopped ≡ b
+          → (b || ends) ≡ (b || is_some (showing_reason service (since_of 0 sent_facts) answers))
       ended true is = refl
       ended false is = told is ∙ (shows is).ends
 
@@ -112,7 +119,8 @@ module _ {R : Type 0} (service : ServiceOf) (rules : Rules) (ruled : rules ≡ r
           ∙ (sym (some_or (reason_of service sent_facts) (showing_reason service (since_of 0 sent_facts) answers))
           ∙ ap is_some (sym (reason_showed service 0 sent_facts call answers))))
 
-      after_recorded : (sent.stopped || ends) ≡ false → recorded_after so_far.limit so_far.recorded (rules.reply answers) ≡ since_of 0 shown_facts
+      after_recorded : (sent.stopped || ends) ≡ false
+          → recorded_after so_far.limit so_far.recorded (rules.reply answers) ≡ since_of 0 shown_facts
       after_recorded goes =
           let both = neither sent.stopped ends goes in
           ap (λ n. recorded_after n so_far.recorded (rules.reply answers)) agrees.limit
@@ -130,7 +138,8 @@ module _ {R : Type 0} (service : ServiceOf) (rules : Rules) (ruled : rules ≡ r
       }
 
   -- over calls and what was shown of them, the protected ones are counted
-  covers : (so_far : Covered R) (before : List Fact) (index : ℕ) → Agrees so_far before index → (calls : List Call) (shown : List ShownCall)
+  covers : (so_far : Covered R) (before : List Fact) (index : ℕ) → Agrees so_far before index
+      → (calls : List Call) (shown : List ShownCall)
       → (covered rules so_far calls shown).guarded ≡ so_far.guarded + protected_in (protections service before index calls shown)
   covers so_far before index agrees [] [] = let same : so_far.guarded ≡ so_far.guarded + 0 = omega arith in same
   covers so_far before index agrees (call ∷ calls) [] = let same : so_far.guarded ≡ so_far.guarded + 0 = omega arith in same
@@ -143,7 +152,8 @@ module _ {R : Type 0} (service : ServiceOf) (rules : Rules) (ruled : rules ≡ r
       ∙ ap (λ b. so_far.guarded + protected_in (not b ∷ rest)) (sent_stopped so_far before index agrees call)))
 
   -- and so are the shown ones, where the request has as many
-  shows_all : (so_far : Covered R) (before : List Fact) (index : ℕ) → Agrees so_far before index → (calls : List Call) (shown : List ShownCall) → length shown ≤ length calls
+  shows_all : (so_far : Covered R) (before : List Fact) (index : ℕ) → Agrees so_far before index
+      → (calls : List Call) (shown : List ShownCall) → length shown ≤ length calls
       → (covered rules so_far calls shown).shown ≡ so_far.shown + length shown
   shows_all so_far before index agrees [] [] few = let same : so_far.shown ≡ so_far.shown + 0 = omega arith in same
   shows_all so_far before index agrees (call ∷ calls) [] few = let same : so_far.shown ≡ so_far.shown + 0 = omega arith in same
@@ -163,8 +173,11 @@ from_none n = let same : 0 + n ≡ n = omega arith in same
 pub coverage_is : {R : Type 0} (rules : R → Rules) → CoverageIsCover rules
 coverage_is rules rule service submission ruled =
     let agrees = starts service (rules rule) ruled rule in
+    let nothing = nothing_covered rule service.record_limit in
     let calls : List Call = submission.request.calls in
-    let shown : List ShownCall = submission.copy.calls in (
-      covers service (rules rule) ruled (nothing_covered rule service.record_limit) [] 0 agrees calls shown ∙ from_none (protected_in (protections service [] 0 calls shown)),
-      λ few. shows_all service (rules rule) ruled (nothing_covered rule service.record_limit) [] 0 agrees calls shown few ∙ from_none (length shown),
-    )
+    let shown : List ShownCall = submission.copy.calls in
+    let flags : List Bool = protections service [] 0 calls shown in
+    record {
+      protected = covers service (rules rule) ruled nothing [] 0 agrees calls shown ∙ from_none (protected_in flags);
+      shown = λ few. shows_all service (rules rule) ruled nothing [] 0 agrees calls shown few ∙ from_none (length shown);
+    }

@@ -1,5 +1,5 @@
 -- The reason that stands after more facts of a request.
-use Rattle.std.proofs.Common.{◌≡◌, ℕ, ◌+◌, Bool, ◌||◌, List, [], ◌∷◌, ◌++◌, Option, Some, None, refl, ap, ◌∙◌}
+use Rattle.std.proofs.Common.{◌≡◌, ℕ, ◌||◌, List, [], ◌∷◌, ◌++◌, Option, Some, None, refl, ap, ◌∙◌}
 use Rattle.std.specs.Prelude.{is_some}
 use Rattle.std.specs.Option.{option_or}
 use Rattle.svc_values.specs.declared.answer.Answer.{Answer}
@@ -12,7 +12,8 @@ or_none : {T : Type 0} (a : Option T) → option_or a None ≡ a
 or_none None = refl
 or_none (Some x) = refl
 
-or_assoc : {T : Type 0} (a b c : Option T) → option_or a (option_or b c) ≡ option_or (option_or a b) c
+or_assoc : {T : Type 0} (a b c : Option T)
+    → option_or a (option_or b c) ≡ option_or (option_or a b) c
 or_assoc None b c = refl
 or_assoc (Some x) b c = refl
 
@@ -26,12 +27,14 @@ since_of since [] = since
 since_of since (Submitted call index tick ∷ facts) = since_of since facts
 since_of since (Showed call answers ∷ facts) = since_of (since_now since answers) facts
 
-pub since_submitted : (since : ℕ) (facts : List Fact) (call : Call) (index tick : ℕ) → since_of since (facts ++ Submitted call index tick ∷ []) ≡ since_of since facts
+pub since_submitted : (since : ℕ) (facts : List Fact) (call : Call) (index tick : ℕ)
+    → since_of since (facts ++ Submitted call index tick ∷ []) ≡ since_of since facts
 since_submitted since [] call index tick = refl
 since_submitted since (Submitted a i t ∷ facts) call index tick = since_submitted since facts call index tick
 since_submitted since (Showed a answers ∷ facts) call index tick = since_submitted (since_now since answers) facts call index tick
 
-pub since_showed : (since : ℕ) (facts : List Fact) (call : Call) (answers : List Answer) → since_of since (facts ++ Showed call answers ∷ []) ≡ since_now (since_of since facts) answers
+pub since_showed : (since : ℕ) (facts : List Fact) (call : Call) (answers : List Answer)
+    → since_of since (facts ++ Showed call answers ∷ []) ≡ since_now (since_of since facts) answers
 since_showed since [] call answers = refl
 since_showed since (Submitted a i t ∷ facts) call answers = since_showed since facts call answers
 since_showed since (Showed a more ∷ facts) call answers = since_showed (since_now since more) facts call answers

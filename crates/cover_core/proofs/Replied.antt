@@ -1,5 +1,5 @@
 -- What a rule does at a submission and at a showing, and what the table of reasons says of it.
-use Rattle.std.proofs.Common.{◌≡◌, ℕ, ◌+◌, Bool, true, false, not, ◌||◌, ◌<◌, ◌≤◌, List, Option, Some, None, if◌then◌else◌, refl, sym, ap, subst, ◌∙◌, arith}
+use Rattle.std.proofs.Common.{◌≡◌, ℕ, ◌+◌, Bool, true, false, not, ◌||◌, List, Option, Some, None, if◌then◌else◌, refl, sym, ap, subst, ◌∙◌}
 use Rattle.std.specs.Prelude.{is_some, nat_lt, nat_le}
 use Rattle.std.specs.Option.{option_or}
 use Rattle.std.proofs.lemmas.Bool.{lt-ltb, le-ltb, leb-true, leb-false}
@@ -55,14 +55,16 @@ submit_same failover.Auto c call.Disable index = refl
 submit_same failover.Auto c call.Rollback index = refl
 
 -- without a replay no submission passes
-pub off_stops : (f : Failover) (c : Consistency) (one : Call) (index : ℕ) → is_some ((rules_of f c).submit one index) ≡ false → is_off f ≡ false
+pub off_stops : (f : Failover) (c : Consistency) (one : Call) (index : ℕ)
+    → is_some ((rules_of f c).submit one index) ≡ false → is_off f ≡ false
 off_stops failover.Off c one index passes = absurd (let none : ⊥ = cc in none)
 off_stops failover.Transaction c one index passes = refl
 off_stops failover.Auto c one index passes = refl
 
 -- REPLIES -----------------------------------------------------------------------------------------
 
--- whether a reply ends the protection where so many calls are recorded, and how many are recorded behind it
+-- whether a reply ends the protection where so many calls are recorded, and how many are recorded
+-- behind it
 abbrev pub ends_at : ℕ → ℕ → After → Bool
 ends_at limit recorded after.Record = nat_le limit recorded
 ends_at limit recorded after.Purge = false
@@ -88,28 +90,34 @@ replied_is {R = R} covered after.Record = ap by (below covered.recorded covered.
     by : Bool → Covered R
     by fits = if fits then record covered { recorded = covered.recorded + 1 } else record covered { stopped = true }
 
-    full : (b : Bool) → by (not b) ≡ record covered { stopped = covered.stopped || b; recorded = (if b then covered.recorded else covered.recorded + 1) }
+    full : (b : Bool)
+        → by (not b) ≡ record covered { stopped = covered.stopped || b; recorded = (if b then covered.recorded else covered.recorded + 1) }
     full true = ap (λ stopped. record covered { stopped = stopped }) (sym (or_true covered.stopped))
     full false = ap (λ stopped. record covered { stopped = stopped; recorded = covered.recorded + 1 }) (sym (or_false covered.stopped))
 replied_is covered after.Purge = ap (λ stopped. record covered { stopped = stopped; recorded = 0 }) (sym (or_false covered.stopped))
 replied_is covered (after.Stop why) = ap (λ stopped. record covered { stopped = stopped }) (sym (or_true covered.stopped))
 
--- a reply ends the protection where the table has a reason for the showing, and else there are so many recorded calls as were shown since
+-- a reply ends the protection where the table has a reason for the showing, and else there are so
+-- many recorded calls as were shown since
 pub record ShowsSame (limit since : ℕ) (decided : Bool) (commit : Option Reason) (reply : After) : Type 0 where
   pub ends : ends_at limit since reply ≡ is_some (if decided then commit else full_at limit since)
-  pub many : ends_at limit since reply ≡ false → recorded_after limit since reply ≡ (if decided then 0 else since + 1)
+  pub many : ends_at limit since reply ≡ false
+      → recorded_after limit since reply ≡ (if decided then 0 else since + 1)
 
-full_same : (limit since : ℕ) (b : Bool) → b ≡ is_some (if b then Some (reason.Full limit) else None)
+full_same : (limit since : ℕ) (b : Bool)
+    → b ≡ is_some (if b then Some (reason.Full limit) else None)
 full_same limit since true = refl
 full_same limit since false = refl
 
-recorded_shows : (limit since : ℕ) (commit : Option Reason) → ShowsSame limit since false commit after.Record
+recorded_shows : (limit since : ℕ) (commit : Option Reason)
+    → ShowsSame limit since false commit after.Record
 recorded_shows limit since commit = record {
   ends = full_same limit since (nat_le limit since);
   many = λ goes. ap (λ b. if b then since else since + 1) goes;
 }
 
-pub shows_same : (f : Failover) (c : Consistency) (limit since : ℕ) (answers : List Answer) (decided : Bool) → is_off f ≡ false → ends_decided answers ≡ decided
+pub shows_same : (f : Failover) (c : Consistency) (limit since : ℕ) (answers : List Answer) (decided : Bool)
+    → is_off f ≡ false → ends_decided answers ≡ decided
     → ShowsSame limit since decided (after_commit_at f c) ((rules_of f c).reply answers)
 shows_same failover.Off c limit since answers decided off is = absurd (let none : ⊥ = cc in none)
 shows_same failover.Transaction consistency.Dynamic limit since answers true off is =

@@ -1,5 +1,5 @@
 -- The submissions of a client, one report after the other.
-use Rattle.std.proofs.Common.{◌≡◌, ℕ, zero, suc, ◌+◌, ◌-◌, Bool, true, false, List, [], ◌∷◌, ◌++◌, map, Option, Some, None, refl, sym, ap, ◌∙◌, append-nil, append_assoc, arith}
+use Rattle.std.proofs.Common.{◌≡◌, ℕ, zero, suc, ◌+◌, ◌-◌, Bool, true, false, List, [], ◌∷◌, ◌++◌, Option, Some, None, refl, sym, ap, ◌∙◌, append-nil, append_assoc, arith}
 use Rattle.std.specs.Prelude.{not, position, slice_get, option_and_then, flat_map}
 use Rattle.std.specs.List.{list_all}
 use Rattle.std.proofs.lemmas.List.{map-append}
@@ -13,12 +13,14 @@ use Rattle.world_model.proofs.Offered.{counted, position_cons}
 -- FURTHER COPIES ----------------------------------------------------------------------------------
 
 -- no further copy of a request is behind those of one that is over
-closed_more : (allowed : ℕ) (copy : RequestReport) (reports more : List RequestReport) → are_all_copies allowed (copy ∷ (further_copies allowed copy reports).0) ≡ true
+closed_more : (allowed : ℕ) (copy : RequestReport) (reports more : List RequestReport)
+    → are_all_copies allowed (copy ∷ (further_copies allowed copy reports).0) ≡ true
     → further_copies allowed copy (reports ++ more) ≡ ((further_copies allowed copy reports).0, (further_copies allowed copy reports).1 ++ more)
 closed_more allowed copy [] [] closed = refl
 closed_more allowed copy [] (next ∷ more) closed = by (is_repeated allowed copy) closed
   where
-    by : (again : Bool) → not again ≡ true → with_copy again next more (further_copies (allowed - 1) next more) ≡ ([], next ∷ more)
+    by : (again : Bool) → not again ≡ true
+        → with_copy again next more (further_copies (allowed - 1) next more) ≡ ([], next ∷ more)
     by false is = refl
     by true is = absurd (let none : ⊥ = cc in none)
 closed_more allowed copy (first ∷ reports) more closed = by (closed_more (allowed - 1) first reports more) (is_repeated allowed copy) closed
@@ -41,11 +43,13 @@ record IsCopied (mine rest : List RequestReport) (report : RequestReport) (after
   none : rest ≡ []
   more : after ≡ (mine ++ report ∷ [], [])
 
-open_more : (allowed : ℕ) (copy : RequestReport) (reports : List RequestReport) (report : RequestReport) → are_all_copies allowed (copy ∷ (further_copies allowed copy reports).0) ≡ false
+open_more : (allowed : ℕ) (copy : RequestReport) (reports : List RequestReport) (report : RequestReport)
+    → are_all_copies allowed (copy ∷ (further_copies allowed copy reports).0) ≡ false
     → IsCopied (further_copies allowed copy reports).0 (further_copies allowed copy reports).1 report (further_copies allowed copy (reports ++ report ∷ []))
 open_more allowed copy [] report opens = by (is_repeated allowed copy) opens
   where
-    by : (again : Bool) → not again ≡ false → IsCopied [] [] report (with_copy again report [] ([], []))
+    by : (again : Bool) → not again ≡ false
+        → IsCopied [] [] report (with_copy again report [] ([], []))
     by true is = record { none = refl; more = refl }
     by false is = absurd (let none : ⊥ = cc in none)
 open_more allowed copy (first ∷ reports) report opens = by (open_more (allowed - 1) first reports report) (is_repeated allowed copy) refl opens
@@ -79,7 +83,8 @@ module _ (script : List Request) (request : Request) (first : Copies) (others : 
   first_follows opens = ap placed (position_cons is_left first others true (ap not opens))
 
   -- and else it is one behind it
-  later_follows : is_over first ≡ true → placed (position is_left (first ∷ others)) ≡ option_and_then (slice_get script) (position is_left others)
+  later_follows : is_over first ≡ true
+      → placed (position is_left (first ∷ others)) ≡ option_and_then (slice_get script) (position is_left others)
   later_follows closed = ap placed (position_cons is_left first others false (ap not closed)) ∙ by (position is_left others)
     where
       by : (found : Option ℕ) → placed (counted found) ≡ option_and_then (slice_get script) found
@@ -110,7 +115,8 @@ module _ (request : Request) (requests : List Request) (first : RequestReport) (
   as_split all = submissions_of (record { request = request; reports = first ∷ all.0 }) ++ submissions_in requests all.1
 
   -- where the request is over, it is so whatever comes behind
-  behind_over : (more : List RequestReport) → is_over own ≡ true → submissions_in (request ∷ requests) (first ∷ (reports ++ more)) ≡ submissions_of own ++ submissions_in requests (rest ++ more)
+  behind_over : (more : List RequestReport) → is_over own ≡ true
+      → submissions_in (request ∷ requests) (first ∷ (reports ++ more)) ≡ submissions_of own ++ submissions_in requests (rest ++ more)
   behind_over more closed = ap as_split (closed_more request.again first reports more closed)
 
   -- where it is not, the next report is of it
@@ -126,7 +132,8 @@ module _ (request : Request) (requests : List Request) (first : RequestReport) (
       ∙ ap (λ (all : List Submission). all ++ last) (sym (ap (λ (all : List Submission). submissions_of own ++ all) (ap (submissions_in requests) copied.none ∙ none_submitted requests) ∙ append-nil (submissions_of own))))))
 
 -- One report more is that of the request that follows.
-pub submissions_more : (script : List Request) (reports : List RequestReport) (request : Request) (report : RequestReport) → next_of script reports ≡ Some request
+pub submissions_more : (script : List Request) (reports : List RequestReport) (request : Request) (report : RequestReport)
+    → next_of script reports ≡ Some request
     → submissions_in script (reports ++ report ∷ []) ≡ submissions_in script reports ++ record { request = request; copy = report } ∷ []
 submissions_more [] reports request report follows = absurd (let none : ⊥ = cc in none)
 submissions_more (other ∷ requests) [] request report follows =
@@ -154,7 +161,9 @@ submissions_more (other ∷ requests) (first ∷ reports) request report follows
         ∙ sym (append_assoc (submissions_of (own other requests first reports)) (submissions_in requests (rest other requests first reports)) (record { request = request; copy = report } ∷ [])))
 
 -- Where no request follows, further reports are of none.
-pub submissions_over : (script : List Request) (reports more : List RequestReport) → next_of script reports ≡ None → submissions_in script (reports ++ more) ≡ submissions_in script reports
+pub submissions_over : (script : List Request) (reports more : List RequestReport)
+    → next_of script reports ≡ None
+    → submissions_in script (reports ++ more) ≡ submissions_in script reports
 submissions_over [] reports more over = refl
 submissions_over (other ∷ requests) [] more over =
     let some : Some other ≡ None = sym (first_follows requests other (record { request = other; reports = [] }) (copies_of requests []) refl) ∙ over in
@@ -173,7 +182,8 @@ submissions_over (other ∷ requests) (first ∷ reports) more over =
         (later (sym (later_follows requests other (own other requests first reports) (copies_of requests (rest other requests first reports)) closed) ∙ over))
 
 -- what all items pass, the one at a place passes
-pub all_there : {A : Type 0} (test : A → Bool) (items : List A) (place : ℕ) (item : A) → slice_get items place ≡ Some item → list_all test items ≡ true → test item ≡ true
+pub all_there : {A : Type 0} (test : A → Bool) (items : List A) (place : ℕ) (item : A)
+    → slice_get items place ≡ Some item → list_all test items ≡ true → test item ≡ true
 all_there test [] place item is all = absurd (let none : ⊥ = cc in none)
 all_there test (first ∷ items) zero item is all = let same : first ≡ item = cc in ap test (sym same) ∙ first_true (test first) _ all
 all_there test (first ∷ items) (suc place) item is all = all_there test items place item is (second_true (test first) _ all)

@@ -9,4 +9,5 @@ use Rattle.auto_bounds.specs.Covered.{Covered, submitted, showed}
 abbrev pub covered : {R : Type 0} → Rules → Covered R → List Call → List ShownCall → Covered R
 covered rules before calls [] = before
 covered rules before [] shown = before
-covered rules before (call ∷ calls) (one ∷ shown) = covered rules (showed rules (submitted rules before call) one.answers) calls shown
+covered rules before (call ∷ calls) (one ∷ shown) =
+    covered rules (showed rules (submitted rules before call) one.answers) calls shown

@@ -8,14 +8,23 @@ use Rattle.world_model.specs.Settings.{rules_of}
 use Rattle.auto_bounds.specs.Covered.{Covered, nothing_covered}
 use Rattle.cover_core.specs.Coverings.{covered}
 
--- what is counted over a report of a request
-abbrev pub covered_of : {R : Type 0} → Rules → R → ServiceOf → Submission → Covered R
+-- what is counted over a report of a request, under the rules of a rule
+abbrev pub covered_of : {R : Type 0} → (R → Rules) → R → ServiceOf → Submission → Covered R
 covered_of rules rule service submission =
-    covered rules (nothing_covered rule service.record_limit) submission.request.calls submission.copy.calls
+    let nothing = nothing_covered rule service.record_limit in
+    covered (rules rule) nothing submission.request.calls submission.copy.calls
 
--- The protected calls are those of `Cover`, and so are the shown ones, where no more are shown than the request has.
+-- The counts are those of `Cover`: of the protected calls, and of the shown ones where no more are
+-- shown than the request has.
+pub record HasItsCounts {R : Type 0} (service : ServiceOf) (submission : Submission)
+    (after : Covered R) : Type 0 where
+  pub protected : after.guarded ≡ (counts_of service submission).protected
+  pub shown : length submission.copy.calls ≤ length submission.request.calls
+      → after.shown ≡ (counts_of service submission).calls
+
+-- so it is under each rule that is the service's
 abbrev pub CoverageIsCover : {R : Type 0} → (R → Rules) → Type 0
 CoverageIsCover {R = R} rules =
-    (rule : R) (service : ServiceOf) (submission : Submission) → rules rule ≡ rules_of service.failover service.consistency
-    → ((covered_of (rules rule) rule service submission).guarded ≡ (counts_of service submission).protected)
-    × (length submission.copy.calls ≤ length submission.request.calls → (covered_of (rules rule) rule service submission).shown ≡ (counts_of service submission).calls)
+    (rule : R) (service : ServiceOf) (submission : Submission)
+    → rules rule ≡ rules_of service.failover service.consistency
+    → HasItsCounts service submission (covered_of rules rule service submission)

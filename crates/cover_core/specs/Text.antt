@@ -5,7 +5,8 @@ use Rattle.json_form.specs.Writing.{whole, list_by, members}
 use Rattle.shown_clauses.specs.Cover.{Counts}
 
 unfoldable pub counts_value : Counts → Data
-counts_value one = members ((codes "calls", whole one.calls) ∷ (codes "protected", whole one.protected) ∷ [])
+counts_value one =
+    members ((codes "calls", whole one.calls) ∷ (codes "protected", whole one.protected) ∷ [])
 
 -- for each client, one for each report
 unfoldable pub cover_value : List (List Counts) → Data

@@ -10,8 +10,11 @@ use Rattle.shown_clauses.specs.Cover.{Counts, counts_of}
 
 -- of one client, with its script and its reports
 abbrev pub client_cover : ServiceOf → List Request → List RequestReport → List Counts
-client_cover service script reports = map (counts_of service) (flat_map submissions_of (copies_of script reports))
+client_cover service script reports =
+    map (counts_of service) (flat_map submissions_of (copies_of script reports))
 
 -- of all clients
 abbrev pub clients_cover : ServiceOf → List Client → List (List RequestReport) → List (List Counts)
-clients_cover service clients transcripts = map (map (counts_of service)) (map (flat_map submissions_of) (copies_by_client clients transcripts))
+clients_cover service clients transcripts =
+    map (map (counts_of service))
+    (map (flat_map submissions_of) (copies_by_client clients transcripts))

@@ -48,7 +48,8 @@ impl Counts {
     }
 }
 
-/// How many of the calls that were shown were protected, under a rule and a limit of recorded calls.
+/// How many of the calls that were shown were protected, under a rule and a limit of recorded
+/// calls.
 fn protected_by<R: BoundRule + Copy>(
     rule: R,
     limit: u64,
@@ -56,7 +57,8 @@ fn protected_by<R: BoundRule + Copy>(
     shown: &[ShownCall],
 ) -> u64
     requires { IsTrue (list_all is_made calls.now) }
-    ensures { result ≡ (covered (R.rules rule) (nothing_covered rule limit) calls.now shown.now).guarded }
+    ensures { result
+        ≡ (covered (R.rules rule) (nothing_covered rule limit) calls.now shown.now).guarded }
 {
     let mut coverage = Coverage::new(rule, limit);
     for (place, call) in calls.iter().enumerate() {

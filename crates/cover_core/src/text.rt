@@ -64,7 +64,8 @@ fn cover_written(
     out.end_object()
 }
 
-/// The counts as compact JSON (RFC 8259), without a line end: an object for each report of each client. Linear in
+/// The counts as compact JSON (RFC 8259), without a line end: an object for each report of each
+/// client. Linear in
 /// its length.
 #[tactic(auto, using(crate::proofs::CoverForm::cover_form))]
 pub fn cover_bytes(alloc: Global, all: &[ClientCounts]) -> Result<Vec<u8>, NoMemory>

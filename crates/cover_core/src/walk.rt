@@ -38,7 +38,8 @@ fn counts_of_client(
 
 /// The reports at a place, and none past the end.
 fn reports_at(transcripts: &[Transcript], place: usize) -> &[RequestReport]
-    ensures { result.now ≡ option_map_or (λ reports. reports) (slice_get transcripts.now place) [] }
+    ensures { result.now
+        ≡ option_map_or (λ reports. reports) (slice_get transcripts.now place) [] }
 {
     match transcripts.get(place) {
         Some(reports) => reports.as_slice(),
@@ -46,7 +47,8 @@ fn reports_at(transcripts: &[Transcript], place: usize) -> &[RequestReport]
     }
 }
 
-/// The counts of each report of a run, for each client in order: of a service, the scripts of its clients, and
+/// The counts of each report of a run, for each client in order: of a service, the scripts of its
+/// clients, and
 /// what they were reported to have been shown. Linear in the calls.
 #[tactic(auto, unfolding(crate::specs::Made::has_made_requests))]
 pub fn counts_of_run(

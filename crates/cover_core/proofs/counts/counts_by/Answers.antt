@@ -16,7 +16,7 @@ returns g c =
     let guarded : List Call → List ShownCall → ℕ = λ calls shown. (covered rules (nothing_covered c.args.rule c.args.of.now.record_limit) calls shown).guarded in
     let submission : Submission = record { request = c.args.request.now; copy = c.args.report.now } in
     let told : ℕ = (counts_of c.args.of.now submission).protected in
-    let law : guarded c.args.request.now.calls c.args.report.now.calls ≡ told = (c.coverage_is_cover.ensures c.args.rule c.args.of.now submission c.requires.rule).0 in
+    let law : guarded c.args.request.now.calls c.args.report.now.calls ≡ told = (c.coverage_is_cover.ensures c.args.rule c.args.of.now submission c.requires.rule).protected in
     let counts : List ShownCall → ℕ → Counts = λ all n. record { calls = length all; protected = n } in
     let same : c.protected_by.result ≡ told = c.protected_by.ensures ∙ (ap (λ all. guarded all shown) c.as_slice.ensures ∙ (ap (guarded calls) c.as_slice-shown.ensures ∙ law)) in
     ap (counts shown) same ∙ ap (λ all. counts all told) c.as_slice-shown.ensures
