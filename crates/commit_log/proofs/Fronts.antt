@@ -192,6 +192,6 @@ fronts_are_journals image front journal first more rest e records front_records 
       since = behind.since;
       spelled = behind.spelled;
       grown = grows_to before.later behind.later journal behind.since begun.0 behind.is_opened begun.1 behind.has_horizon behind.grown behind.is;
-      base = subst (λ (j : Journal). before.later.base ≡ j.base) (sym same) (sym behind.base);
-      lower = subst (λ (j : Journal). before.later.incarnation ≤ j.incarnation) (sym same) behind.lower;
+      base = subst (λ (j : Journal). before.later.base ≡ j.base) {x = behind.later} (sym same) (sym behind.base);
+      lower = subst (λ (j : Journal). before.later.incarnation ≤ j.incarnation) {x = behind.later} (sym same) behind.lower;
     }

@@ -170,8 +170,9 @@ fn the_records_behind_the_tail_of_an_earlier_store(rt: HostRuntime) -> Result<()
     );
     let (redo, _) = Redo::open(alloc, &mut earlier).expect(&rt, "a store");
     assert_eq!(rt; redo.tail(), 18);
+    assert_eq!(rt; redo.count(), 1);
     let mut disk = MemDisk::of(alloc, &TWO).expect(&rt, "memory");
-    let mut walk = Walk::behind(alloc, redo.tail(), redo.count());
+    let mut walk = Walk::behind(alloc, 18, 1);
     let rest = walk.rest(&mut disk).expect(&rt, "a store");
     assert_eq!(rt;
         spelled(alloc, &rest).expect(&rt, "memory").as_str(),
