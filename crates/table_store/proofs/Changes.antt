@@ -225,3 +225,22 @@ nothing_there old table key none t k = by_place (cases_Bool (is_place table key 
         let same : table ≡ t = same_if_equal table t (both_true (is_eq (slice_cmp nat_cmp table t)) (is_eq (value_cmp key k)) here).0 in
         ap (λ s. keyed_if_any s k) (ap (shelf_of old) (sym same) ∙ sym none) ∙ sym (ap (λ b. cond b None (row_kept old t k)) here)
     by_place (inr apart) = sym (ap (λ b. cond b None (row_kept old t k)) apart)
+
+-- ---- maps that change no row
+
+rows_stay : (old new : Shelves) → IsShelved old → IsShelved new → ((t : List ℕ) (k : Value) → row_kept new t k ≡ row_kept old t k) → all_rows new ≡ all_rows old
+rows_stay old new shelved shelved_new same =
+    same_tables (all_rows new) (all_rows old) (ordered_all new shelved_new) (ordered_all old shelved)
+    (λ t k. row_of_key new t k shelved_new ∙ ap (row_if_any t k) (same t k) ∙ sym (row_of_key old t k shelved))
+
+-- a table without rows, beside the others
+pub empty_table : (old new : BTreeMap (List ℕ) Keyed) (table : List ℕ) (after : Keyed) → IsShelved old.entries → IsShelved new.entries → after ≡ []
+    → None ≡ shelf_of old.entries table → Updates (slice_cmp nat_cmp) old new table (Some after) → all_rows new.entries ≡ all_rows old.entries
+empty_table old new table after shelved shelved_new empty none written =
+    rows_stay old.entries new.entries shelved shelved_new
+    (λ t k. changed_anew old new table k None after none written (λ q. ap (λ (es : Keyed). keyed_of es q) empty ∙ same_none (is_eq (value_cmp k q))) t k
+    ∙ sym (nothing_there old.entries table k none t k))
+  where
+    same_none : (b : Bool) → ◌≡◌ {A = Option (List Value)} None (cond b None None)
+    same_none true = refl
+    same_none false = refl

@@ -8,9 +8,11 @@ use Rattle.svc_values.specs.declared.value.Value.{Value}
 use Rattle.svc_values.specs.declared.schema.Schema.{Schema}
 use Rattle.svc_values.specs.declared.entry.Write.{Write}
 use Rattle.svc_values.specs.declared.tables.PlainRow.{PlainRow}
-use Rattle.svc_values.specs.Tables.{with_write, with_writes}
+use Rattle.svc_values.specs.declared.tables.Place.TheVariants as place
+use Rattle.svc_values.specs.Tables.{rows_at, with_write, with_writes}
 use Rattle.svc_values.specs.Schemas.{schema_of}
 use Rattle.svc_values.specs.Fitting.{is_row_of, has_fit, write_fits, tables_fit}
+use Rattle.table_store.specs.Given.{keyed_rows}
 use Rattle.table_store.specs.Rows.{Keyed, Shelves, IsShelved, plain_rows, all_rows}
 use Rattle.table_store.specs.Shelves.{Changes}
 use Rattle.table_store.specs.Stored.{Stored, IsStored, AreKept}
@@ -85,3 +87,11 @@ pub of_rows : {A B E : Type 0} (r : Result A E) (f : A → B) (g : List (List Va
     → IfOk r (λ x. f x ≡ g (values_of entries)) → IfOk r (λ x. f x ≡ g (map (λ one. one.row) rows))
 of_rows (Ok x) f g table entries rows found made = made ∙ sym (ap (λ l. g (map (λ one. one.row) l)) found ∙ ap g (rows_of_plain table entries))
 of_rows (Err e) f g table entries rows found made = tt
+
+-- the rows of a table with their keys
+keyed_of_plain : (table : List ℕ) (entries : Keyed) → map (λ one. (one.key, one.row)) (plain_rows table entries) ≡ entries
+keyed_of_plain table [] = refl
+keyed_of_plain table (entry ∷ rest) = ap (λ l. entry ∷ l) (keyed_of_plain table rest)
+
+pub keyed_in : (table : List ℕ) (entries : Keyed) (rows : List PlainRow) → rows_at rows (place.Table table) ≡ plain_rows table entries → keyed_rows rows table ≡ entries
+keyed_in table entries rows found = ap (map (λ one. (one.key, one.row))) found ∙ keyed_of_plain table entries

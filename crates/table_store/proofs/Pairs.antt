@@ -1,15 +1,12 @@
 -- What stands in an index, and its order.
-use Rattle.std.proofs.Common.{◌≡◌, Bool, cond, List, refl, sym, ◌∙◌, ap, subst}
+use Rattle.std.proofs.Common.{◌≡◌, Bool, cond, refl, ◌∙◌, ap, subst}
 use Rattle.std.specs.Prelude.{Some, ◌&&◌}
-use Rattle.std.specs.List.{list_any}
 use Rattle.std.specs.declared.cmp.Ordering.{Ordering}
 use Rattle.std.specs.declared.cmp.Ordering.TheVariants.{Less, Equal, Greater}
 use Rattle.std.specs.Ordering.{is_eq, ordering_then}
-use Rattle.std.specs.BTreeMap.{is_at}
 use Rattle.std.specs.BTreeSet.{BTreeSet, Updates}
 use Rattle.svc_values.specs.declared.value.Value.{Value}
 use Rattle.svc_values.specs.Order.{value_cmp}
-use Rattle.svc_values.specs.contracts.value.ValueOrd.TheImpl.{cmp-value}
 use Rattle.svc_values.proofs.Offered.{cmp_is}
 use Rattle.table_store.specs.declared.column_index.Pair.{Pair}
 use Rattle.table_store.specs.declared.column_index.Spot.{Spot}

@@ -1,25 +1,24 @@
 -- Rows that are picked out of a table by a test and by keys: their lookups, their order, and how many.
-use Rattle.std.proofs.Common.{arith, ◌≡◌, ◌⊎◌, inl, inr, ℕ, ◌<◌, ◌≤◌, Bool, true, false, cond, List, [], ◌∷◌, ◌++◌, length, nat_lt, refl, sym, ◌∙◌, ap, subst}
+use Rattle.std.proofs.Common.{arith, ◌≡◌, inl, inr, ℕ, ◌<◌, ◌≤◌, Bool, true, false, cond, List, [], ◌∷◌, length, nat_lt, refl, sym, ◌∙◌, ap, subst}
 use Rattle.std.specs.Prelude.{Option, Some, None, IsSome, filter, not, slice_get}
-use Rattle.std.specs.List.{AllByRecursion, list_any}
+use Rattle.std.specs.List.{AllByRecursion}
 use Rattle.std.specs.List.Sorted.{IsStrictlySortedBy}
 use Rattle.std.specs.declared.cmp.Ordering.{Ordering}
 use Rattle.std.specs.declared.cmp.Ordering.TheVariants.{Less, Equal, Greater}
-use Rattle.std.specs.Ordering.{eq_by_cmp, is_eq, ordering_reverse}
-use Rattle.std.specs.Option.{is_some}
+use Rattle.std.specs.Ordering.{is_eq, ordering_reverse}
+use Rattle.std.specs.Option.{is_some, option_map}
 use Rattle.std.specs.BTreeMap.{BTreeMap, is_at}
-use Rattle.std.specs.Map.{keys_of, lookup}
+use Rattle.std.specs.Map.{keys_of, lookup, values_of}
 use Rattle.std.proofs.lemmas.Bool.{cases_Bool}
 use Rattle.std.proofs.lemmas.Cmp.{eq_by_cmp_equiv}
-use Rattle.std.proofs.lemmas.List.{append-nil}
-use Rattle.std.proofs.lemmas.Map.Entries.{length-keys_of, option_filter, lookup-filter-keys, lookup-filter-values}
+use Rattle.std.proofs.lemmas.Map.Entries.{length-keys_of, length-values_of, option_filter, lookup-filter-keys, lookup-filter-values}
 use Rattle.std.proofs.lemmas.Map.Keys.{IsDistinct-from_sorted}
 use Rattle.std.proofs.lemmas.Map.Made.{is_some-lookup}
 use Rattle.std.proofs.lemmas.Map.Steps.{length-le_from_keys}
 use Rattle.svc_values.specs.declared.statement.Test.{Test}
 use Rattle.svc_values.specs.declared.value.Value.{Value}
 use Rattle.svc_values.specs.Order.{value_cmp}
-use Rattle.svc_values.specs.Tests.{value_meets}
+use Rattle.svc_values.specs.Tests.{selected, value_meets}
 use Rattle.svc_values.proofs.Offered.{value_cmp_total, exact_values}
 use Rattle.table_store.specs.Rows.{Keyed, KeysRise, keyed_of}
 use Rattle.table_store.specs.Selection.{apart_from, at_most_32, is_among, meeting}
@@ -132,3 +131,37 @@ same_keyed (x ∷ xs) (y ∷ ys) rise_a rise_b same =
     let rise_x : KeysRise (x ∷ ys) = subst (λ (e : Value × List Value). KeysRise (e ∷ ys)) (sym heads) rise_b in
     let same_x = subst (λ (e : Value × List Value). (q : Value) → keyed_of (x ∷ xs) q ≡ keyed_of (e ∷ ys) q) (sym heads) same in
     ap (λ l. x ∷ l) (same_keyed xs ys rise_a.1 rise_b.1 (same_tails x xs ys rise_a rise_x same_x)) ∙ ap (λ e. e ∷ ys) heads
+
+-- ---- a select
+
+-- where no key is left out
+apart_from_none : (keys : BTreeMap Value ℕ) → keys.entries ≡ [] → (rows : Keyed) → apart_from keys rows ≡ rows
+apart_from_none keys none [] = refl
+apart_from_none keys none (entry ∷ rest) =
+    let free : is_among keys entry.0 ≡ false = ap (λ (es : List (Value × ℕ)). is_some (lookup (is_at (value_cmp entry.0)) es)) none in
+    ap (λ b. cond (not b) (entry ∷ apart_from keys rest) (apart_from keys rest)) free ∙ ap (λ l. entry ∷ l) (apart_from_none keys none rest)
+
+-- the rows that meet a test, without their keys
+pub values_meeting : (column : ℕ) (test : Test) (than : Value) (rows : Keyed) → values_of (meeting column test than rows) ≡ selected column test than (values_of rows)
+values_meeting column test than [] = refl
+values_meeting column test than (entry ∷ rest) = by_test (value_meets test than (slice_get entry.1 column)) (values_meeting column test than rest)
+  where
+    by_test : (b : Bool) → values_of (meeting column test than rest) ≡ selected column test than (values_of rest)
+        → values_of (cond b (entry ∷ meeting column test than rest) (meeting column test than rest)) ≡ cond b (entry.1 ∷ selected column test than (values_of rest)) (selected column test than (values_of rest))
+    by_test true same = ap (λ l. entry.1 ∷ l) same
+    by_test false same = same
+
+values_at_most : (rows : Keyed) → option_map values_of (at_most_32 rows) ≡ at_most_32 (values_of rows)
+values_at_most rows = by_test (nat_lt 32 (length rows)) ∙ ap (λ n. cond (nat_lt 32 n) None (Some (values_of rows))) (sym (length-values_of rows))
+  where
+    by_test : (b : Bool) → option_map values_of (cond b None (Some rows)) ≡ cond b None (Some (values_of rows))
+    by_test true = refl
+    by_test false = refl
+
+-- the rows themselves, where no key is left out
+pub selected_of : (found : Option Keyed) (keys : BTreeMap Value ℕ) (column : ℕ) (test : Test) (than : Value) (rows : Keyed) → found ≡ at_most_32 (apart_from keys (meeting column test than rows)) → keys.entries ≡ []
+    → option_map values_of found ≡ at_most_32 (selected column test than (values_of rows))
+selected_of found keys column test than rows same none =
+    ap (option_map values_of) (same ∙ ap (λ (l : Keyed). at_most_32 l) (apart_from_none keys none (meeting column test than rows)))
+    ∙ values_at_most (meeting column test than rows)
+    ∙ ap (λ (l : List (List Value)). at_most_32 l) (values_meeting column test than rows)

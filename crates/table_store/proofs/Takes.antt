@@ -1,6 +1,6 @@
 -- Rows that are found one after the other.
-use Rattle.std.proofs.Common.{◌≡◌, ◌⊎◌, inl, inr, ℕ, Bool, true, false, cond, List, [], ◌∷◌, ◌++◌, length, append_assoc, ◌<◌, ◌≤◌, arith, refl, sym, ◌∙◌, ap, subst}
-use Rattle.std.specs.Prelude.{Option, Some, None, not, ◌&&◌, filter, slice_get}
+use Rattle.std.proofs.Common.{◌≡◌, inl, inr, ℕ, Bool, true, false, cond, List, [], ◌∷◌, ◌++◌, length, append_assoc, ◌<◌, ◌≤◌, arith, refl, sym, ◌∙◌, ap, subst}
+use Rattle.std.specs.Prelude.{Option, Some, None, not, ◌&&◌, slice_get}
 use Rattle.std.specs.Option.{option_or}
 use Rattle.std.specs.Ordering.{is_eq}
 use Rattle.std.specs.BTreeMap.{BTreeMap, insert_entry}
@@ -15,7 +15,7 @@ use Rattle.table_store.specs.declared.column_index.Spot.{Spot}
 use Rattle.table_store.specs.declared.column_index.Spot.TheVariants as spot
 use Rattle.table_store.specs.Indexes.{is_spot_of}
 use Rattle.table_store.specs.Rows.{Keyed, KeysRise, keyed_of}
-use Rattle.table_store.specs.Selection.{apart_from, at_most_32, is_among, meeting}
+use Rattle.table_store.specs.Selection.{apart_from, is_among, meeting}
 use Rattle.table_store.proofs.Maps.{keys_equal, insert_last}
 use Rattle.table_store.proofs.Picked.{rise_filter}
 

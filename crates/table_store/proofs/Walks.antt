@@ -4,13 +4,11 @@ use Rattle.std.specs.Prelude.{Option, Some, None, not, ◌&&◌, ◌||◌, filte
 use Rattle.std.specs.List.{AllByRecursion, list_any}
 use Rattle.std.specs.declared.cmp.Ordering.{Ordering}
 use Rattle.std.specs.declared.cmp.Ordering.TheVariants.{Less, Equal, Greater}
-use Rattle.std.specs.declared.ops.Bound.{Bound}
-use Rattle.std.specs.Ordering.{is_eq, is_gt, is_le, is_lt, ordering_then, ordering_reverse}
+use Rattle.std.specs.Ordering.{is_eq, is_gt, ordering_then, ordering_reverse}
 use Rattle.std.specs.Option.{option_or}
 use Rattle.std.specs.Range.Bound.{IsForward}
 use Rattle.std.specs.BTreeMap.{BTreeMap, is_at}
 use Rattle.std.specs.BTreeMap.Range.{range_contains, IsLeBy, IsLtBy}
-use Rattle.std.specs.BTreeSet.{BTreeSet, keys_between}
 use Rattle.std.proofs.lemmas.Bool.{cases_Bool}
 use Rattle.std.proofs.lemmas.Cmp.{tied_itself}
 use Rattle.std.proofs.lemmas.Map.Entries.{option_filter}
@@ -101,9 +99,10 @@ any_there false c h = h
 -- what holds of each pair that is found in a list holds of all of it
 all_found : (P : Pair → Type 0) (pairs : List Pair) → ((p : Pair) → list_any (is_at (pair_cmp p)) pairs ≡ true → P p) → AllByRecursion P pairs
 all_found P [] holds = tt
-all_found P (p ∷ pairs) holds =
-    (holds p (any_here (is_at (pair_cmp p) p) (pair_itself p) (list_any (is_at (pair_cmp p)) pairs)),
-     all_found P pairs (λ q there. holds q (any_there (is_at (pair_cmp q) p) (list_any (is_at (pair_cmp q)) pairs) there)))
+all_found P (p ∷ pairs) holds = (
+  holds p (any_here (is_at (pair_cmp p) p) (pair_itself p) (list_any (is_at (pair_cmp p)) pairs)),
+  all_found P pairs (λ q there. holds q (any_there (is_at (pair_cmp q) p) (list_any (is_at (pair_cmp q)) pairs) there)),
+)
 
 neither : (b c : Bool) → (b || c) ≡ false → (b ≡ false) × (c ≡ false)
 neither true c h = cc

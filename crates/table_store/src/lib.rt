@@ -9,5 +9,5 @@ mod shelves;
 mod tables;
 
 pub use row_map::RowMap;
-pub use shelves::TableRows;
+pub use shelves::{IndexOf, TableRows, are_indexes};
 pub use tables::Tables;

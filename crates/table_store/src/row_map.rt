@@ -86,19 +86,19 @@ impl RowMap {
 
     /// The rows in order of key. They are moved where nobody shares them, and else copied. Linear in
     /// the rows.
-    pub(crate) fn into_rows(self) -> Result<Vec<Row>, NoMemory>
+    pub fn into_rows(self) -> Result<Vec<Row>, NoMemory>
         ensures { IfOk result (λ rows. rows.items ≡ values_of self) }
     {
         let RowMap { rows, alloc } = self;
         match Rc::try_unwrap(rows) {
-            Ok(rows) => Ok(rows.into_values().collect(alloc)?),
+            Ok(rows) => rows_of(alloc, rows),
             Err(rows) => copied_rows(alloc, &rows),
         }
     }
 
     /// Puts a row in the place of that of its key, if any. It takes the logarithm of the number of
     /// rows where they are not shared, and else copies them first.
-    pub(crate) fn put(&mut self, key: Value, row: Row) -> Result<(), NoMemory>
+    pub fn put(&mut self, key: Value, row: Row) -> Result<(), NoMemory>
         ensures ok { OnOk result ((q : ValueSeen) → keyed_of self.new q ≡ (if is_eq (value_cmp key q) then Some row else keyed_of self.old q)) }
         ensures err { OnErr result (self.new ≡ self.old) }
         ensures rising { KeysRise self.new }
@@ -206,6 +206,13 @@ fn copied(alloc: Global, rows: &BTreeMap<Value, Row>) -> Result<BTreeMap<Value, 
         made.insert(key.copy(alloc)?, row.copy(alloc)?)?;
     }
     Ok(made)
+}
+
+/// The rows in order of key, which are moved.
+pub(crate) fn rows_of(alloc: Global, rows: BTreeMap<Value, Row>) -> Result<Vec<Row>, NoMemory>
+    ensures { IfOk result (λ made. made.items ≡ values_of rows.entries) }
+{
+    Ok(rows.into_values().collect(alloc)?)
 }
 
 /// Copies of the rows in order of key.

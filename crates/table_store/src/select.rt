@@ -1,10 +1,6 @@
 //! Rows that meet a test.
-ghost use Rattle.std.specs.Prelude.{◌≡◌, ◌&&◌, not, IfOk, OnOk, None, length, if◌then◌else◌};
-ghost use Rattle.std.specs.Option.{is_some, option_map, option_or};
-ghost use Rattle.std.specs.Map.{values_of, lookup};
-ghost use Rattle.std.specs.BTreeMap.{is_at};
-ghost use Rattle.svc_values.specs.Order.{value_cmp};
-ghost use Rattle.svc_values.specs.Tests.{selected as selected_def};
+ghost use Rattle.std.specs.Prelude.{◌≡◌, ◌&&◌, not, IfOk, OnOk, if◌then◌else◌};
+ghost use Rattle.std.specs.Option.{option_map, option_or};
 ghost use Rattle.svc_values.specs.declared.value.Value.{Value as ValueSeen};
 ghost use Rattle.table_store.specs.Indexes.{IsIndexOf, is_spot_of};
 ghost use Rattle.table_store.specs.Rows.{keyed_of, KeysRise};
@@ -18,29 +14,6 @@ use svc_values::{NoMemory, Row, Test, TryCopy, Value, value_meets};
 
 /// The most rows that a select answers.
 const ROW_LIMIT: usize = 32;
-
-/// Copies of the rows whose value in a column meets the test, in order of key, unless they are more
-/// than 32.
-pub(crate) fn selected(
-    alloc: Global,
-    rows: &RowMap,
-    column: usize,
-    test: Test,
-    value: &Value,
-) -> Result<Option<Vec<Row>>, NoMemory>
-    ensures { IfOk result (λ found. option_map (λ rows. rows.items) found ≡ at_most_32 (selected_def column test value.now (values_of rows.now))) }
-{
-    let mut found = Vec::new(alloc);
-    for row in rows.as_map().values() {
-        if value_meets(test, value, row.get(column)) {
-            if found.len() >= ROW_LIMIT {
-                return Ok(None);
-            }
-            found.push(row.copy(alloc)?)?;
-        }
-    }
-    Ok(Some(found))
-}
 
 /// Copies of the rows whose value in a column meets the test and whose keys are none of these, by their
 /// keys, unless they are more than 32. Linear in the rows.

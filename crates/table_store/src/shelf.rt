@@ -13,8 +13,8 @@ ghost use Rattle.table_store.specs.Rows.{keyed_of, KeysRise};
 ghost use Rattle.table_store.specs.Selection.{apart_from, at_most_32, meeting};
 
 use crate::column_index::ColumnIndex;
-use crate::row_map::RowMap;
-use crate::select::{found_by, found_in, selected};
+use crate::row_map::{RowMap, rows_of};
+use crate::select::{found_by, found_in};
 use std::alloc::Global;
 use std::collections::BTreeMap;
 use std::marker::Model;
@@ -163,9 +163,26 @@ impl Shelf {
         None
     }
 
+    /// Copies of the rows whose value in a column meets the test and whose keys are none of these, by
+    /// their keys, unless they are more than 32. Where the column is indexed, it takes the logarithm of
+    /// the rows and 33 of them at most beside those of these keys, and else it is linear in the rows.
+    fn found(
+        &self,
+        column: usize,
+        test: Test,
+        value: &Value,
+        but: &BTreeMap<Value, usize>,
+    ) -> Result<Option<BTreeMap<Value, Row>>, NoMemory>
+        ensures { IfOk result (λ found. option_map (λ rows. rows.entries) found ≡ at_most_32 (apart_from but.now (meeting column test value.now self.now))) }
+    {
+        match self.index(column) {
+            None => found_in(self.alloc, &self.rows, column, test, value, but),
+            Some(index) => found_by(self.alloc, index, &self.rows, test, value, but),
+        }
+    }
+
     /// Copies of the rows whose value in a column meets the test, in order of key, unless they are more
-    /// than 32. Where the column is indexed, it takes the logarithm of the rows and 33 of them at most,
-    /// and else it is linear in the rows.
+    /// than 32.
     pub(crate) fn selected(
         &self,
         column: usize,
@@ -174,15 +191,10 @@ impl Shelf {
     ) -> Result<Option<Vec<Row>>, NoMemory>
         ensures { IfOk result (λ found. option_map (λ rows. rows.items) found ≡ at_most_32 (selected_def column test value.now (values_of self.now))) }
     {
-        match self.index(column) {
-            None => selected(self.alloc, &self.rows, column, test, value),
-            Some(index) => {
-                let none = BTreeMap::new(self.alloc);
-                match found_by(self.alloc, index, &self.rows, test, value, &none)? {
-                    None => Ok(None),
-                    Some(found) => Ok(Some(found.into_values().collect(self.alloc)?)),
-                }
-            }
+        let none = BTreeMap::new(self.alloc);
+        match self.found(column, test, value, &none)? {
+            None => Ok(None),
+            Some(found) => Ok(Some(rows_of(self.alloc, found)?)),
         }
     }
 
@@ -196,11 +208,7 @@ impl Shelf {
     ) -> Result<Option<RowMap>, NoMemory>
         ensures { IfOk result (λ found. found ≡ at_most_32 (apart_from but.now (meeting column test value.now self.now))) }
     {
-        let found = match self.index(column) {
-            None => found_in(self.alloc, &self.rows, column, test, value, but)?,
-            Some(index) => found_by(self.alloc, index, &self.rows, test, value, but)?,
-        };
-        match found {
+        match self.found(column, test, value, but)? {
             None => Ok(None),
             Some(rows) => Ok(Some(RowMap::of(self.alloc, rows)?)),
         }

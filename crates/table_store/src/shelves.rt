@@ -1,7 +1,8 @@
 //! The maps of all tables.
 ghost use Rattle.std.specs.Prelude.{◌≡◌, OnOk, OnErr, IfOk, None, Some, map};
+ghost use Rattle.std.specs.List.{list_all};
 ghost use Rattle.svc_values.specs.Tables.{in_order};
-ghost use Rattle.table_store.specs.Given.{keyed, named, plain, shelf_named};
+ghost use Rattle.table_store.specs.Given.{is_index_of, keyed, named, plain, shelf_named};
 ghost use Rattle.table_store.specs.Rows.{IsShelved, all_rows, shelf_of, shelf_rows};
 ghost use Rattle.table_store.specs.Shelves.{Changes, ChangesAll};
 ghost use Rattle.table_store.specs.Stored.{AreApart};
@@ -18,7 +19,32 @@ pub struct TableRows {
     pub rows: Vec<Row>,
 }
 
-/// The rows of each table that has had any, by its name.
+/// A column by whose values the rows of a table are indexed. It is told by its place from 0.
+#[derive(Drop)]
+pub struct IndexOf {
+    pub table: Name,
+    pub column: usize,
+}
+
+/// Whether the index is of a table that is declared, by one of its columns.
+fn is_index(schemas: &[Schema], index: &IndexOf) -> bool
+    ensures { result ≡ is_index_of schemas.now index.now }
+{
+    match schema_of(schemas, &index.table) {
+        None => false,
+        Some(schema) => index.column < schema.columns.len(),
+    }
+}
+
+/// Whether each index is of a table that is declared, by one of its columns, so that tables may be
+/// indexed by them. Linear in the indexes by the tables.
+pub fn are_indexes(schemas: &[Schema], indexes: &[IndexOf]) -> bool
+    ensures { result ≡ list_all (is_index_of schemas.now) indexes.now }
+{
+    indexes.iter().all(|index| is_index(schemas, index))
+}
+
+/// The rows of each table that has had any or is indexed, by its name.
 pub(crate) type Shelves = BTreeMap<Name, Shelf>;
 
 /// The rows of these tables, which are moved.
@@ -77,6 +103,45 @@ fn taken(
     match shelves.remove(table) {
         None => Ok(Vec::new(alloc)),
         Some(shelf) => shelf.into_rows(),
+    }
+}
+
+/// The same rows, indexed by these columns: n log n for each index of a table of n rows.
+pub(crate) fn indexed(
+    alloc: Global,
+    shelves: Shelves,
+    indexes: &[IndexOf],
+) -> Result<Shelves, NoMemory>
+    requires { IsShelved shelves.entries }
+    ensures shelved { IfOk result (λ made. IsShelved made.entries) }
+    ensures rows { IfOk result (λ made. all_rows made.entries ≡ all_rows shelves.entries) }
+{
+    let mut shelves = shelves;
+    for index in indexes {
+        index_by(alloc, &mut shelves, &index.table, index.column)?;
+    }
+    Ok(shelves)
+}
+
+/// Indexes a table by a column.
+fn index_by(
+    alloc: Global,
+    shelves: &mut Shelves,
+    table: &Name,
+    column: usize,
+) -> Result<(), NoMemory>
+    requires { IsShelved shelves.old.entries }
+    ensures shelved { IsShelved shelves.new.entries }
+    ensures rows { all_rows shelves.new.entries ≡ all_rows shelves.old.entries }
+{
+    match shelves.get_mut(table) {
+        Some(shelf) => shelf.index_by(column),
+        None => {
+            let mut shelf = Shelf::new(alloc)?;
+            shelf.index_by(column)?;
+            shelves.insert(table.copy(alloc)?, shelf)?;
+            Ok(())
+        }
     }
 }
 

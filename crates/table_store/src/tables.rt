@@ -1,5 +1,6 @@
 //! The tables of a service.
 ghost use Rattle.std.specs.Prelude.{◌≡◌, IsTrue, None, OnOk, OnErr, IfOk, map};
+ghost use Rattle.std.specs.List.{list_all};
 ghost use Rattle.std.specs.Option.{option_copied, option_map};
 ghost use Rattle.svc_values.specs.Same.{same_value};
 ghost use Rattle.svc_values.specs.declared.tables.Place.TheVariants as place;
@@ -8,13 +9,15 @@ ghost use Rattle.svc_values.specs.Schemas.{schema_of as schema_of_def, key_of as
 ghost use Rattle.svc_values.specs.Tests.{selected as selected_def};
 ghost use Rattle.svc_values.specs.Fitting.{is_row_of, has_fit, tables_fit, write_fits, writes_fit};
 ghost use Rattle.table_store.specs.Rows.{rows_if_any, row_if_any};
-ghost use Rattle.table_store.specs.Given.{plain, named, named_in};
-ghost use Rattle.table_store.specs.Selection.{at_most_32};
+ghost use Rattle.table_store.specs.Given.{plain, named, named_in, is_index_of, keyed_rows};
+ghost use Rattle.table_store.specs.Selection.{apart_from, at_most_32, meeting};
 ghost use Rattle.table_store.specs.Stored.{AreKept, AreApart, HasSome};
 
 use crate::row_map::RowMap;
-use crate::shelves::{self, Shelves, TableRows};
+use crate::shelf::Shelf;
+use crate::shelves::{self, IndexOf, Shelves, TableRows};
 use std::alloc::Global;
+use std::collections::BTreeMap;
 use std::marker::Model;
 use svc_values::{
     Name, NoMemory, Row, Schema, Schemas, Test, TryCopy, Value, Write, Writes, schema_of,
@@ -49,7 +52,25 @@ impl Tables {
         ensures made { IfOk result (λ made. made ≡ record { schemas = schemas; rows = in_order (plain tables.items) }) }
         ensures kept { IfOk result (λ made. AreKept made) }
     {
+        Tables::indexed(alloc, schemas, tables, &[])
+    }
+
+    /// The same with an index for each of these columns: beside what `new` takes, n log n for each index
+    /// of a table of n rows. A table whose indexes find no memory at a write has none from then on.
+    pub fn indexed(
+        alloc: Global,
+        schemas: Schemas,
+        tables: Vec<TableRows>,
+        indexes: &[IndexOf],
+    ) -> Result<Tables, NoMemory>
+        requires fitting { IsTrue (tables_fit schemas (plain tables.items)) }
+        requires apart { AreApart (plain tables.items) }
+        requires indexes { IsTrue (list_all (is_index_of schemas) indexes.now) }
+        ensures made { IfOk result (λ made. made ≡ record { schemas = schemas; rows = in_order (plain tables.items) }) }
+        ensures kept { IfOk result (λ made. AreKept made) }
+    {
         let shelves = shelves::filled(alloc, tables)?;
+        let shelves = shelves::indexed(alloc, shelves, indexes)?;
         Ok(Tables {
             schemas,
             shelves,
@@ -91,15 +112,23 @@ impl Tables {
         writes.as_slice().iter().all(|write| self.fits(write))
     }
 
-    /// The rows of a table that has had any.
+    /// The rows of a table that has had any or is indexed.
     pub fn row_map(&self, table: &Name) -> Option<&RowMap>
         ensures rows { rows_at self.now.rows (place.Table table.now) ≡ rows_if_any table.now (option_copied result) }
         ensures kept { AreKept self.now }
     {
-        match self.shelves.get(table) {
+        match self.shelf(table) {
             None => None,
             Some(shelf) => Some(shelf.rows()),
         }
+    }
+
+    /// The rows of a table that has had any or is indexed, with its indexes.
+    fn shelf(&self, table: &Name) -> Option<&Shelf>
+        ensures rows { rows_at self.now.rows (place.Table table.now) ≡ rows_if_any table.now (option_copied result) }
+        ensures kept { AreKept self.now }
+    {
+        self.shelves.get(table)
     }
 
     /// The row of a key of a table, `None` exactly where none stands there. It takes the logarithm of
@@ -114,7 +143,8 @@ impl Tables {
     }
 
     /// Copies of the rows whose value in a column, told by its place from 0, meets the test, in order
-    /// of key, and `None` exactly where more than 32 do. Linear in the rows of the table.
+    /// of key, and `None` exactly where more than 32 do. Where the column is indexed, it takes the
+    /// logarithm of the rows and 33 of them at most, and else it is linear in the rows of the table.
     pub fn select(
         &self,
         table: &Name,
@@ -124,9 +154,27 @@ impl Tables {
     ) -> Result<Option<Vec<Row>>, NoMemory>
         ensures { IfOk result (λ found. option_map (λ rows. rows.items) found ≡ at_most_32 (selected_def column test value.now (map (λ one. one.row) (rows_at self.now.rows (place.Table table.now))))) }
     {
-        match self.shelves.get(table) {
+        match self.shelf(table) {
             None => Ok(Some(Vec::new(self.alloc))),
             Some(shelf) => shelf.selected(column, test, value),
+        }
+    }
+
+    /// The same without the rows of these keys, each row with its key. Where the column is indexed, it
+    /// takes the time of `select` and that of these keys.
+    pub fn select_but(
+        &self,
+        table: &Name,
+        column: usize,
+        test: Test,
+        value: &Value,
+        but: &BTreeMap<Value, usize>,
+    ) -> Result<Option<RowMap>, NoMemory>
+        ensures { IfOk result (λ found. found ≡ at_most_32 (apart_from but.now (meeting column test value.now (keyed_rows self.now.rows table.now)))) }
+    {
+        match self.shelf(table) {
+            None => Ok(Some(RowMap::new(self.alloc)?)),
+            Some(shelf) => shelf.selected_but(column, test, value, but),
         }
     }
 

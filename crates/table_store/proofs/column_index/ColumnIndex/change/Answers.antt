@@ -1,8 +1,7 @@
 use Rattle.std.proofs.Common.{sym, ap, ◌∙◌}
-use Rattle.std.specs.Prelude.{true}
 use Rattle.std.specs.Option.{option_copied}
 use Rattle.std.proofs.lemmas.Result.{on_ok_weaker}
-use Rattle.table_store.specs.Indexes.{has_pair, is_value}
+use Rattle.table_store.specs.Indexes.{is_value}
 use Rattle.table_store.proofs.Indexed.{unmoved, moved}
 use Rattle.table_store.proofs.column_index.ColumnIndex.change.Goals as goal
 

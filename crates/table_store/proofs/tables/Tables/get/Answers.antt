@@ -17,4 +17,4 @@ returns-in-Some c =
     ap (λ (s : Stored). rows_at s.rows (place.Row c.args.table.now c.args.key.now)) (sym c.self.view_is)
     ∙ row_of_key c.self.inside.shelves.entries c.args.table.now c.args.key.now c.self.invariant.shelved
     ∙ ap (λ s. row_if_any c.args.table.now c.args.key.now (keyed_if_any s c.args.key.now)) (sym c.in-Some.ensures.value)
-    ∙ ap (row_if_any c.args.table.now c.args.key.now) (sym c.get-in-Some.ensures)
+    ∙ ap (row_if_any c.args.table.now c.args.key.now) (sym (rw c.rows.ensures.rows at c.get-in-Some.ensures))

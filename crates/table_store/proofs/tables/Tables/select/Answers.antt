@@ -8,5 +8,5 @@ use Rattle.table_store.proofs.tables.Tables.select.Goals as goal
 
 pub returns-in-Some : goal.returns-in-Some
 returns-in-Some c =
-    of_rows c.selected.result (option_map (λ rows. rows.items)) (λ rows. at_most_32 (selected c.args.column c.args.test c.args.value.now rows)) c.args.table.now c.in-Some.rows.now
+    of_rows c.selected.result (option_map (λ rows. rows.items)) (λ rows. at_most_32 (selected c.args.column c.args.test c.args.value.now rows)) c.args.table.now c.in-Some.shelf.now
     (rows_at c.args.self.now.rows (place.Table c.args.table.now)) c.in-Some.ensures.rows c.selected.ensures

@@ -5,7 +5,7 @@ use Rattle.table_store.specs.Rows.{rows_if_any}
 use Rattle.table_store.specs.Stored.{Stored, AreKept}
 use Rattle.table_store.proofs.Maps.{rows_of_table}
 use Rattle.table_store.proofs.Keeps.{kept_from_stored}
-use Rattle.table_store.proofs.tables.Tables.row_map.Goals as goal
+use Rattle.table_store.proofs.tables.Tables.shelf.Goals as goal
 
 pub returns-clause-rows : goal.returns-clause-rows
 returns-clause-rows c =

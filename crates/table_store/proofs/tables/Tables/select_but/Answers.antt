@@ -1,0 +1,11 @@
+use Rattle.std.proofs.Common.{[], refl}
+use Rattle.table_store.proofs.Keeps.{keyed_in}
+use Rattle.table_store.proofs.tables.Tables.select_but.Goals as goal
+
+pub returns-in_ok-new-in-None : goal.returns-in_ok-new-in-None
+returns-in_ok-new-in-None c =
+    rw (keyed_in c.args.table.now [] c.args.self.now.rows c.in-None.ensures.rows, c.in_ok-new-in-None.ensures) refl
+
+pub returns-in-Some : goal.returns-in-Some
+returns-in-Some c =
+    rw (keyed_in c.args.table.now c.in-Some.shelf.now c.args.self.now.rows c.in-Some.ensures.rows) c.selected_but.ensures
