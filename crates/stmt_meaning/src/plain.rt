@@ -155,7 +155,7 @@ fn with_setting(
     ensures { IfOk result (λ after. after ≡ put_setting settings.now name.now value.now) }
 {
     let mut after = settings.copy(alloc)?;
-    after.put(name.copy(alloc)?, value.copy(alloc)?)?;
+    after.put(name.copied(), value.copy(alloc)?)?;
     Ok(after)
 }
 

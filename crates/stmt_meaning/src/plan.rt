@@ -62,11 +62,11 @@ impl Plan {
     {
         match self {
             Plan::AtRow { table, key, .. } => Ok(Some(Place::Row {
-                table: table.copy(alloc)?,
+                table: table.copied(),
                 key: key.copy(alloc)?,
             })),
             Plan::InTable { table, .. } => Ok(Some(Place::Table {
-                table: table.copy(alloc)?,
+                table: table.copied(),
             })),
             Plan::Show { .. } => Ok(None),
         }

@@ -54,7 +54,7 @@ fn key_plan(
 {
     match key {
         Some(key) if is_column_kind(target.columns, 0, key.kind()) => Ok(Plan::AtRow {
-            table: table.copy(alloc)?,
+            table: table.copied(),
             key: key.copy(alloc)?,
             work,
         }),
@@ -129,7 +129,7 @@ fn select_plan(
         Some(than) if is_column_kind(target.columns, column, than.kind()) => {
             let value = than.copy(alloc)?;
             Ok(Plan::InTable {
-                table: table.copy(alloc)?,
+                table: table.copied(),
                 work: TableWork::Select {
                     column,
                     test,
@@ -152,7 +152,7 @@ fn insert_plan(alloc: Global, target: &Target, table: &Name, values: Row) -> Res
         Some(key) => key.copy(alloc)?,
     };
     Ok(Plan::AtRow {
-        table: table.copy(alloc)?,
+        table: table.copied(),
         key,
         work: RowWork::Insert { row: values },
     })
@@ -169,7 +169,7 @@ fn show_plan(alloc: Global, shown: Option<&Value>) -> Result<Plan, PlanFault>
     }
 }
 
-fn sum_plan(alloc: Global, target: &Target, table: &Name) -> Result<Plan, PlanFault>
+fn sum_plan(target: &Target, table: &Name) -> Result<Plan, PlanFault>
     ensures { IsPlanned result (if_kinds_fit (is_column_kind_def (aim target.now).columns target.now.at Kind.Int) (Plan.InTable table.now (TableWork.Sum target.now.at))) }
 {
     let column = target.at;
@@ -177,18 +177,18 @@ fn sum_plan(alloc: Global, target: &Target, table: &Name) -> Result<Plan, PlanFa
         return Err(PlanFault::Refused(StatementFault::KindDiffers));
     }
     Ok(Plan::InTable {
-        table: table.copy(alloc)?,
+        table: table.copied(),
         work: TableWork::Sum { column },
     })
 }
 
-fn count_plan(alloc: Global, table: &Name) -> Result<Plan, PlanFault>
-    ensures { IsPlanned result (Ok (Plan.InTable table.now TableWork.Count)) }
+fn count_plan(table: &Name) -> Plan
+    ensures { result ≡ Plan.InTable table.now TableWork.Count }
 {
-    Ok(Plan::InTable {
-        table: table.copy(alloc)?,
+    Plan::InTable {
+        table: table.copied(),
         work: TableWork::Count,
-    })
+    }
 }
 
 /// The plan of a statement, from where it works and the values of its operands in their order, or the
@@ -215,8 +215,8 @@ pub fn plan_for(
         Statement::Select { table, test, .. } => {
             select_plan(alloc, target, table, *test, values.get(0))
         }
-        Statement::Count { table } => count_plan(alloc, table),
-        Statement::Sum { table, .. } => sum_plan(alloc, target, table),
+        Statement::Count { table } => Ok(count_plan(table)),
+        Statement::Sum { table, .. } => sum_plan(target, table),
         Statement::Show { .. } => show_plan(alloc, values.get(0)),
     }
 }
