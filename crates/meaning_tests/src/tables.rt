@@ -5,15 +5,15 @@ use std::test::Fail;
 use svc_values::{
     Column, Columns, Kind, Name, NoMemory, Row, Schema, Schemas, Test, Value, Write, Writes,
 };
-use table_store::{TableRows, Tables};
+use table_store::{IndexOf, TableRows, Tables, are_indexes};
 
 /// The name of the only table.
 fn accounts(alloc: Global) -> Result<Name, Fail> {
     Ok(Name::new(alloc, "acc")?)
 }
 
-/// The table `acc` with an integer `id` and an integer `bal`, and no row.
-fn empty(alloc: Global) -> Result<Tables, Fail> {
+/// The table `acc` with an integer `id` and an integer `bal`.
+fn schemas(alloc: Global) -> Result<Schemas, Fail> {
     let mut columns = Columns::new(alloc);
     for text in ["id", "bal"] {
         let name = Name::new(alloc, text)?;
@@ -24,7 +24,26 @@ fn empty(alloc: Global) -> Result<Tables, Fail> {
     }
     let mut schemas = Schemas::new(alloc);
     schemas.push(Schema::new(accounts(alloc)?, columns)?)?;
-    Ok(Tables::new(alloc, schemas, Vec::new(alloc))?)
+    Ok(schemas)
+}
+
+/// That table without a row.
+fn empty(alloc: Global) -> Result<Tables, Fail> {
+    Ok(Tables::new(alloc, schemas(alloc)?, Vec::new(alloc))?)
+}
+
+/// The same, indexed by `bal`.
+fn indexed(alloc: Global) -> Result<Tables, Fail> {
+    let index = IndexOf {
+        table: accounts(alloc)?,
+        column: 1,
+    };
+    let schemas = schemas(alloc)?;
+    let indexes = [index];
+    if !are_indexes(schemas.as_slice(), &indexes) {
+        return Err(Fail::new("no such column"));
+    }
+    Ok(Tables::indexed(alloc, schemas, Vec::new(alloc), &indexes)?)
 }
 
 /// A write of this account, or its deletion.
@@ -130,5 +149,47 @@ fn a_select_answers_32_rows_and_no_more(rt: HostRuntime) -> Result<(), Fail> {
     assert!(rt; tables.select(&table, 1, Test::Eq, &one)?.is_none());
     let below = tables.select(&table, 0, Test::Lt, &Value::Int(32))?;
     assert_eq!(rt; below.map(|rows| rows.len()), Some(32));
+    Ok(())
+}
+
+/// Whether these rows were found, in this order.
+fn are_found(found: &Option<Vec<Row>>, ids: &[i64]) -> bool {
+    let Some(rows) = found else {
+        return false;
+    };
+    if rows.len() != ids.len() {
+        return false;
+    }
+    for at in 0..ids.len() {
+        if rows[at].get(0) != Some(&Value::Int(ids[at])) {
+            return false;
+        }
+    }
+    true
+}
+
+#[test]
+fn an_index_follows_the_writes_and_answers_in_order_of_key(rt: HostRuntime) -> Result<(), Fail> {
+    let alloc = rt.alloc();
+    let mut tables = indexed(alloc)?;
+    let mut writes = Writes::new(alloc);
+    for (id, balance) in [
+        (1, Some(9)),
+        (2, Some(4)),
+        (3, Some(3)),
+        (1, Some(4)),
+        (2, None),
+        (4, Some(8)),
+    ] {
+        writes.push(write_of(alloc, id, balance)?)?;
+    }
+    assert!(rt; apply(&mut tables, &writes)?);
+    let table = accounts(alloc)?;
+    let below = tables.select(&table, 1, Test::Lt, &Value::Int(5))?;
+    assert!(rt; are_found(&below, &[1, 3]));
+    let from = tables.select(&table, 1, Test::Ge, &Value::Int(4))?;
+    assert!(rt; are_found(&from, &[1, 4]));
+    let gone = tables.select(&table, 1, Test::Eq, &Value::Int(9))?;
+    assert!(rt; are_found(&gone, &[]));
     Ok(())
 }

@@ -10,3 +10,4 @@ pub mod ScanSteps
 pub mod Counts
 pub mod Statements
 pub mod Running
+pub mod Selects

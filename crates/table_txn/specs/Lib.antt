@@ -4,3 +4,4 @@ pub mod Found
 pub mod InnerSteps
 pub mod Own
 pub mod Scanning
+pub mod Selecting

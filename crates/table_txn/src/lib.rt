@@ -7,6 +7,7 @@ mod latest;
 mod own;
 mod readings;
 mod scanning;
+mod selecting;
 mod txn;
 
 pub use stmt_meaning::{DrawFrom, DrawFromFault, ListDraws, TxnFault};

@@ -17,6 +17,7 @@ ghost use Rattle.table_txn.specs.Own.{place_in, last_at};
 
 use crate::latest::Keys;
 use crate::own::OwnWrites;
+use crate::selecting::{Sought, select_committed, select_over};
 use std::alloc::Global;
 use std::ops::Bound;
 use stmt_meaning::{Scan, TableWork};
@@ -129,11 +130,25 @@ fn committed_answer(
     requires { (key : Key) → last_at own.now table.now key ≡ None }
     ensures { IfOk result (λ answer. answer ≡ table_answer work (seen_at (with_writes tables.now.rows own.now) (Some (place.Table table.now)))) }
 {
-    if let TableWork::Count = work {
-        return Ok(counted(tables.row_map(table)));
+    match work {
+        TableWork::Count => Ok(counted(tables.row_map(table))),
+        TableWork::Select {
+            column,
+            test,
+            value,
+        } => {
+            let sought = Sought {
+                column,
+                test,
+                value,
+            };
+            select_committed(tables, own, table, &sought)
+        }
+        work => {
+            let scan = Scan::new(alloc, work);
+            Ok(show_committed(alloc, scan, tables, own, table)?.answer())
+        }
     }
-    let scan = Scan::new(alloc, work);
-    Ok(show_committed(alloc, scan, tables, own, table)?.answer())
 }
 
 /// The answer from all rows of a table in which these keys were written.
@@ -149,8 +164,24 @@ fn answer_over(
     requires keys { (key : Key) → place_in (Some keys.now) key ≡ last_at own.now table.now key }
     ensures { IfOk result (λ answer. answer ≡ table_answer work (seen_at (with_writes tables.now.rows own.now) (Some (place.Table table.now)))) }
 {
-    let scan = Scan::new(alloc, work);
-    Ok(show_over(alloc, scan, tables, own, table, keys)?.answer())
+    match work {
+        TableWork::Select {
+            column,
+            test,
+            value,
+        } => {
+            let sought = Sought {
+                column,
+                test,
+                value,
+            };
+            select_over(alloc, tables, own, table, keys, &sought)
+        }
+        work => {
+            let scan = Scan::new(alloc, work);
+            Ok(show_over(alloc, scan, tables, own, table, keys)?.answer())
+        }
+    }
 }
 
 /// The answer from all rows of a table, as the transaction sees them. Linear in the committed rows, and

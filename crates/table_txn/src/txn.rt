@@ -63,6 +63,20 @@ impl Txn {
         }
     }
 
+    /// A transaction with the same writes in which nothing was called or read, so that a call can be
+    /// tried in it. The writes are copied: n log n for n writes.
+    pub fn probe(&self, alloc: Global) -> Result<Txn, NoMemory>
+        ensures probe { IfOk result (λ made. made ≡ record { pieces = []; writes = self.now.writes; readings = [] }) }
+        ensures no_reads { AreReadings [] [] }
+    {
+        Ok(Txn {
+            pieces: Pieces::new(alloc),
+            own: self.own.copy(alloc)?,
+            readings: Readings::new(alloc),
+            alloc,
+        })
+    }
+
     /// Keeps a call with its answers and draws. Where memory is refused nothing changes.
     pub fn note(&mut self, piece: Piece) -> Result<(), NoMemory>
         ensures ok { OnOk result (self.new ≡ record self.old { pieces = self.old.pieces ++ piece ∷ [] }) }

@@ -1,0 +1,82 @@
+use Rattle.std.proofs.Common.{arith, ◌≡◌, ◌<◌, ◌≤◌, true, false, length, nat_lt, sym, ap, subst, ◌∙◌}
+use Rattle.std.specs.Prelude.{Some, slice_get}
+use Rattle.std.specs.Option.{option_copied}
+use Rattle.std.specs.BTreeMap.{is_at}
+use Rattle.std.specs.Map.{keys_of, lookup}
+use Rattle.std.specs.List.Sorted.{IsStrictlySortedBy}
+use Rattle.std.specs.declared.ops.Bound.TheVariants.{Excluded, Unbounded}
+use Rattle.svc_values.specs.Order.{value_cmp}
+use Rattle.svc_values.specs.contracts.value.ValueOrd.TheImpl.{cmp-value}
+use Rattle.table_store.specs.Given.{keyed_rows}
+use Rattle.table_store.specs.Selection.{apart_from, meeting}
+use Rattle.table_txn.specs.Selecting.{select_answer}
+use Rattle.table_txn.proofs.ScanSteps.{first_keys, key_last, left_next}
+use Rattle.table_txn.proofs.Selects.{all_answered, committed_refused, found_first, found_next, over_refused, seen_last, some_at_most}
+use Rattle.table_txn.proofs.selecting.select_over.Goals as goal
+
+pub returns-in_default : goal.returns-in_default
+returns-in_default c =
+    c.answer_of.ensures
+    ∙ committed_refused c.args.tables.now.rows c.requires.ordered c.args.own.now c.args.table.now c.args.sought.now.column c.args.sought.now.test c.args.sought.now.value c.args.keys.now c.requires.keys
+    (sym c.in_default.is ∙ c.in_ok-found.ensures)
+
+pub loop-key-init : goal.loop-key-init
+loop-key-init c =
+    let gives = c.into_iter-key-iterator.ensures.into_iter_gives in
+    let sought = c.args.sought.now in (
+      (
+        Unbounded,
+        first_keys c.args.tables.now.rows c.args.own.now c.args.table.now c.into_iter-key-iterator.result
+            (subst (λ e. IsStrictlySortedBy cmp-value.it (keys_of e)) (sym gives.0) gives.5)
+            (λ q. ap (lookup (is_at (value_cmp q))) gives.0 ∙ c.requires.keys q),
+      ),
+      (
+        c.requires.ordered,
+        found_first c.args.tables.now.rows c.requires.ordered c.args.own.now c.args.table.now sought.column sought.test sought.value c.args.keys.now c.requires.keys c.into_iter-key-iterator.result gives.0 c.in-Some.found
+            (some_at_most c.in-Some.found (apart_from c.args.keys.now (meeting sought.column sought.test sought.value (keyed_rows c.args.tables.now.rows c.args.table.now))) (sym c.in-Some.is ∙ c.in_ok-found.ensures)),
+      ),
+    )
+
+pub returns-then-is_over : goal.returns-then-is_over
+returns-then-is_over c =
+    let so_far = c.loop-key.invariant.1 in
+    let above : nat_lt 32 (length c.loop-key.found) ≡ true = sym c.is_over.ensures.test ∙ c.if-is_over.true in
+    let over : 32 < length c.loop-key.found = grind arith in
+    c.answer_of-then-is_over.ensures
+    ∙ over_refused c.args.tables.now.rows so_far.0 c.args.own.now c.args.table.now c.args.sought.now.column c.args.sought.now.test c.args.sought.now.value c.loop-key.key-iterator c.loop-key.found so_far.1 c.is_over.ensures.rising over
+
+pub loop-key-preserved : goal.loop-key-preserved
+loop-key-preserved c =
+    let rows = c.args.tables.now.rows in
+    let writes = c.args.own.now in
+    let sought = c.args.sought.now in
+    let lo = c.loop-key.invariant.0.0 in
+    let are = c.loop-key.invariant.0.1 in
+    let so_far = c.loop-key.invariant.1 in
+    let key = c.in-Some-2.key.now in
+    let at = c.in-Some-2.at.now in
+    let write : option_copied c.get.result ≡ slice_get writes at = c.get.ensures ∙ ap (λ w. slice_get w at) c.writes-writes.ensures in
+    let last = key_last rows writes c.args.table.now lo c.loop-key.key-iterator c.next.new.self key at are c.in-Some-2.ensures.steps in (
+      (Excluded key, left_next rows writes c.args.table.now lo c.loop-key.key-iterator c.next.new.self key at are c.in-Some-2.ensures.steps),
+      (
+        so_far.0,
+        found_next rows so_far.0 writes c.args.table.now sought.column sought.test sought.value c.loop-key.key-iterator c.next.new.self key at c.loop-key.found c.put_own.new.found so_far.1 c.in-Some-2.ensures.steps
+            (option_copied c.get.result) (seen_last rows so_far.0 writes c.args.table.now key at (option_copied c.get.result) last write) c.in_ok-put_own.ensures,
+      ),
+    )
+
+pub returns-then-is_over-2 : goal.returns-then-is_over-2
+returns-then-is_over-2 c =
+    let so_far = c.loop-key.invariant.1 in
+    let above : nat_lt 32 (length c.loop-key.found) ≡ true = sym c.is_over-2.ensures.test ∙ c.if-is_over-2.true in
+    let over : 32 < length c.loop-key.found = grind arith in
+    c.answer_of-then-is_over-2.ensures
+    ∙ over_refused c.args.tables.now.rows so_far.0 c.args.own.now c.args.table.now c.args.sought.now.column c.args.sought.now.test c.args.sought.now.value c.loop-key.key-iterator c.loop-key.found so_far.1 c.is_over-2.ensures.rising over
+
+pub returns : goal.returns
+returns c =
+    let so_far = c.loop-key.invariant.1 in
+    let below : nat_lt 32 (length c.loop-key.found) ≡ false = sym c.is_over-2.ensures.test ∙ c.if-is_over-2.false in
+    let fits : length c.loop-key.found ≤ 32 = grind arith in
+    c.answer_of-2.ensures ∙ ap (λ rows. select_answer (Some rows)) c.in_ok-into_rows.ensures
+    ∙ all_answered c.args.tables.now.rows so_far.0 c.args.own.now c.args.table.now c.args.sought.now.column c.args.sought.now.test c.args.sought.now.value c.loop-key.key-iterator c.loop-key.found so_far.1 c.is_over-2.ensures.rising c.in-None.ensures.steps.0 fits
