@@ -10,4 +10,4 @@ use Rattle.table_txn.proofs.scanning.answer_over.Goals as goal
 pub returns-in_ok-show_over-in_default : goal.returns-in_ok-show_over-in_default
 returns-in_ok-show_over-in_default c =
     let rows = seen_at (with_writes c.args.tables.now.rows c.args.own.now) (Some (place.Table c.args.table.now)) in
-    c.answer.ensures ∙ answer_is c.args.work rows c.in_ok-show_over.field-0 (c.in_ok-show_over.ensures ∙ ap (λ s. last_answer (fold next_scan s rows)) c.new-scan.ensures)
+    c.answer.ensures ∙ answer_is c.args.work rows c.in_ok-show_over-in_default.field-0 (c.in_ok-show_over-in_default.ensures ∙ ap (λ s. last_answer (fold next_scan s rows)) c.new-scan.ensures)

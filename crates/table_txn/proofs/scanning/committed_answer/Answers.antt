@@ -18,4 +18,4 @@ returns-in-Count c =
 pub returns-in_ok-show_committed-in_default : goal.returns-in_ok-show_committed-in_default
 returns-in_ok-show_committed-in_default c =
     let rows = seen_at (with_writes c.args.tables.now.rows c.args.own.now) (Some (place.Table c.args.table.now)) in
-    c.answer.ensures ∙ answer_is c.args.work rows c.in_ok-show_committed.field-0 (c.in_ok-show_committed.ensures ∙ ap (λ s. last_answer (fold next_scan s rows)) c.new-scan.ensures)
+    c.answer.ensures ∙ answer_is c.args.work rows c.in_ok-show_committed-in_default.field-0 (c.in_ok-show_committed-in_default.ensures ∙ ap (λ s. last_answer (fold next_scan s rows)) c.new-scan.ensures)
