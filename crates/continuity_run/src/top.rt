@@ -145,11 +145,11 @@ pub fn continuity<S: Source, K: Sink>(
     ensures done { (command : Command) → command_of_def words.now ≡ Some command
         → result ≡ Status.Done
         → IsDone command (S.left source.old) (S.left source.new)
-            (K.held sink.old) (K.held sink.new) }
+        (K.held sink.old) (K.held sink.new) }
     ensures cut { (command : Command) → command_of_def words.now ≡ Some command
         → result ≡ Status.Write
         → IsCut command (S.left source.old) (S.left source.new)
-            (K.held sink.old) (K.held sink.new) }
+        (K.held sink.old) (K.held sink.new) }
 
     // Where nothing is at fault there is a report, but for want of memory.
     ensures complete { IsFaultless words.now (S.left source.old) (S.faults source.old) (S.faults source.new) (K.faults sink.old) (K.faults sink.new) → (result ≡ Status.Done) ⊎ (result ≡ Status.NoMemory) }
