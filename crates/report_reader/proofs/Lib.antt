@@ -1,0 +1,5 @@
+pub mod Stays
+pub mod ReadSettings
+pub mod ReadEntries
+pub mod ReadItems
+pub mod ReadReports

@@ -1,0 +1,206 @@
+-- What served items that were read keep to.
+use Rattle.std.proofs.Common.{◌≡◌, ℕ, ◌+◌, ◌==◌, List, [], ◌∷◌, ◌++◌, Bool, true, false, cond, ◌&&◌, Option, Some, None, Result, Ok, Err, refl, sym, subst, ap, ◌∙◌}
+use Rattle.std.specs.List.{list_all, last_or}
+use Rattle.std.specs.Option.{option_map_or}
+use Rattle.serde_json.specs.Data.{Data, Items}
+use Rattle.serde_json.specs.Events.{items_len}
+use Rattle.json_form.specs.declared.fault.DocCode.TheVariants.{Rule}
+use Rattle.json_form.specs.Faults.{Fault, ◌>>=◌, here}
+use Rattle.json_form.specs.Values.{items_of, bool_of, whole_of}
+use Rattle.json_form.specs.Texts.{head_of, word_of}
+use Rattle.json_form.specs.Arrays.{Placed, placed, each_after, fixed, part}
+use Rattle.svc_values.specs.declared.call.Call.{Call}
+use Rattle.svc_values.specs.declared.entry.SessionId.{SessionId}
+use Rattle.svc_values.specs.Calls.{is_made}
+use Rattle.outage_schedule.specs.declared.item.Item.{Item}
+use Rattle.outage_schedule.specs.declared.item.Item.TheVariants as item
+use Rattle.outage_schedule.specs.declared.item.Served.{Served}
+use Rattle.outage_schedule.specs.declared.note.Note.{Note}
+use Rattle.json_form.proofs.Offered.{after, ok_is, given, passed, part_read, each_keeps, all_push, first_true, second_true, both_true}
+use Rattle.report_reader.specs.declared.item.ServedAt.{ServedAt}
+use Rattle.report_reader.specs.declared.item.ServedWord.{ServedWord}
+use Rattle.report_reader.specs.declared.item.ServedWord.TheVariants as word
+use Rattle.svc_values.specs.declared.entry.Ltxid.{Ltxid}
+use Rattle.report_reader.specs.declared.told.ToldWord.{ToldWord}
+use Rattle.report_reader.specs.Parts.{if_count, number_in, identifier_in, session_in, settings_in, call_in}
+use Rattle.report_reader.specs.Answers.{answers_in}
+use Rattle.report_reader.specs.Draws.{draws_in}
+use Rattle.report_reader.specs.Told.{told_words, behind_of, told_by}
+use Rattle.report_reader.specs.Notes.{count_in}
+use Rattle.report_reader.specs.Items.{item_words, fits_event, last_event, event_in, place_in, served_at, bare_in, begin_in, answered_in, blocked_in, told_in, refused_in, stopped_outcome_in, stopped_call_in, crashed_in, served_by, one_served, served_in}
+use Rattle.report_reader.specs.Keeping.{word_of_item, events_fit, is_item}
+use Rattle.report_reader.proofs.ReadSettings.{settings_read}
+use Rattle.report_reader.proofs.ReadEntries.{call_at}
+
+-- the item may stand at its event behind the last one, and keeps to what items do
+abbrev pub Stands : List Note → ℕ → Served → Type 0
+Stands notes last one = (fits_event notes (word_of_item one.item) last one.event ≡ true) × (is_item one.item ≡ true)
+
+abbrev with_event : ℕ → Placed → Result ServedAt Fault
+with_event event ds = part 2 session_in ds >>= λ session. Ok (record { event = event; session = session })
+
+place_read : (notes : List Note) (w : ServedWord) (last : ℕ) (ds : Placed) (place : ServedAt)
+    → place_in notes w last ds ≡ Ok place → fits_event notes w last place.event ≡ true
+unfolding place_in
+place_read notes w last ds place h =
+    let a = after (part 1 (event_in notes w last) ds) (λ event. with_event event ds) place h in
+    let b = after (part 2 session_in ds) (λ session. Ok (record { event = a.0; session = session })) place a.2 in
+    let c = part_read 1 (event_in notes w last) ds a.0 a.1 in
+    let e = after (number_in c.0) (λ event. cond (fits_event notes w last event) (Ok event) (Err (here Rule))) a.0 c.1 in
+    let p = passed (fits_event notes w last e.0) (Ok e.0) (here Rule) a.0 e.2 in
+    let event = ok_is e.0 a.0 p.1 in
+    let placed = ok_is (record { event = a.0; session = b.0 }) place b.2 in
+    ap (fits_event notes w last) (sym (event ∙ ap (λ (s : ServedAt). s.event) placed)) ∙ p.0
+
+-- what was read, at a place that was read
+stands : (notes : List Note) (last : ℕ) (place : ServedAt) (made : Item) (one : Served)
+    → fits_event notes (word_of_item made) last place.event ≡ true → is_item made ≡ true
+    → given (served_at place made) ≡ given one → Stands notes last one
+stands notes last place made one fits keeps h = subst (Stands notes last) (ok_is (served_at place made) one h) (fits, keeps)
+
+-- the place was read, and then the rest
+record Located (notes : List Note) (w : ServedWord) (last : ℕ) (rest : Placed → ServedAt → Result Served Fault) (one : Served) : Type 0 where
+  ds : Placed
+  place : ServedAt
+  fits : fits_event notes w last place.event ≡ true
+  gave : rest ds place ≡ Ok one
+
+located : (count : ℕ) (notes : List Note) (w : ServedWord) (last : ℕ) (rest : Placed → ServedAt → Result Served Fault) (d : Data) (one : Served)
+    → (fixed count d >>= λ ds. place_in notes w last ds >>= rest ds) ≡ Ok one → Located notes w last rest one
+located count notes w last rest d one h =
+    let a = after (fixed count d) (λ ds. place_in notes w last ds >>= rest ds) one h in
+    let b = after (place_in notes w last a.0) (rest a.0) one a.2 in
+    record { ds = a.0; place = b.0; fits = place_read notes w last a.0 b.0 b.1; gave = b.2 }
+
+-- ---- each form
+
+bare_read : (notes : List Note) (last : ℕ) (w : ServedWord) (made : Item) (d : Data) (one : Served) → word_of_item made ≡ w → is_item made ≡ true
+    → bare_in notes last w made d ≡ Ok one → Stands notes last one
+unfolding bare_in
+bare_read notes last w made d one of keeps h =
+    let b = located 3 notes w last (λ ds place. Ok (served_at place made)) d one h in
+    stands notes last b.place made one (ap (λ v. fits_event notes v last b.place.event) of ∙ b.fits) keeps b.gave
+
+begin_read : (notes : List Note) (last : ℕ) (d : Data) (one : Served) → begin_in notes last d ≡ Ok one → Stands notes last one
+unfolding begin_in
+begin_read notes last d one h =
+    let b = located 4 notes word.Begin last (λ ds place. part 3 settings_in ds >>= λ settings. Ok (served_at place (item.Begin settings))) d one h in
+    let s = after (part 3 settings_in b.ds) (λ settings. Ok (served_at b.place (item.Begin settings))) one b.gave in
+    let inner = part_read 3 settings_in b.ds s.0 s.1 in
+    stands notes last b.place (item.Begin s.0) one b.fits (settings_read inner.0 s.0 inner.1) s.2
+
+abbrev answered_rest : Placed → ServedAt → Bool → Call → Result Served Fault
+answered_rest ds place replay call =
+    part 5 answers_in ds >>= λ answers. part 6 draws_in ds >>= λ draws. Ok (served_at place (item.Call replay call answers draws))
+
+answered_read : (notes : List Note) (last : ℕ) (d : Data) (one : Served) → answered_in notes last d ≡ Ok one → Stands notes last one
+unfolding answered_in
+answered_read notes last d one h =
+    let b = located 7 notes word.Call last (λ ds place. part 3 bool_of ds >>= λ replay. part 4 call_in ds >>= answered_rest ds place replay) d one h in
+    let r = after (part 3 bool_of b.ds) (λ replay. part 4 call_in b.ds >>= answered_rest b.ds b.place replay) one b.gave in
+    let c = after (part 4 call_in b.ds) (answered_rest b.ds b.place r.0) one r.2 in
+    let a = after (part 5 answers_in b.ds) (λ answers. part 6 draws_in b.ds >>= λ draws. Ok (served_at b.place (item.Call r.0 c.0 answers draws))) one c.2 in
+    let e = after (part 6 draws_in b.ds) (λ draws. Ok (served_at b.place (item.Call r.0 c.0 a.0 draws))) one a.2 in
+    stands notes last b.place (item.Call r.0 c.0 a.0 e.0) one b.fits (call_at 4 b.ds c.0 c.1) e.2
+
+blocked_read : (notes : List Note) (last : ℕ) (d : Data) (one : Served) → blocked_in notes last d ≡ Ok one → Stands notes last one
+unfolding blocked_in
+blocked_read notes last d one h =
+    let b = located 4 notes word.Blocked last (λ ds place. part 3 call_in ds >>= λ call. Ok (served_at place (item.Blocked call))) d one h in
+    let c = after (part 3 call_in b.ds) (λ call. Ok (served_at b.place (item.Blocked call))) one b.gave in
+    stands notes last b.place (item.Blocked c.0) one b.fits (call_at 3 b.ds c.0 c.1) c.2
+
+abbrev told_end : Placed → ServedAt → Ltxid → ToldWord → Result Served Fault
+told_end ds place x w = told_by w 5 ds >>= λ result. Ok (served_at place (item.Outcome x result))
+
+abbrev told_rest : Items → ServedAt → Ltxid → Result Served Fault
+told_rest is place x =
+    part 4 (word_of told_words) (placed is) >>= λ w. if_count (5 + behind_of w) (items_len is) >>= λ _. told_end (placed is) place x w
+
+told_read : (notes : List Note) (last : ℕ) (d : Data) (one : Served) → told_in notes last d ≡ Ok one → Stands notes last one
+unfolding told_in
+told_read notes last d one h =
+    let a = after (items_of d) (λ is. place_in notes word.Outcome last (placed is) >>= λ place. part 3 identifier_in (placed is) >>= told_rest is place) one h in
+    let is = a.0 in
+    let p = after (place_in notes word.Outcome last (placed is)) (λ place. part 3 identifier_in (placed is) >>= told_rest is place) one a.2 in
+    let x = after (part 3 identifier_in (placed is)) (told_rest is p.0) one p.2 in
+    let w = after (part 4 (word_of told_words) (placed is)) (λ w. if_count (5 + behind_of w) (items_len is) >>= λ _. told_end (placed is) p.0 x.0 w) one x.2 in
+    let n = after (if_count (5 + behind_of w.0) (items_len is)) (λ _. told_end (placed is) p.0 x.0 w.0) one w.2 in
+    let t = after (told_by w.0 5 (placed is)) (λ result. Ok (served_at p.0 (item.Outcome x.0 result))) one n.2 in
+    stands notes last p.0 (item.Outcome x.0 t.0) one (place_read notes word.Outcome last (placed is) p.0 p.1) refl t.2
+
+refused_read : (notes : List Note) (last : ℕ) (d : Data) (one : Served) → refused_in notes last d ≡ Ok one → Stands notes last one
+unfolding refused_in
+refused_read notes last d one h =
+    let b = located 4 notes word.Refused last (λ ds place. part 3 (whole_of 1 2) ds >>= λ cause. Ok (served_at place (item.Refused cause))) d one h in
+    let c = after (part 3 (whole_of 1 2) b.ds) (λ cause. Ok (served_at b.place (item.Refused cause))) one b.gave in
+    stands notes last b.place (item.Refused c.0) one b.fits refl c.2
+
+stopped_outcome_read : (notes : List Note) (last : ℕ) (d : Data) (one : Served) → stopped_outcome_in notes last d ≡ Ok one → Stands notes last one
+unfolding stopped_outcome_in
+stopped_outcome_read notes last d one h =
+    let b = located 4 notes word.Crashed last (λ ds place. part 3 identifier_in ds >>= λ x. Ok (served_at place (item.CrashedOutcome x))) d one h in
+    let x = after (part 3 identifier_in b.ds) (λ x. Ok (served_at b.place (item.CrashedOutcome x))) one b.gave in
+    stands notes last b.place (item.CrashedOutcome x.0) one b.fits refl x.2
+
+stopped_call_read : (notes : List Note) (last : ℕ) (d : Data) (one : Served) → stopped_call_in notes last d ≡ Ok one → Stands notes last one
+unfolding stopped_call_in
+stopped_call_read notes last d one h =
+    let b = located 5 notes word.Crashed last (λ ds place. part 3 bool_of ds >>= λ replay. part 4 call_in ds >>= λ call. Ok (served_at place (item.CrashedCall replay call))) d one h in
+    let r = after (part 3 bool_of b.ds) (λ replay. part 4 call_in b.ds >>= λ call. Ok (served_at b.place (item.CrashedCall replay call))) one b.gave in
+    let c = after (part 4 call_in b.ds) (λ call. Ok (served_at b.place (item.CrashedCall r.0 call))) one r.2 in
+    stands notes last b.place (item.CrashedCall r.0 c.0) one b.fits (call_at 4 b.ds c.0 c.1) c.2
+
+crashed_read : (notes : List Note) (last : ℕ) (d : Data) (one : Served) → crashed_in notes last d ≡ Ok one → Stands notes last one
+crashed_read notes last d one h =
+    let a = after (count_in d) (λ n. cond (n == 4) (stopped_outcome_in notes last d) (stopped_call_in notes last d)) one h in
+    by (a.0 == 4) a.2
+  where
+    by : (b : Bool) → cond b (stopped_outcome_in notes last d) (stopped_call_in notes last d) ≡ Ok one → Stands notes last one
+    by true is = stopped_outcome_read notes last d one is
+    by false is = stopped_call_read notes last d one is
+
+-- ---- all of them
+
+by_word : (notes : List Note) (last : ℕ) (w : ServedWord) (d : Data) (one : Served) → served_by notes last w d ≡ Ok one → Stands notes last one
+by_word notes last word.Connect d one h = bare_read notes last word.Connect item.Connect d one refl refl h
+by_word notes last word.Begin d one h = begin_read notes last d one h
+by_word notes last word.Call d one h = answered_read notes last d one h
+by_word notes last word.Blocked d one h = blocked_read notes last d one h
+by_word notes last word.Outcome d one h = told_read notes last d one h
+by_word notes last word.End d one h = bare_read notes last word.End item.End d one refl refl h
+by_word notes last word.Close d one h = bare_read notes last word.Close item.Close d one refl refl h
+by_word notes last word.Refused d one h = refused_read notes last d one h
+by_word notes last word.Crashed d one h = crashed_read notes last d one h
+
+one_read : (notes : List Note) (last : ℕ) (d : Data) (one : Served) → one_served notes last d ≡ Ok one → Stands notes last one
+unfolding one_served
+one_read notes last d one h =
+    let a = after (head_of item_words d) (λ w. served_by notes last w d) one h in by_word notes last a.0 d one a.2
+
+-- the event of the last of these items, or that of the item before them
+abbrev event_after : Option Served → ℕ
+event_after o = option_map_or (λ one. one.event) o 0
+
+events_push : (notes : List Note) (o : Option Served) (before : List Served) (one : Served) → events_fit notes (event_after o) before ≡ true
+    → fits_event notes (word_of_item one.item) (event_after (last_or o before)) one.event ≡ true → events_fit notes (event_after o) (before ++ one ∷ []) ≡ true
+events_push notes o [] one fit last = both_true _ true last refl
+events_push notes o (first ∷ before) one fit last =
+    both_true _ _ (first_true _ _ fit) (events_push notes (Some first) before one (second_true _ _ fit) last)
+
+-- the items so far stand where they may, and keep to what items do
+pub record Good (notes : List Note) (items : List Served) : Type 0 where
+  pub events : events_fit notes 0 items ≡ true
+  pub kept : list_all (λ one. is_item one.item) items ≡ true
+
+good_push : (notes : List Note) (before : List Served) (d : Data) (one : Served) → Good notes before → one_served notes (last_event before) d ≡ Ok one → Good notes (before ++ one ∷ [])
+good_push notes before d one good h =
+    let s = one_read notes (last_event before) d one h in record {
+      events = events_push notes None before one good.events s.0;
+      kept = all_push (λ one. is_item one.item) before one good.kept s.1;
+    }
+
+pub served_read : (notes : List Note) (d : Data) (items : List Served) → served_in notes d ≡ Ok items → Good notes items
+served_read notes d items h =
+    let a = after (items_of d) (each_after (λ before. one_served notes (last_event before)) []) items h in
+    each_keeps (Good notes) (λ before. one_served notes (last_event before)) (good_push notes) [] a.0 items (record { events = refl; kept = refl }) a.2

@@ -1,0 +1,124 @@
+//! Readers of entries and tables.
+ghost use Rattle.std.specs.Prelude.{◌≡◌};
+ghost use Rattle.serde_json.specs.View.{view};
+ghost use Rattle.json_form.specs.Faults.{Gives};
+ghost use Rattle.report_reader.specs.Entries.{piece_in, pieces_in, entry_in, entries_in, table_rows_in, table_in, tables_in};
+
+use crate::answer::AnswersReader;
+use crate::draw::DrawsReader;
+use crate::part::{CALL, LtxidReader, RowReader, SettingsReader};
+use call_forms::NameReader;
+use json_form::{DocFault, Flag, Reader, fixed, list_from, object_with};
+use outage_schedule::{DocRows, ReportEntries, ReportTable, ReportTables};
+use serde_json::Value as Json;
+use std::alloc::Global;
+use svc_values::{Entry, Listed, Piece, Pieces};
+
+/// Reads a call of an entry.
+struct PieceReader;
+
+impl Reader<Piece> for PieceReader {
+    ghost reads = { λ s. piece_in };
+
+    #[tactic(auto, unfolding(crate::specs::Entries::piece_in), using(json_form::proofs::Offered::others_stay))]
+    fn read(&self, alloc: Global, value: Json) -> Result<Piece, DocFault> {
+        let mut parts = fixed(alloc, value, 3)?;
+        let call = parts.read(alloc, 0, &CALL)?;
+        let answers = parts.read(alloc, 1, &AnswersReader)?;
+        let draws = parts.read(alloc, 2, &DrawsReader)?;
+        Ok(Piece {
+            call,
+            answers,
+            draws,
+        })
+    }
+}
+
+/// Reads the calls of an entry, in order.
+struct PiecesReader;
+
+impl Reader<Pieces> for PiecesReader {
+    ghost reads = { λ s. pieces_in };
+
+    fn read(&self, alloc: Global, value: Json) -> Result<Pieces, DocFault> {
+        let pieces = list_from(alloc, value, &PieceReader)?;
+        Ok(Listed::from_vec(pieces))
+    }
+}
+
+const MEMBERS: [&str; 4] = ["completed", "ltxid", "pieces", "settings"];
+
+/// Reads an entry, which shows no writes.
+struct EntryReader;
+
+impl Reader<Entry> for EntryReader {
+    ghost reads = { λ s. entry_in };
+
+    #[tactic(auto, unfolding(crate::specs::Entries::entry_in), using(json_form::proofs::Offered::others_stay))]
+    fn read(&self, alloc: Global, value: Json) -> Result<Entry, DocFault> {
+        let mut members = object_with(alloc, value, &MEMBERS)?;
+        members.require(alloc, &MEMBERS)?;
+        let completed = members.read(alloc, "completed", &Flag)?;
+        let ltxid = members.read(alloc, "ltxid", &LtxidReader)?;
+        let pieces = members.read(alloc, "pieces", &PiecesReader)?;
+        let settings = members.read(alloc, "settings", &SettingsReader)?;
+        Ok(Entry {
+            ltxid,
+            completed,
+            settings,
+            pieces,
+            writes: Listed::new(alloc),
+        })
+    }
+}
+
+/// Reads the entries of a run, in order.
+pub(crate) struct EntriesReader;
+
+impl Reader<ReportEntries> for EntriesReader {
+    ghost reads = { λ s. entries_in };
+
+    fn read(&self, alloc: Global, value: Json) -> Result<ReportEntries, DocFault> {
+        let entries = list_from(alloc, value, &EntryReader)?;
+        Ok(Listed::from_vec(entries))
+    }
+}
+
+/// Reads the rows of a table, in order.
+struct TableRowsReader;
+
+impl Reader<DocRows> for TableRowsReader {
+    ghost reads = { λ s. table_rows_in };
+
+    fn read(&self, alloc: Global, value: Json) -> Result<DocRows, DocFault> {
+        let rows = list_from(alloc, value, &RowReader)?;
+        Ok(Listed::from_vec(rows))
+    }
+}
+
+/// Reads a table.
+struct TableReader;
+
+impl Reader<ReportTable> for TableReader {
+    ghost reads = { λ s. table_in };
+
+    #[tactic(auto, unfolding(crate::specs::Entries::table_in), using(json_form::proofs::Offered::others_stay))]
+    fn read(&self, alloc: Global, value: Json) -> Result<ReportTable, DocFault> {
+        let mut parts = fixed(alloc, value, 2)?;
+        let name = parts.read(alloc, 0, &NameReader)?;
+        let rows = parts.read(alloc, 1, &TableRowsReader)?;
+        Ok(ReportTable { name, rows })
+    }
+}
+
+/// Reads the tables, in order.
+pub(crate) struct TablesReader;
+
+impl Reader<ReportTables> for TablesReader {
+    ghost reads = { λ s. tables_in };
+
+    fn read(&self, alloc: Global, value: Json) -> Result<ReportTables, DocFault> {
+        let tables = list_from(alloc, value, &TableReader)?;
+        Ok(Listed::from_vec(tables))
+    }
+}

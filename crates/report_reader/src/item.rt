@@ -1,0 +1,337 @@
+//! Readers of served items: each at the event of a note at which it may stand, their events rising.
+ghost use Rattle.std.specs.Prelude.{◌≡◌, [], IfOk};
+ghost use Rattle.serde_json.specs.View.{view, items_view};
+ghost use Rattle.json_form.specs.Faults.{Gives, GivesBy};
+ghost use Rattle.json_form.specs.Arrays.{count_at, parts_at, taken_at, each_after};
+ghost use Rattle.report_reader.specs.Items.{is_of_frame as is_of_frame_def, may_stand as may_stand_def, fits_event as fits_event_def, last_event, event_in, place_in, served_at as served_at_def, bare_in, begin_in, answered_in, blocked_in, told_in, refused_in, stopped_outcome_in, stopped_call_in, crashed_in, served_by as served_by_def, one_served, served_in};
+
+use crate::answer::AnswersReader;
+use crate::draw::DrawsReader;
+use crate::note::count_from;
+use crate::part::{CALL, LtxidReader, NUMBER, SessionReader, SettingsReader, if_count};
+use crate::told::{ToldReader, told_by};
+use json_form::{
+    DocCode, DocFault, Flag, Parts, Reader, Whole, fixed, head_from, parts_from, within_item,
+};
+use outage_schedule::{FrameName, Item, Note, Notes, Served, ServedItems};
+use serde_json::Value as Json;
+use std::alloc::Global;
+use svc_values::{Listed, SessionId};
+
+/// The word that a served item begins with.
+#[derive(Clone, Copy, Debug, PartialEq, Eq)]
+pub enum ServedWord {
+    Connect,
+    Begin,
+    Call,
+    Blocked,
+    Outcome,
+    End,
+    Close,
+    Refused,
+    Crashed,
+}
+
+/// Whether a `serve` of the frame has an item of this word.
+fn is_of_frame(frame: FrameName, word: ServedWord) -> bool
+    ensures { result ≡ is_of_frame_def frame word }
+{
+    match word {
+        ServedWord::Connect => matches!(frame, FrameName::Connect),
+        ServedWord::Begin => matches!(frame, FrameName::Begin),
+        ServedWord::Call | ServedWord::Blocked => matches!(frame, FrameName::Call),
+        ServedWord::Outcome => matches!(frame, FrameName::Outcome),
+        ServedWord::End => matches!(frame, FrameName::End),
+        ServedWord::Close => matches!(frame, FrameName::Close),
+        ServedWord::Refused => true,
+        ServedWord::Crashed => false,
+    }
+}
+
+/// Whether an item of this word may stand at the note's event.
+fn may_stand(note: &Note, word: ServedWord) -> bool
+    ensures { result ≡ may_stand_def note.now word }
+{
+    match note {
+        Note::Serve {
+            frame: Some(frame),
+            ..
+        } => is_of_frame(*frame, word),
+        Note::Crash { down, .. } => !*down,
+        _ => false,
+    }
+}
+
+/// Whether an item of this word may stand at this event, behind an item at the last one.
+fn fits_event(notes: &[Note], word: ServedWord, last: u64, event: u64) -> bool
+    ensures { result ≡ fits_event_def notes.now word last event }
+{
+    if event <= last {
+        return false;
+    }
+    match notes.get((event - 1) as usize) {
+        Some(note) => may_stand(note, word),
+        None => false,
+    }
+}
+
+/// Reads the event of an item of this word, behind an item at the last one.
+#[derive(Clone, Copy)]
+struct EventReader<'a> {
+    notes: &'a [Note],
+    word: ServedWord,
+    last: u64,
+}
+
+impl Reader<u64> for EventReader<'_> {
+    ghost reads = { λ s. event_in s.notes.now s.word s.last };
+
+    fn read(&self, alloc: Global, value: Json) -> Result<u64, DocFault> {
+        let event = NUMBER.read(alloc, value)?;
+        if fits_event(self.notes, self.word, self.last, event) {
+            Ok(event)
+        } else {
+            Err(DocFault::here(alloc, DocCode::Rule))
+        }
+    }
+}
+
+/// The event of an item, and its session.
+#[derive(Clone, Copy)]
+pub struct ServedAt {
+    pub event: u64,
+    pub session: SessionId,
+}
+
+fn served_at(place: ServedAt, item: Item) -> Served
+    ensures { result ≡ served_at_def place item }
+{
+    Served {
+        event: place.event,
+        session: place.session,
+        item,
+    }
+}
+
+/// Reads an item behind those before it, of which the last one stands at the event `last`, and at an
+/// event of these notes.
+#[derive(Clone, Copy)]
+struct ServedReader<'a> {
+    notes: &'a [Note],
+    last: u64,
+}
+
+impl ServedReader<'_> {
+    /// The event and the session of an item of this word.
+    #[tactic(auto, unfolding(crate::specs::Items::place_in), using(json_form::proofs::Offered::others_stay))]
+    fn place(
+        &self,
+        alloc: Global,
+        parts: &mut Parts,
+        word: ServedWord,
+    ) -> Result<ServedAt, DocFault>
+        ensures read { Gives result (place_in self.now.notes.now word self.now.last (parts_at parts.old)) }
+        ensures left { IfOk result (λ _. parts_at parts.new ≡ taken_at 2 (taken_at 1 (parts_at parts.old))) }
+        ensures count { count_at parts.new ≡ count_at parts.old }
+    {
+        let ServedReader { notes, last } = *self;
+        let event = parts.read(alloc, 1, &EventReader { notes, word, last })?;
+        let session = parts.read(alloc, 2, &SessionReader)?;
+        Ok(ServedAt { event, session })
+    }
+
+    #[tactic(auto, unfolding(crate::specs::Items::bare_in))]
+    fn bare(
+        &self,
+        alloc: Global,
+        value: Json,
+        word: ServedWord,
+        item: Item,
+    ) -> Result<Served, DocFault>
+        ensures { Gives result (bare_in self.now.notes.now self.now.last word item (view value)) }
+    {
+        let mut parts = fixed(alloc, value, 3)?;
+        let place = self.place(alloc, &mut parts, word)?;
+        Ok(served_at(place, item))
+    }
+
+    #[tactic(auto, unfolding(crate::specs::Items::begin_in), using(json_form::proofs::Offered::others_stay))]
+    fn begin(&self, alloc: Global, value: Json) -> Result<Served, DocFault>
+        ensures { Gives result (begin_in self.now.notes.now self.now.last (view value)) }
+    {
+        let mut parts = fixed(alloc, value, 4)?;
+        let place = self.place(alloc, &mut parts, ServedWord::Begin)?;
+        let settings = parts.read(alloc, 3, &SettingsReader)?;
+        Ok(served_at(place, Item::Begin { settings }))
+    }
+
+    #[tactic(auto, unfolding(crate::specs::Items::answered_in), using(json_form::proofs::Offered::others_stay))]
+    fn answered(&self, alloc: Global, value: Json) -> Result<Served, DocFault>
+        ensures { Gives result (answered_in self.now.notes.now self.now.last (view value)) }
+    {
+        let mut parts = fixed(alloc, value, 7)?;
+        let place = self.place(alloc, &mut parts, ServedWord::Call)?;
+        let replay = parts.read(alloc, 3, &Flag)?;
+        let call = parts.read(alloc, 4, &CALL)?;
+        let answers = parts.read(alloc, 5, &AnswersReader)?;
+        let draws = parts.read(alloc, 6, &DrawsReader)?;
+        let item = Item::Call {
+            replay,
+            call,
+            answers,
+            draws,
+        };
+        Ok(served_at(place, item))
+    }
+
+    #[tactic(auto, unfolding(crate::specs::Items::blocked_in), using(json_form::proofs::Offered::others_stay))]
+    fn blocked(&self, alloc: Global, value: Json) -> Result<Served, DocFault>
+        ensures { Gives result (blocked_in self.now.notes.now self.now.last (view value)) }
+    {
+        let mut parts = fixed(alloc, value, 4)?;
+        let place = self.place(alloc, &mut parts, ServedWord::Blocked)?;
+        let call = parts.read(alloc, 3, &CALL)?;
+        Ok(served_at(place, Item::Blocked { call }))
+    }
+
+    /// An outcome that was told: the word says how many items stand there.
+    #[tactic(auto, unfolding(crate::specs::Items::told_in), using(json_form::proofs::Offered::others_stay, crate::proofs::Stays::told_stays))]
+    fn told(&self, alloc: Global, value: Json) -> Result<Served, DocFault>
+        ensures { Gives result (told_in self.now.notes.now self.now.last (view value)) }
+    {
+        let mut parts = parts_from(alloc, value)?;
+        let place = self.place(alloc, &mut parts, ServedWord::Outcome)?;
+        let ltxid = parts.read(alloc, 3, &LtxidReader)?;
+        let word = parts.read(alloc, 4, &ToldReader)?;
+        if_count(alloc, &parts, 5 + word.behind())?;
+        let result = told_by(alloc, word, 5, &mut parts)?;
+        Ok(served_at(place, Item::Outcome { ltxid, result }))
+    }
+
+    #[tactic(auto, unfolding(crate::specs::Items::refused_in), using(json_form::proofs::Offered::others_stay))]
+    fn refused(&self, alloc: Global, value: Json) -> Result<Served, DocFault>
+        ensures { Gives result (refused_in self.now.notes.now self.now.last (view value)) }
+    {
+        let mut parts = fixed(alloc, value, 4)?;
+        let place = self.place(alloc, &mut parts, ServedWord::Refused)?;
+        let cause = parts.read(alloc, 3, &CauseReader)?;
+        Ok(served_at(place, Item::Refused { cause }))
+    }
+
+    #[tactic(auto, unfolding(crate::specs::Items::stopped_outcome_in), using(json_form::proofs::Offered::others_stay))]
+    fn stopped_outcome(&self, alloc: Global, value: Json) -> Result<Served, DocFault>
+        ensures { Gives result (stopped_outcome_in self.now.notes.now self.now.last (view value)) }
+    {
+        let mut parts = fixed(alloc, value, 4)?;
+        let place = self.place(alloc, &mut parts, ServedWord::Crashed)?;
+        let ltxid = parts.read(alloc, 3, &LtxidReader)?;
+        Ok(served_at(place, Item::CrashedOutcome { ltxid }))
+    }
+
+    #[tactic(auto, unfolding(crate::specs::Items::stopped_call_in), using(json_form::proofs::Offered::others_stay))]
+    fn stopped_call(&self, alloc: Global, value: Json) -> Result<Served, DocFault>
+        ensures { Gives result (stopped_call_in self.now.notes.now self.now.last (view value)) }
+    {
+        let mut parts = fixed(alloc, value, 5)?;
+        let place = self.place(alloc, &mut parts, ServedWord::Crashed)?;
+        let replay = parts.read(alloc, 3, &Flag)?;
+        let call = parts.read(alloc, 4, &CALL)?;
+        Ok(served_at(place, Item::CrashedCall { replay, call }))
+    }
+
+    /// What a crash stopped: a question for an outcome, or a call.
+    fn crashed(&self, alloc: Global, value: Json) -> Result<Served, DocFault>
+        ensures { Gives result (crashed_in self.now.notes.now self.now.last (view value)) }
+    {
+        if count_from(alloc, &value)? == 4 {
+            self.stopped_outcome(alloc, value)
+        } else {
+            self.stopped_call(alloc, value)
+        }
+    }
+
+    fn by(&self, alloc: Global, value: Json, word: ServedWord) -> Result<Served, DocFault>
+        ensures { Gives result (served_by_def self.now.notes.now self.now.last word (view value)) }
+    {
+        match word {
+            ServedWord::Connect => self.bare(alloc, value, word, Item::Connect),
+            ServedWord::Begin => self.begin(alloc, value),
+            ServedWord::Call => self.answered(alloc, value),
+            ServedWord::Blocked => self.blocked(alloc, value),
+            ServedWord::Outcome => self.told(alloc, value),
+            ServedWord::End => self.bare(alloc, value, word, Item::End),
+            ServedWord::Close => self.bare(alloc, value, word, Item::Close),
+            ServedWord::Refused => self.refused(alloc, value),
+            ServedWord::Crashed => self.crashed(alloc, value),
+        }
+    }
+}
+
+/// Reads the cause of a refusal.
+struct CauseReader;
+
+impl Reader<u8> for CauseReader {
+    ghost use Rattle.json_form.specs.Values.{whole_of};
+
+    ghost reads = { λ s. whole_of 1 2 };
+
+    fn read(&self, alloc: Global, value: Json) -> Result<u8, DocFault> {
+        let cause = Whole::new(1, 2).read(alloc, value)?;
+        Ok(cause as u8)
+    }
+}
+
+const WORDS: [(&str, ServedWord); 9] = [
+    ("connect", ServedWord::Connect),
+    ("begin", ServedWord::Begin),
+    ("call", ServedWord::Call),
+    ("blocked", ServedWord::Blocked),
+    ("outcome", ServedWord::Outcome),
+    ("end", ServedWord::End),
+    ("close", ServedWord::Close),
+    ("refused", ServedWord::Refused),
+    ("crashed", ServedWord::Crashed),
+];
+
+impl Reader<Served> for ServedReader<'_> {
+    ghost reads = { λ s. one_served s.notes.now s.last };
+
+    #[tactic(auto, unfolding(crate::specs::Items::one_served))]
+    fn read(&self, alloc: Global, value: Json) -> Result<Served, DocFault> {
+        let word = head_from(alloc, &value, &WORDS)?;
+        self.by(alloc, value, word)
+    }
+}
+
+/// The items that these values say, in order, each behind the event of the one before.
+#[tactic(auto, using(crate::proofs::Stays::last_pushed))]
+fn each_served(alloc: Global, notes: &[Note], values: Vec<Json>) -> Result<Vec<Served>, DocFault>
+    ensures { GivesBy (λ v. v.items) result
+        (each_after (λ before. one_served notes.now (last_event before)) [] (items_view values.items)) }
+{
+    let mut found = Vec::with_capacity(alloc, values.len())?;
+    let mut last = 0;
+    for value in values {
+        let reader = ServedReader { notes, last };
+        let served = within_item(alloc, found.len(), reader.read(alloc, value))?;
+        last = served.event;
+        found.push(served)?;
+    }
+    Ok(found)
+}
+
+/// Reads what all sessions served, in order, beside these notes.
+#[derive(Clone, Copy)]
+pub(crate) struct ItemsReader<'a> {
+    pub(crate) notes: &'a Notes,
+}
+
+impl Reader<ServedItems> for ItemsReader<'_> {
+    ghost reads = { λ s. served_in s.notes.now };
+
+    fn read(&self, alloc: Global, value: Json) -> Result<ServedItems, DocFault> {
+        let values = parts_from(alloc, value)?;
+        let served = each_served(alloc, self.notes.as_slice(), values.items)?;
+        Ok(Listed::from_vec(served))
+    }
+}

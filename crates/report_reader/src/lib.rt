@@ -1,0 +1,16 @@
+//! Reading of reports from JSON values: the report of a document, or the first place at fault.
+#![tactic(auto)]
+
+mod answer;
+mod draw;
+mod entry;
+mod failure;
+mod go;
+mod item;
+mod note;
+mod part;
+mod report;
+mod request;
+mod told;
+
+pub use report::report_from;

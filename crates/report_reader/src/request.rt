@@ -1,0 +1,144 @@
+//! Readers of what the requests of clients were shown.
+ghost use Rattle.std.specs.Prelude.{◌≡◌};
+ghost use Rattle.serde_json.specs.View.{view};
+ghost use Rattle.json_form.specs.Faults.{Gives};
+ghost use Rattle.report_reader.specs.Requests.{shown_in, outcome_in, calls_in, outcomes_in, tried_in, request_in, transcript_in, clients_in};
+
+use crate::answer::AnswersReader;
+use crate::draw::DrawsReader;
+use crate::failure::FailedReader;
+use crate::part::{LtxidReader, LtxidsReader, SessionsReader};
+use json_form::{DocFault, Flag, Reader, fixed, list_from, object_with};
+use outage_schedule::{
+    Outcome, Outcomes, RequestReport, ShownCall, ShownCalls, Transcript, Transcripts, Tried,
+};
+use serde_json::Value as Json;
+use std::alloc::Global;
+use svc_values::Listed;
+
+/// Reads a call that was shown.
+struct ShownReader;
+
+impl Reader<ShownCall> for ShownReader {
+    ghost reads = { λ s. shown_in };
+
+    #[tactic(auto, unfolding(crate::specs::Requests::shown_in), using(json_form::proofs::Offered::others_stay))]
+    fn read(&self, alloc: Global, value: Json) -> Result<ShownCall, DocFault> {
+        let mut parts = fixed(alloc, value, 3)?;
+        let answers = parts.read(alloc, 0, &AnswersReader)?;
+        let draws = parts.read(alloc, 1, &DrawsReader)?;
+        let ltxid = parts.read(alloc, 2, &LtxidReader)?;
+        Ok(ShownCall {
+            answers,
+            draws,
+            ltxid,
+        })
+    }
+}
+
+/// Reads the calls that were shown, in order.
+struct CallsReader;
+
+impl Reader<ShownCalls> for CallsReader {
+    ghost reads = { λ s. calls_in };
+
+    fn read(&self, alloc: Global, value: Json) -> Result<ShownCalls, DocFault> {
+        let calls = list_from(alloc, value, &ShownReader)?;
+        Ok(Listed::from_vec(calls))
+    }
+}
+
+/// Reads an outcome that was told.
+struct OutcomeReader;
+
+impl Reader<Outcome> for OutcomeReader {
+    ghost reads = { λ s. outcome_in };
+
+    #[tactic(auto, unfolding(crate::specs::Requests::outcome_in), using(json_form::proofs::Offered::others_stay))]
+    fn read(&self, alloc: Global, value: Json) -> Result<Outcome, DocFault> {
+        let mut parts = fixed(alloc, value, 3)?;
+        let ltxid = parts.read(alloc, 0, &LtxidReader)?;
+        let committed = parts.read(alloc, 1, &Flag)?;
+        let completed = parts.read(alloc, 2, &Flag)?;
+        Ok(Outcome {
+            ltxid,
+            committed,
+            completed,
+        })
+    }
+}
+
+/// Reads outcomes, in order.
+struct OutcomesReader;
+
+impl Reader<Outcomes> for OutcomesReader {
+    ghost reads = { λ s. outcomes_in };
+
+    fn read(&self, alloc: Global, value: Json) -> Result<Outcomes, DocFault> {
+        let outcomes = list_from(alloc, value, &OutcomeReader)?;
+        Ok(Listed::from_vec(outcomes))
+    }
+}
+
+/// Reads the identifiers of each transaction.
+struct TriedReader;
+
+impl Reader<Tried> for TriedReader {
+    ghost reads = { λ s. tried_in };
+
+    fn read(&self, alloc: Global, value: Json) -> Result<Tried, DocFault> {
+        let tried = list_from(alloc, value, &LtxidsReader)?;
+        Ok(Listed::from_vec(tried))
+    }
+}
+
+const MEMBERS: [&str; 5] = ["calls", "failed", "outcomes", "sessions", "tried"];
+
+/// Reads what a request was shown.
+struct RequestReader;
+
+impl Reader<RequestReport> for RequestReader {
+    ghost reads = { λ s. request_in };
+
+    #[tactic(auto, unfolding(crate::specs::Requests::request_in), using(json_form::proofs::Offered::others_stay))]
+    fn read(&self, alloc: Global, value: Json) -> Result<RequestReport, DocFault> {
+        let mut members = object_with(alloc, value, &MEMBERS)?;
+        members.require(alloc, &MEMBERS)?;
+        let calls = members.read(alloc, "calls", &CallsReader)?;
+        let failed = members.read(alloc, "failed", &FailedReader)?;
+        let outcomes = members.read(alloc, "outcomes", &OutcomesReader)?;
+        let sessions = members.read(alloc, "sessions", &SessionsReader)?;
+        let tried = members.read(alloc, "tried", &TriedReader)?;
+        Ok(RequestReport {
+            calls,
+            failed,
+            outcomes,
+            sessions,
+            tried,
+        })
+    }
+}
+
+/// Reads the requests of one client, in order.
+struct TranscriptReader;
+
+impl Reader<Transcript> for TranscriptReader {
+    ghost reads = { λ s. transcript_in };
+
+    fn read(&self, alloc: Global, value: Json) -> Result<Transcript, DocFault> {
+        let requests = list_from(alloc, value, &RequestReader)?;
+        Ok(Listed::from_vec(requests))
+    }
+}
+
+/// Reads the requests of all clients, in order.
+pub(crate) struct ClientsReader;
+
+impl Reader<Transcripts> for ClientsReader {
+    ghost reads = { λ s. clients_in };
+
+    fn read(&self, alloc: Global, value: Json) -> Result<Transcripts, DocFault> {
+        let clients = list_from(alloc, value, &TranscriptReader)?;
+        Ok(Listed::from_vec(clients))
+    }
+}
