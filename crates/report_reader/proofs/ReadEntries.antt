@@ -1,5 +1,5 @@
 -- What entries that were read keep to.
-use Rattle.std.proofs.Common.{◌≡◌, ℕ, List, [], true, Result, Ok, refl, sym, subst, ap, ◌∙◌, codes, Bool}
+use Rattle.std.proofs.Common.{◌≡◌, ℕ, List, [], true, Result, Ok, subst, codes, Bool}
 use Rattle.std.specs.Prelude.{⊤}
 use Rattle.std.specs.List.{list_all}
 use Rattle.serde_json.specs.Data.{Data}

@@ -1,5 +1,5 @@
 -- What a report that was read keeps to.
-use Rattle.std.proofs.Common.{◌≡◌, ℕ, ◌^◌, ◌-◌, List, ◌++◌, [], ◌∷◌, Bool, true, Option, Result, Ok, Err, refl, sym, subst, ap, ◌∙◌, codes}
+use Rattle.std.proofs.Common.{◌≡◌, ◌^◌, ◌-◌, List, Bool, true, Result, Ok, Err, subst, codes}
 use Rattle.std.specs.Prelude.{IfOk}
 use Rattle.std.specs.List.{list_all}
 use Rattle.serde_json.specs.Data.{Data}
@@ -7,14 +7,10 @@ use Rattle.json_form.specs.declared.fault.DocFault.{DocFault}
 use Rattle.json_form.specs.Faults.{Fault, Gives, ◌>>=◌}
 use Rattle.json_form.specs.Values.{whole_of}
 use Rattle.json_form.specs.Objects.{Named, member_in, optional}
-use Rattle.svc_values.specs.declared.entry.Entry.{Entry}
 use Rattle.outage_schedule.specs.declared.document.Document.{Document}
-use Rattle.outage_schedule.specs.declared.item.Served.{Served}
 use Rattle.outage_schedule.specs.declared.note.Note.{Note}
 use Rattle.outage_schedule.specs.declared.report.Report.{Report}
-use Rattle.outage_schedule.specs.declared.report.ReportTable.{ReportTable}
-use Rattle.json_form.proofs.Offered.{after, ok_is, given}
-use Rattle.report_reader.specs.declared.report.Front.{Front}
+use Rattle.json_form.proofs.Offered.{after, ok_is}
 use Rattle.report_reader.specs.declared.report.Middle.{Middle}
 use Rattle.report_reader.specs.declared.report.Back.{Back}
 use Rattle.report_reader.specs.Notes.{notes_in}

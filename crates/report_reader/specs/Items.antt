@@ -9,7 +9,6 @@ use Rattle.json_form.specs.Faults.{Fault, ◌>>=◌, here}
 use Rattle.json_form.specs.Values.{items_of, bool_of, whole_of}
 use Rattle.json_form.specs.Texts.{word_of, head_of}
 use Rattle.json_form.specs.Arrays.{Placed, placed, each_after, list_of, fixed, part}
-use Rattle.svc_values.specs.declared.entry.SessionId.{SessionId}
 use Rattle.outage_schedule.specs.declared.item.Item.{Item}
 use Rattle.outage_schedule.specs.declared.item.Item.TheVariants as item
 use Rattle.outage_schedule.specs.declared.item.Served.{Served}

@@ -1,5 +1,5 @@
 -- What the requests of clients were shown.
-use Rattle.std.specs.Prelude.{ℕ, List, [], ◌∷◌, Bool, Result, Ok, codes}
+use Rattle.std.specs.Prelude.{ℕ, List, [], ◌∷◌, Result, Ok, codes}
 use Rattle.serde_json.specs.Data.{Data}
 use Rattle.json_form.specs.Faults.{Fault, ◌>>=◌}
 use Rattle.json_form.specs.Values.{bool_of}

@@ -7,6 +7,7 @@ mod entry;
 mod failure;
 mod go;
 mod item;
+pub mod laws;
 mod note;
 mod part;
 mod report;
