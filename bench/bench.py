@@ -120,6 +120,33 @@ def beside_document(reads, every, rows):
     )
 
 
+def sums_document(sums, rows):
+    """One transaction that sums a column of a whole table so often: what a scan costs for each row."""
+    return one_request([accounts(rows)], [[["sum", "acc", "bal"]] for _ in range(sums)] + [[["commit"]]])
+
+
+def groups(rows):
+    """A table whose rows stand in groups of 32 with one value of a column."""
+    return {"name": "t", "columns": [["id", "int"], ["of", "int"]], "rows": [[key, key // 32] for key in range(rows)]}
+
+
+def selects_document(selects, rows, column):
+    """Selects of 32 rows by a column that is no key, or of one row by the key: what does finding them cost?"""
+    found = lambda n: n % rows if column == "id" else n % (rows // 32)
+    return one_request([groups(rows)], [[["select", "t", column, "eq", found(n)]] for n in range(selects)] + [[["commit"]]])
+
+
+def shared_document(readers, rounds, rows):
+    """So many clients that each read a whole table, change a row of it and commit, each beside the others: one of them commits in
+    each round, and the others conflict."""
+    call = [["count", "acc"], ["update", "acc", 0, "bal", "plus", 1]]
+    scripts = [{"requests": [{"calls": [call, [["commit"]]]}] * rounds} for _ in range(readers)]
+    step = lambda client: [["go", client], ["serve", client], ["serve", client]]
+    schedule = [event for _ in range(3 * rounds) for client in range(1, readers + 1) for event in step(client)]
+    pool = {"pool": {"max": readers}}
+    return compact({"service": pool, "tables": [accounts(rows)], "clients": scripts, "schedule": schedule})
+
+
 def transfers(clients, calls):
     """So many clients that each submit so many transactions of one call."""
     call = lambda client, n: [["update", "acc", (client * calls + n) % 64, "bal", "plus", 1], ["commit"]]
@@ -193,6 +220,27 @@ def openings_document(openings, rows):
     return compact({"tables": [accounts(rows)], "clients": [], "schedule": schedule})
 
 
+def stopped_openings_document(openings, rows):
+    """A store whose openings stop before they are stored, so often: what such an opening costs."""
+    schedule = [["crash", 0, 0, 0]] + [["upcrash", 0, 0]] * openings + [["up"]]
+    return compact({"tables": [accounts(rows)], "clients": [], "schedule": schedule})
+
+
+def limits_document(events, size):
+    """64 clients, 2,048 calls, so many events, and rows up to about so many bytes: all limits at once."""
+    traffic = Traffic(64)
+    while len(traffic.events) < events:
+        for _ in range(8):
+            traffic.round()
+            traffic.cut()
+        traffic.crash()
+    schedule = traffic.events[:events]
+    left = size - len(compact(schedule)) - 200_000
+    wide = json.loads(long_document(left))["tables"][:31]
+    pool = {"pool": {"max": 64}}
+    return compact({"service": pool, "tables": [accounts(64), *wide], "clients": transfers(64, 32), "schedule": schedule})
+
+
 def long_document(size):
     """A document of about so many bytes, nearly all of them texts of rows in 32 tables."""
     rows = size // 32 // 76
@@ -262,9 +310,16 @@ CASES = {
     "reads": lambda: document_case("reads of a whole table in one transaction", reads_document, [(512, 1_000), (512, 10_000)]),
     "whole": lambda: document_case("a whole-table read, an update and a commit", commits_document, [(512, 1_000), (512, 10_000)]),
     "beside": lambda: document_case("reads beside commits of others", beside_document, [(512, 64, 10_000), (512, 1, 10_000)]),
+    "sums": lambda: document_case("sums of a whole table", sums_document, [(512, 1_000), (512, 10_000)]),
+    "selects": lambda: document_case("selects of 32 rows", selects_document, [(1_000, 10_000, "of"), (1_023, 1_000, "of")]),
+    "keys": lambda: document_case("selects of one row by its key", selects_document, [(1_000, 10_000, "id"), (1_023, 1_000, "id")]),
+    "shared": lambda: document_case("sessions that read one table and commit", shared_document, [(8, 32, 1_000), (8, 32, 10_000)]),
     "events": lambda: document_case("events of a schedule", events_document, [(1_000,), (10_000,), (100_000,)], 5),
     "crashes": lambda: document_case("calls of clients under crashes", crashes_document, [(16,), (64,)], 5),
     "openings": lambda: document_case("openings of a store", openings_document, [(200, 5_000), (2_000, 5_000)]),
+    "stopped": lambda: document_case("openings that stop", stopped_openings_document, [(1_000, 64), (4_000, 64)]),
+    "alternations": lambda: document_case("crashes and openings of a small store", openings_document, [(2_000, 64), (8_000, 64)]),
+    "limits": lambda: document_case("all limits at once", limits_document, [(10_000, 1_000_000), (100_000, 8_300_000)]),
     "answers": lambda: program_case("wire_bench", [["answers", "100000"], ["answers", "1000000"]], "answer"),
     "stream": lambda: program_case("wire_bench", [["stream", "1000000"], ["stream", "4000000"]], "byte"),
     "commits": lambda: program_case("log_bench", [["10000"], ["100000"]], "commit"),
