@@ -60,7 +60,7 @@ line_stores core disk line log end (Ok done) fits adds = record {
   source = refl;
   grants = refl;
 }
-line_stores core disk line log end (Err log_fault.NoMemory) fits adds = record { records = kept.Alert line ∷ []; few = omega arith; moments = adds.any_moment }
+line_stores core disk line log end (Err log_fault.NoMemory) fits adds = record { records = kept.Alert line ∷ []; few = omega arith; moments = adds.any_moment; faults = adds.cause.uncounted (λ e. cc) }
 line_stores core disk line log end (Err log_fault.Stopped) fits adds = halted_one core.log log disk end (kept.Alert line) fits.log adds
 line_stores core disk line log end (Err (log_fault.Damaged place)) fits adds = absurd adds.goes_on
 
@@ -93,7 +93,7 @@ block_stores core disk x book log end (Ok done) fits may says adds =
       source = refl;
       grants = refl;
     }
-block_stores core disk x book log end (Err log_fault.NoMemory) fits may says adds = record { records = kept.Blocked x ∷ []; few = omega arith; moments = adds.any_moment }
+block_stores core disk x book log end (Err log_fault.NoMemory) fits may says adds = record { records = kept.Blocked x ∷ []; few = omega arith; moments = adds.any_moment; faults = adds.cause.uncounted (λ e. cc) }
 block_stores core disk x book log end (Err log_fault.Stopped) fits may says adds = halted_one core.log log disk end (kept.Blocked x) fits.log adds
 block_stores core disk x book log end (Err (log_fault.Damaged place)) fits may says adds = absurd adds.goes_on
 
@@ -141,7 +141,7 @@ commit_stores core disk entry tables commits book log end (Ok done) fits may say
       source = refl;
       grants = refl;
     }
-commit_stores core disk entry tables commits book log end (Err log_fault.NoMemory) fits may says wrote counts rises adds = record { records = kept.Commit entry ∷ []; few = omega arith; moments = adds.any_moment }
+commit_stores core disk entry tables commits book log end (Err log_fault.NoMemory) fits may says wrote counts rises adds = record { records = kept.Commit entry ∷ []; few = omega arith; moments = adds.any_moment; faults = adds.cause.uncounted (λ e. cc) }
 commit_stores core disk entry tables commits book log end (Err log_fault.Stopped) fits may says wrote counts rises adds = halted_one core.log log disk end (kept.Commit entry) fits.log adds
 commit_stores core disk entry tables commits book log end (Err (log_fault.Damaged place)) fits may says wrote counts rises adds = absurd adds.goes_on
 

@@ -149,11 +149,12 @@ lacked_at_once before after same = record {
   reservations = [];
   few = omega arith;
   moments = subst (λ (d : DiskState). Meanwhile before.disk d (IsGrown before.disk.now.seen [])) (sym same) (gained_none before.disk).moments;
+  faults = ap (λ (d : DiskState). d.faults) same;
 }
 
 -- behind a reservation
-pub lacked_behind : (before after : AtDesk) (name : List ℕ) (upto : ℤ) → Meanwhile before.disk after.disk (IsGrown before.disk.now.seen (kept.Reserved (reservation_of name upto) ∷ [])) → HasLackedAt before after
-lacked_behind before after name upto moments = record { reservations = reservation_of name upto ∷ []; few = omega arith; moments = moments }
+pub lacked_behind : (before after : AtDesk) (name : List ℕ) (upto : ℤ) → Meanwhile before.disk after.disk (IsGrown before.disk.now.seen (kept.Reserved (reservation_of name upto) ∷ [])) → after.disk.faults ≡ before.disk.faults → HasLackedAt before after
+lacked_behind before after name upto moments faults = record { reservations = reservation_of name upto ∷ []; few = omega arith; moments = moments; faults = faults }
 
 -- the store was stopped in a reservation
 pub halted_in : (now : ℕ) (before after : AtDesk) (asked : DrawKind) (name : List ℕ) (upto : ℤ) (between : Opening) (same : List Draw)
@@ -189,6 +190,7 @@ module _ (opening : Opening) (name : List ℕ) (upto : ℤ) (before log : Log) (
       rw same (record {
         same = refl;
         moments = adds.any_moment;
+        faults = adds.cause.uncounted (λ e. cc);
         prepared = record { ready = adds.goes_on; journal = prepared.journal; reads = reads_same disk.now.seen end.now.seen prepared.journal prepared.reads (adds.refused refl); source = prepared.source };
       })
   reserve_fault (Err log_fault.Stopped) error e adds =

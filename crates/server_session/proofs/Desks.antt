@@ -1,5 +1,5 @@
 -- Draws at a desk that holds borrows.
-use Rattle.std.proofs.Common.{◌≡◌, ◌≤◌, ◌+◌, inl, inr, ℕ, Bool, true, false, List, [], ◌∷◌, ◌++◌, refl, sym, ◌∙◌, subst, arith, length-append}
+use Rattle.std.proofs.Common.{◌≡◌, ◌≤◌, ◌+◌, inl, inr, ℕ, Bool, true, false, List, [], ◌∷◌, ◌++◌, refl, sym, ap, ◌∙◌, subst, arith, length-append}
 use Rattle.std.proofs.lemmas.List.{length-map}
 use Rattle.std.specs.Prelude.{IsTrue, IfOk, IfErr, OnOk, Option, Some, None, Result, Ok, Err}
 use Rattle.std.specs.Option.{option_map}
@@ -86,6 +86,7 @@ module _ (D : Type 0) (state : D → DiskState) where
         records = reserving dealt.reservations;
         few = simp length-map (omega (arith, dealt.few, given_few ground names given more asked));
         moments = subst (λ (d : Desk D). Meanwhile (state a.disk.now) (state d.disk.now) (IsGrown (state a.disk.now).now.seen (reserving dealt.reservations))) (sym same) dealt.gained.moments;
+        faults = ap (λ (d : Desk D). (state d.disk.now).faults) same ∙ dealt.gained.faults;
       }
   lacked_by ground names given more a between b prepared drew asked (inr lacked) =
       let dealt = (all_dealt given a between prepared drew).1 in
@@ -94,6 +95,7 @@ module _ (D : Type 0) (state : D → DiskState) where
         records = reserving dealt.reservations ++ reserving at.reservations;
         few = simp (length-append, length-map) (omega (arith, dealt.few, at.few, given_few ground names given more asked));
         moments = grown_then (state a.disk.now) (state between.disk.now) (state b.disk.now) (state a.disk.now).now.seen (reserving dealt.reservations) (reserving at.reservations) dealt.gained.moments dealt.gained.added at.moments;
+        faults = at.faults ∙ dealt.gained.faults;
       }
 
   -- the store was stopped in a draw

@@ -80,7 +80,7 @@ module _ (now : ℕ) (asked : DrawKind) (opening : Opening) (left : List Draw) (
     pub answered_unreserved : (error : ServeFault) (later : Opening) (last : Log) (end : DiskState) → Reserves name upto (Err error) between disk later last end
         → HasAnswered now (desk_at opening left log disk) asked (Err error) (desk_at later same last end)
     answered_unreserved fault.NoMemory later last end lacked = record {
-      drawn = lacked_behind (desk_at opening left log disk) (desk_at later same last end) name upto lacked.moments;
+      drawn = lacked_behind (desk_at opening left log disk) (desk_at later same last end) name upto lacked.moments lacked.faults;
       names = same_names later between lacked.same ∙ names_between;
       ready = λ live. lacked.prepared;
     }
@@ -98,7 +98,7 @@ module _ (now : ℕ) (asked : DrawKind) (opening : Opening) (left : List Draw) (
       -- and then the source lacked memory
       pub answered_lacked_behind : (after : Opening) (rest : List Draw) → after ≡ later → HasAnswered now (desk_at opening left log disk) asked (Err fault.NoMemory) (desk_at after rest last end)
       answered_lacked_behind after rest is = record {
-        drawn = lacked_behind (desk_at opening left log disk) (desk_at after rest last end) name upto reserved.gained.moments;
+        drawn = lacked_behind (desk_at opening left log disk) (desk_at after rest last end) name upto reserved.gained.moments reserved.gained.faults;
         names = same_names after later is ∙ names_reserved;
         ready = λ live. subst (λ (o : Opening). IsPrepared o last end) (sym is) reserved.prepared;
       }

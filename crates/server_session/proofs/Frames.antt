@@ -124,7 +124,7 @@ module _ (line : List ℕ) (replay : Bool) (marks : List Draw) (now : ℕ) (unma
 
 -- a record was stored, and then there was no memory
 pub lacks_behind : (most : ℕ) (core : Core) (disk : DiskState) (later : Core) (end : DiskState) (line : List ℕ) → 1 ≤ most → HasStored (kept.Alert line) core disk later end → HasLacked most disk end
-lacks_behind most core disk later end line le stored = record { records = kept.Alert line ∷ []; few = omega (arith, le); moments = stored.gained.moments }
+lacks_behind most core disk later end line le stored = record { records = kept.Alert line ∷ []; few = omega (arith, le); moments = stored.gained.moments; faults = stored.gained.faults }
 
 -- ---- a line, by what the code makes of it
 

@@ -86,4 +86,4 @@ serves_fault step most fault.Stopped old core disk new other later end served = 
 
 -- nothing was stored
 pub lacked_nothing : (most : ℕ) (disk : DiskState) → HasLacked most disk disk
-lacked_nothing most disk = record { records = []; few = omega arith; moments = (gained_none disk).moments }
+lacked_nothing most disk = record { records = []; few = omega arith; moments = (gained_none disk).moments; faults = refl }

@@ -344,6 +344,7 @@ module _ (statements : List Statement) (commit replay : Bool) (marks : List Draw
       records = reserving over.dealt.reservations ++ served.records;
       few = simp (length-append, length-map) (omega (arith, few_here, served.few));
       moments = grown_then disk desk.disk end disk.now.seen (reserving over.dealt.reservations) served.records over.dealt.gained.moments over.dealt.gained.added served.moments;
+      faults = served.faults ∙ over.dealt.gained.faults;
     }
     committed_on (Err fault.Stopped) new later end ends served = record {
       records = reserving over.dealt.reservations ++ served.records;
@@ -356,7 +357,7 @@ module _ (statements : List Statement) (commit replay : Bool) (marks : List Draw
 
     -- no memory behind the run
     pub lacked_on : HasLacked most disk desk.disk
-    lacked_on = record { records = reserving over.dealt.reservations; few = simp length-map (omega (arith, few_here)); moments = over.dealt.gained.moments }
+    lacked_on = record { records = reserving over.dealt.reservations; few = simp length-map (omega (arith, few_here)); moments = over.dealt.gained.moments; faults = over.dealt.gained.faults }
 
   -- ---- the run was ended
 

@@ -57,6 +57,7 @@ pub record HasReserved (name : List ℕ) (upto : ℤ) (opening : Opening) (disk 
 pub record HasLackedReservation (opening : Opening) (disk : DiskState) (later : Opening) (log : Log) (end : DiskState) (name : List ℕ) (upto : ℤ) : Type 0 where
   pub same : later ≡ opening
   pub moments : Meanwhile disk end (IsGrown disk.now.seen (kept.Reserved (reservation_of name upto) ∷ []))
+  pub faults : end.faults ≡ disk.faults
   pub prepared : IsPrepared later log end
 
 -- It was stopped.
@@ -108,11 +109,12 @@ pub record HasHaltedAt (now : ℕ) (before : AtDesk) (asked : DrawKind) (after :
   pub wanted : draw_of before.opening before.left asked now ≡ Some (record { answer = drawn.Reserve name upto; opening = before.opening; kept = before.left })
   pub halted : HasHalted [] (kept.Reserved (reservation_of name upto)) before.disk after.disk
 
--- There was no memory, with a reservation stored before it or not.
+-- There was no memory, with a reservation stored before it or not. No fault of the disk is told so.
 pub record HasLackedAt (before after : AtDesk) : Type 0 where
   pub reservations : List Reservation
   pub few : length reservations ≤ 1
   pub moments : Meanwhile before.disk after.disk (IsGrown before.disk.now.seen (reserving reservations))
+  pub faults : after.disk.faults ≡ before.disk.faults
 
 -- what a draw came to; a log that was stopped before it tells nothing
 abbrev pub Deals : ℕ → AtDesk → Drew → AtDesk → Type 0

@@ -95,11 +95,12 @@ pub record HasStopped (step : Plain → Sess → Plain → Sess → Telling → 
   pub steps : StopsAtFronts step old core disk (records ++ last ∷ [])
 
 -- A step for which there was no memory: a crash at any moment leaves a front of the records that it
--- would have added.
+-- would have added. No fault of the disk is told so.
 pub record HasLacked (most : ℕ) (disk end : DiskState) : Type 0 where
   pub records : List Record
   pub few : length records ≤ most
   pub moments : Meanwhile disk end (IsGrown disk.now.seen records)
+  pub faults : end.faults ≡ disk.faults
 
 -- by the answer
 abbrev pub Serves : (step : Plain → Sess → Plain → Sess → Telling → Type 0) → ℕ → Result (Option Down) ServeFault → SeenSession → Core → DiskState → SeenSession → Core → DiskState → Type 0

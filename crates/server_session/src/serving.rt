@@ -1,19 +1,17 @@
 //! A frame, served.
 ghost use Rattle.std.specs.Prelude.{◌≡◌, ◌+◌, true, false, OnErr, IsErrOf};
-ghost use Rattle.svc_values.specs.declared.frame.Up.TheVariants as up;
-ghost use Rattle.svc_values.specs.Calls.{IsMade, sequences_in};
+ghost use Rattle.svc_values.specs.Calls.{sequences_in};
 ghost use Rattle.canon_bytes.specs.UpBytes.{IsMadeUp};
-ghost use Rattle.server_model.specs.Sessions.{Begun};
 ghost use Rattle.server_model.specs.ServiceCalls.{may_store};
 ghost use Rattle.server_session.specs.Fits.{Fits, Belongs};
 ghost use Rattle.server_session.specs.SeenSession.{is_alive};
-ghost use Rattle.server_session.specs.Serving.{Serves, called_as, served_as};
+ghost use Rattle.server_session.specs.Serving.{Serves, served_as};
 
 use crate::session::Session;
 use crate::shared::Core;
 use disk_model::Disk;
 use server_model::ServeFault;
-use svc_values::{Call, Down, Draws, Up};
+use svc_values::{Call, Down, Up};
 
 impl Session {
     /// Serves one frame at a tick, and gives the frame that answers it: none for Begin, End and Close.

@@ -1,12 +1,11 @@
 //! A session, and what it does with frames that touch no store.
-ghost use Rattle.std.specs.Prelude.{◌≡◌, [], ℕ, IsTrue, OnOk, OnErr};
+ghost use Rattle.std.specs.Prelude.{◌≡◌, [], OnOk};
 ghost use Rattle.svc_values.specs.Identifiers.{session_of};
-ghost use Rattle.svc_values.specs.declared.frame.Up.TheVariants as up;
 ghost use Rattle.svc_values.specs.declared.frame.Down.TheVariants as down;
 ghost use Rattle.table_txn.specs.Readings.{AreReadings};
 ghost use Rattle.table_txn.specs.Transactions.{empty};
 ghost use Rattle.server_model.specs.Sessions.{New, Idle, Begun, Ended, made};
-ghost use Rattle.server_model.specs.Serve.{is_out_of_order as is_out_of_order_def, is_serving};
+ghost use Rattle.server_model.specs.Serve.{is_out_of_order as is_out_of_order_def};
 ghost use Rattle.server_session.specs.SeenSession.{begins, begun_so, ended_so, is_alive, sess_of};
 
 use crate::life::Life;

@@ -28,6 +28,7 @@ use Rattle.server_session.specs.Adding.{IsLeftOf}
 use Rattle.server_session.specs.Plain.{IsStored}
 use Rattle.server_session.specs.SeenSession.{SeenSession as Session, sess_of}
 use Rattle.server_session.specs.Serving.{HasStopped, served_as}
+use Rattle.server_session.proofs.Offered.{stopped_leaves}
 use Rattle.service_calls.specs.Kept.{HaveOneBase}
 use Rattle.service_core.specs.declared.notes.Notes.{Notes}
 use Rattle.service_core.specs.Held.{Held}
@@ -62,7 +63,7 @@ module _ (grants : Grants) (disk end : DiskState) (core : Core) (held : Held) (n
   same_incarnation : (image : List ℕ) (left : MayLeave end.now image) → (grew_in image left).later.incarnation ≡ core.source.incarnation
   same_incarnation image left =
       let beside = has_plain core disk up.fits in
-      let steps = stopped.steps beside.plain reads beside.stands noted image left in
+      let steps = stopped_leaves (served_as frame now) (1 + sequences_in frame) session core disk end stopped beside.plain reads beside.stands noted image left in
       let stays = serve_stays beside.plain (sess_of session reads) now frame steps.0 (ended (sess_of session reads)) Stopped steps.1.1 in
       let stored : IsStored steps.0 (grew_in image left).later = subst (λ (r : Result Journal ℕ). IfOk r (IsStored steps.0)) (grew_in image left).reads steps.1.0 in
       sym stored.source.incarnation ∙ stays.incarnation ∙ ap (λ (o : Opening). o.incarnation) beside.stands.opening
@@ -96,7 +97,7 @@ module _ (grants : Grants) (disk end : DiskState) (core : Core) (held : Held) (n
 
     stepped : (image : List ℕ) → MayLeave end.now image → Stepped image
     stepped image left =
-        let steps = stopped.steps ready.server.core ready.stands.own.reads ready.stands.stands.plain ready.stands.own.noted image left in
+        let steps = stopped_leaves (served_as frame now) (1 + sequences_in frame) session core disk end stopped ready.server.core ready.stands.own.reads ready.stands.stands.plain ready.stands.own.noted image left in
         record { after = steps.0; stored = steps.1.0; step = steps.1.1 }
 
     stays : (image : List ℕ) (one : Stepped image) → StaysIn ready.server.core old_sess one.after (ended old_sess)

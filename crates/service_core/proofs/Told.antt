@@ -25,6 +25,7 @@ use Rattle.server_session.specs.Fits.{Belongs}
 use Rattle.server_session.specs.Plain.{IsStored, IsPlain}
 use Rattle.server_session.specs.SeenSession.{begins}
 use Rattle.server_session.specs.Storing.{HasStoppedTelling, HasTold}
+use Rattle.server_session.proofs.Offered.{telling_leaves}
 use Rattle.service_calls.specs.Kept.{HaveOneBase}
 use Rattle.service_core.specs.declared.notes.Notes.{Notes}
 use Rattle.service_core.specs.Held.{Held}
@@ -153,7 +154,7 @@ module _ (grants : Grants) (disk end : DiskState) (core : Core) (held : Held) (n
     blocks plain _ (BlockStops stored judged may) = may
 
     halting : (plain : Plain) (image : List ℕ) → IsPlain plain core disk → MayLeave end.now image → Halting plain image
-    halting plain image is left = let steps = stopped.steps plain is image left in record { after = steps.0; may = blocks plain steps.0 steps.1.1; outcomes = steps.1.1; stored = steps.1.0 }
+    halting plain image is left = let steps = telling_leaves x core disk end stopped plain is image left in record { after = steps.0; may = blocks plain steps.0 steps.1.1; outcomes = steps.1.1; stored = steps.1.0 }
 
     stored_in : (image : List ℕ) (left : MayLeave end.now image) (plain : Plain) (one : Halting plain image) → IsStored one.after (grew_in image left).later
     stored_in image left plain one = subst (λ (r : Result Journal ℕ). IfOk r (IsStored one.after)) (grew_in image left).reads one.stored

@@ -1,5 +1,5 @@
 //! Outcomes that are asked for from outside.
-ghost use Rattle.std.specs.Prelude.{◌≡◌, ◌<◌, ◌^◌, false, true};
+ghost use Rattle.std.specs.Prelude.{◌≡◌, ◌<◌, ◌^◌, IsErrOf, false, true};
 ghost use Rattle.svc_values.specs.Identifiers.{IsLtxid};
 ghost use Rattle.server_model.specs.Outcomes.{down_of};
 ghost use Rattle.server_model.specs.ServiceCalls.{AskedOne, IsAnswer, StoppedAsk};
@@ -35,6 +35,7 @@ impl<D: StopDisk> OneService<D> {
         requires identifier { IsLtxid x.now }
         ensures asked { Ends result (λ told. Goes (SeesIn self.old) (SeesIn self.new) (λ old new. AskedOne old x.now told new)) (Goes (SeesIn self.old) (SeesIn self.new) (λ old new. StoppedAsk old x.now (LeavesIn self.new) new)) }
         ensures base { NotMemory result (HaveOneBase (bytes_in self.old) (bytes_in self.new)) }
+        ensures uncounted { IsErrOf result ServeFault.NoMemory → self.new.disk.faults ≡ self.old.disk.faults }
     {
         self.notes.calls += 1;
         let mut core = match self.core.take() {

@@ -1,6 +1,5 @@
 //! One service on one store.
 ghost use Rattle.std.specs.Prelude.{◌≡◌, ◌<◌, ◌^◌, None, IfOk, is_some, false, true};
-ghost use Rattle.server_model.specs.Seen.{Seen};
 ghost use Rattle.server_model.specs.ServiceCalls.{Connected, Reaped, with_stop};
 ghost use Rattle.service_calls.specs.Kept.{Goes, HaveOneBase};
 ghost use Rattle.service_core.specs.Seeing.{SeesIn, bytes_in, state_in};

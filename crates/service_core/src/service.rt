@@ -1,5 +1,5 @@
 //! One service on one store keeps to what is asked of a service.
-ghost use Rattle.std.specs.Prelude.{◌≡◌, ◌<◌, ◌^◌};
+ghost use Rattle.std.specs.Prelude.{◌<◌};
 
 use crate::one::OneService;
 use commit_log::Journal;

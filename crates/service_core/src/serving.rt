@@ -1,9 +1,9 @@
 //! A frame, served by its connection's session.
-ghost use Rattle.std.specs.Prelude.{◌≡◌, ◌≢◌, ◌+◌, ◌<◌, ◌^◌, None, Some, IfOk, IfSome, false};
+ghost use Rattle.std.specs.Prelude.{◌≡◌, ◌≢◌, ◌+◌, ◌<◌, ◌^◌, None, Some, IfOk, IfSome, IsErrOf, false};
 ghost use Rattle.svc_values.specs.Identifiers.{ltxid_of};
 ghost use Rattle.canon_bytes.specs.UpBytes.{IsMadeUp};
 ghost use Rattle.canon_bytes.specs.DownBytes.{IsMadeDown};
-ghost use Rattle.server_model.specs.Seen.{Seen, Lives};
+ghost use Rattle.server_model.specs.Seen.{Lives};
 ghost use Rattle.server_model.specs.ServiceCalls.{ServedOne};
 ghost use Rattle.service_calls.specs.Answers.{IfTold, NotMemory};
 ghost use Rattle.service_calls.specs.Kept.{Goes, HaveOneBase};
@@ -80,6 +80,7 @@ impl<D: StopDisk> OneService<D> {
         ensures made { IfOk result (λ told. IfSome told IsMadeDown) }
         ensures served { IfTold result (λ told. Goes (SeesIn self.old) (SeesIn self.new) (λ old new. ServedOne old connection now frame.now told (LeavesIn self.new) new)) }
         ensures base { NotMemory result (HaveOneBase (bytes_in self.old) (bytes_in self.new)) }
+        ensures uncounted { IsErrOf result ServeFault.NoMemory → self.new.disk.faults ≡ self.old.disk.faults }
     {
         self.notes.calls += 1;
         self.notes.kept = self.disk.left();
