@@ -43,7 +43,7 @@ fn has_set(rt: &impl Abort, alloc: Global, settings: &Settings) -> bool {
 fn begins(rt: &impl Abort, alloc: Global, frame: &Up, set: bool) -> bool {
     match frame {
         Up::Begin { settings } if set => has_set(rt, alloc, settings),
-        Up::Begin { settings } => settings.is_empty(),
+        Up::Begin { settings } => settings.len() == 0,
         _ => false,
     }
 }

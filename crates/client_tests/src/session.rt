@@ -31,5 +31,5 @@ fn settings_hold_until_the_request_ends(rt: HostRuntime) {
     state.begin(given);
     assert!(rt; state.get(&lang).is_none() && has(&state, &zone, 3));
     state.reset();
-    assert!(rt; state.settings.is_empty());
+    assert!(rt; state.settings.len() == 0);
 }

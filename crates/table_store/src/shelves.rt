@@ -10,7 +10,7 @@ ghost use Rattle.table_store.specs.Stored.{AreApart};
 use crate::shelf::Shelf;
 use std::alloc::Global;
 use std::collections::BTreeMap;
-use svc_values::{Name, NoMemory, Row, Schema, TryCopy, Value, schema_of};
+use svc_values::{Name, NoMemory, Row, Schema, Value, schema_of};
 
 /// The rows that a table begins with. The first value of a row is its key.
 #[derive(Drop)]
@@ -75,7 +75,7 @@ pub(crate) fn emptied(
         let name = &schemas[at].name;
         let rows = taken(alloc, shelves, name, &schemas[at + 1..])?;
         all.push(TableRows {
-            table: name.copy(alloc)?,
+            table: name.copied(),
             rows,
         })?;
     }
@@ -139,7 +139,7 @@ fn index_by(
         None => {
             let mut shelf = Shelf::new(alloc)?;
             shelf.index_by(column)?;
-            shelves.insert(table.copy(alloc)?, shelf)?;
+            shelves.insert(table.copied(), shelf)?;
             Ok(())
         }
     }
@@ -186,7 +186,7 @@ pub(crate) fn put(
         None => {
             let mut rows = Shelf::new(alloc)?;
             rows.put(key, row)?;
-            shelves.insert(table.copy(alloc)?, rows)?;
+            shelves.insert(table.copied(), rows)?;
             Ok(())
         }
     }

@@ -7,7 +7,7 @@ use Rattle.std.specs.Option.{is_some, option_map, option_or}
 use Rattle.std.specs.declared.cmp.Ordering.TheVariants.{Less}
 use Rattle.std.specs.Ordering.{is_eq}
 use Rattle.std.specs.Str.{bytes_eq}
-use Rattle.std.specs.BTreeMap.{BTreeMap, is_at as is_key}
+use Rattle.std.specs.BTreeMap.{is_at as is_key}
 use Rattle.std.specs.Map.{keys_of, lookup, values_of}
 use Rattle.std.proofs.lemmas.Bool.{cases_Bool}
 use Rattle.std.proofs.lemmas.Map.Entries.{option_filter}
@@ -21,7 +21,7 @@ use Rattle.svc_values.specs.Same.{same_value}
 use Rattle.svc_values.specs.SameLaws.{bytes_decide, same_value_decides}
 use Rattle.svc_values.specs.Tables.{is_at, rows_at, with_writes, AreTables}
 use Rattle.svc_values.specs.Tests.{selected, value_meets}
-use Rattle.svc_values.proofs.Offered.{value_cmp_total, AreTables-filter, AreTables-with_writes}
+use Rattle.svc_values.proofs.Offered.{AreTables-filter, AreTables-with_writes}
 use Rattle.stmt_meaning.specs.Effects.{limited, first_of}
 use Rattle.stmt_meaning.specs.Meaning.{seen_at}
 use Rattle.table_store.specs.Given.{keyed_rows}
@@ -35,7 +35,6 @@ use Rattle.table_txn.proofs.Picks.{Up, pick_all, up_of}
 use Rattle.table_txn.proofs.ScanSteps.{untouched}
 
 -- ---- the rows of a table by their keys
-
 
 none_above : (key : Value) (rows : List PlainRow) → AllByRecursion (λ s. value_cmp key s.key ≡ Less) rows → keyed_of (map (λ one. (one.key, one.row)) rows) key ≡ None
 none_above key [] above = refl

@@ -46,7 +46,7 @@ pub(crate) fn put(
         None => {
             let mut keys = BTreeMap::new(alloc);
             put_key(alloc, &mut keys, key, at)?;
-            latest.insert(table.copy(alloc)?, keys)?;
+            latest.insert(table.copied(), keys)?;
             Ok(())
         }
     }

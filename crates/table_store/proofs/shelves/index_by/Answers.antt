@@ -14,11 +14,11 @@ returns-in-Some-clause-rows c =
 
 pub returns-in_ok-insert-in-None-clause-shelved : goal.returns-in_ok-insert-in-None-clause-shelved
 returns-in_ok-insert-in-None-clause-shelved c =
-    let put = rw (c.get_mut.follows.holds-at-none, c.in_ok-copy-in-None.ensures) at c.in_ok-insert-in-None.ensures.entries in
+    let put = rw (c.get_mut.follows.holds-at-none, c.copied.ensures) at c.in_ok-insert-in-None.ensures.entries in
     (c.in_ok-insert-in-None.ensures.ordered, rw put (all_with_entry KeysRise c.args.shelves.now.entries c.args.table.now c.index_by-in-None.new.self c.requires.1 c.index_by-in-None.ensures.rising))
 
 pub returns-in_ok-insert-in-None-clause-rows : goal.returns-in_ok-insert-in-None-clause-rows
 returns-in_ok-insert-in-None-clause-rows c =
-    let put = rw (c.get_mut.follows.holds-at-none, c.in_ok-copy-in-None.ensures) at c.in_ok-insert-in-None.ensures.updates in
+    let put = rw (c.get_mut.follows.holds-at-none, c.copied.ensures) at c.in_ok-insert-in-None.ensures.updates in
     empty_table c.args.shelves.now c.insert.new.self c.args.table.now c.index_by-in-None.new.self c.requires (returns-in_ok-insert-in-None-clause-shelved c)
     (c.index_by-in-None.ensures.same ∙ c.in_ok-shelf-in-None.ensures) c.in-None.ensures.value put

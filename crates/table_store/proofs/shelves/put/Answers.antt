@@ -22,11 +22,11 @@ returns-in-Some-clause-shelved c =
 
 pub returns-in_ok-insert-in-None-clause-ok : goal.returns-in_ok-insert-in-None-clause-ok
 returns-in_ok-insert-in-None-clause-ok c =
-    let put = rw (c.get_mut.follows.holds-at-none, c.in_ok-copy-in-None.ensures) at c.in_ok-insert-in-None.ensures.updates in
+    let put = rw (c.get_mut.follows.holds-at-none, c.copied.ensures) at c.in_ok-insert-in-None.ensures.updates in
     changed_anew c.args.shelves.now c.insert.new.self c.args.table.now c.args.key (Some c.args.row) c.put-in-None.new.self c.in-None.ensures.value put
     (λ q. rw c.in_ok-rows-in-None.ensures at (c.in_ok-put-in-None.ensures.ok q))
 
 pub returns-in_ok-insert-in-None-clause-shelved : goal.returns-in_ok-insert-in-None-clause-shelved
 returns-in_ok-insert-in-None-clause-shelved c =
-    let put = rw (c.get_mut.follows.holds-at-none, c.in_ok-copy-in-None.ensures) at c.in_ok-insert-in-None.ensures.entries in
+    let put = rw (c.get_mut.follows.holds-at-none, c.copied.ensures) at c.in_ok-insert-in-None.ensures.entries in
     (c.in_ok-insert-in-None.ensures.ordered, rw put (all_with_entry KeysRise c.args.shelves.now.entries c.args.table.now c.put-in-None.new.self c.requires.1 c.put-in-None.ensures.rising))

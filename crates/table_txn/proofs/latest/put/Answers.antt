@@ -17,5 +17,5 @@ returns-in-Some-clause-err c =
 
 pub returns-in_ok-insert-in-None-clause-ok : goal.returns-in_ok-insert-in-None-clause-ok
 returns-in_ok-insert-in-None-clause-ok c =
-    let put = rw (c.get_mut.follows.holds-at-none, c.in_ok-copy-in-None.ensures) at c.in_ok-insert-in-None.ensures.updates in
+    let put = rw (c.get_mut.follows.holds-at-none, c.copied.ensures) at c.in_ok-insert-in-None.ensures.updates in
     changed_anew c.args.latest.now c.insert.new.self c.args.table.now c.args.key.now (Some c.args.at) c.new-keys.result c.put_key-in-None.new.keys c.in-None.ensures.value c.new-keys.ensures.empty put c.in_ok-put_key-in-None.ensures.ok
