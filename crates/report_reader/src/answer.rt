@@ -1,5 +1,5 @@
 //! Readers of answers.
-ghost use Rattle.std.specs.Prelude.{◌≡◌, ◌≤◌};
+ghost use Rattle.std.specs.Prelude.{◌≡◌};
 ghost use Rattle.serde_json.specs.View.{view};
 ghost use Rattle.json_form.specs.Faults.{Gives};
 ghost use Rattle.report_reader.specs.Answers.{rows_in, refusal_of as refusal_of_def, answer_of as answer_of_def, answer_named as answer_named_def, answer_in, answers_in};

@@ -1,5 +1,4 @@
 //! Readers of draws.
-ghost use Rattle.std.specs.Prelude.{◌≡◌};
 ghost use Rattle.serde_json.specs.View.{view};
 ghost use Rattle.json_form.specs.Faults.{Gives};
 ghost use Rattle.report_reader.specs.Draws.{seq_in, clock_in, id_in, draw_by as draw_by_def, draw_in, draws_in};

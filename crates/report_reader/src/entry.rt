@@ -1,7 +1,4 @@
 //! Readers of entries and tables.
-ghost use Rattle.std.specs.Prelude.{◌≡◌};
-ghost use Rattle.serde_json.specs.View.{view};
-ghost use Rattle.json_form.specs.Faults.{Gives};
 ghost use Rattle.report_reader.specs.Entries.{piece_in, pieces_in, entry_in, entries_in, table_rows_in, table_in, tables_in};
 
 use crate::answer::AnswersReader;

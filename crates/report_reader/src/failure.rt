@@ -1,5 +1,4 @@
 //! Readers of the errors that requests show.
-ghost use Rattle.std.specs.Prelude.{◌≡◌};
 ghost use Rattle.serde_json.specs.View.{view};
 ghost use Rattle.json_form.specs.Faults.{Gives};
 ghost use Rattle.report_reader.specs.Failures.{lone_reason, number_behind, reason_by as reason_by_def, reason_in, disabled_in, mismatch_in, incomplete_in, retries_in, timeout_in, replays_in, wait_in, unknown_in, failure_by as failure_by_def, failure_in, failed_in};

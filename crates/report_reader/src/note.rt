@@ -1,5 +1,4 @@
 //! Readers of notes: arrays that begin with a word.
-ghost use Rattle.std.specs.Prelude.{◌≡◌};
 ghost use Rattle.serde_json.specs.View.{view};
 ghost use Rattle.json_form.specs.Faults.{Gives};
 ghost use Rattle.json_form.specs.Texts.{word_of};

@@ -1,7 +1,7 @@
 //! Readers of the small parts of a report: numbers, octets, values, identifiers, settings and rows.
-ghost use Rattle.std.specs.Prelude.{◌≡◌, IfOk, []};
+ghost use Rattle.std.specs.Prelude.{IfOk, []};
 ghost use Rattle.serde_json.specs.View.{view, items_view};
-ghost use Rattle.json_form.specs.Faults.{Gives, GivesBy};
+ghost use Rattle.json_form.specs.Faults.{Gives};
 ghost use Rattle.json_form.specs.Arrays.{count_at, each_after};
 ghost use Rattle.svc_values.specs.SettingsList.{AllBelow};
 ghost use Rattle.report_reader.specs.Parts.{if_count as if_count_def, octets_in, identifier_in, identifiers_in, session_in, sessions_in, if_rising, setting_in, settings_in, row_in};

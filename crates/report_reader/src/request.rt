@@ -1,7 +1,4 @@
 //! Readers of what the requests of clients were shown.
-ghost use Rattle.std.specs.Prelude.{◌≡◌};
-ghost use Rattle.serde_json.specs.View.{view};
-ghost use Rattle.json_form.specs.Faults.{Gives};
 ghost use Rattle.report_reader.specs.Requests.{shown_in, outcome_in, calls_in, outcomes_in, tried_in, request_in, transcript_in, clients_in};
 
 use crate::answer::AnswersReader;
