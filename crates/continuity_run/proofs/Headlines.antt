@@ -1,5 +1,5 @@
 -- What the report of a run that is over says of its document.
-use Rattle.std.proofs.Common.{◌≡◌, arith, ◌∙◌, refl, sym, ap, ap₂, subst, ℕ, Bool, true, false, List, [], ◌∷◌, ◌++◌, length, drop, map, Option, Some, None, Result, Ok, Err}
+use Rattle.std.proofs.Common.{◌≡◌, arith, ◌∙◌, refl, sym, ap, ap₂, subst, ℕ, Bool, true, false, List, [], ◌∷◌, ◌++◌, length, drop, map, Option, Some, None, Result, Ok}
 use Rattle.std.specs.Prelude.{IfOk, ◌==◌, ◌≤◌, ℤ, if◌then◌else◌}
 use Rattle.std.specs.Option.{option_map}
 use Rattle.std.specs.Str.{bytes_eq}
@@ -46,7 +46,7 @@ use Rattle.world_model.specs.records.Ready.{all_requests_right}
 use Rattle.world_model.proofs.Offered.{finishing_start}
 use Rattle.world_run.specs.declared.world.Ran.{Ran}
 use Rattle.continuity_run.specs.declared.store.Before.{Before}
-use Rattle.continuity_run.specs.Headline.{Headline, IsReadFrom, image_if}
+use Rattle.continuity_run.specs.Headline.{Headline, IsReadFrom}
 use Rattle.continuity_run.proofs.Images.{image_is}
 use Rattle.continuity_run.specs.Reading.{IsReadOff}
 use Rattle.continuity_run.specs.RunLaws.{RunsHold}

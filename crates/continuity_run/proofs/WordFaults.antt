@@ -22,7 +22,6 @@ use Rattle.clap.specs.declared.error.kind.ErrorKind.TheVariants.{OutOfMemory}
 use Rattle.clap.proofs.OnLiterals.{clap_on_literals}
 use Rattle.clap.proofs.WalkLemmas.{walk_stopped}
 use Rattle.continuity_run.specs.declared.command.Command.{Command}
-use Rattle.continuity_run.specs.declared.command.Command.TheVariants as command
 use Rattle.continuity_run.specs.Words.{command_named, command_of}
 use Rattle.continuity_run.specs.InnerWords.{begins_with_hyphen, program}
 

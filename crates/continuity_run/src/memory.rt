@@ -1,5 +1,5 @@
 //! A source and a sink in memory, whose calls can be made to fail.
-ghost use Rattle.std.specs.Prelude.{◌≡◌, ◌<◌, ◌≤◌, ◌↔◌, List, ℕ, Some, [], length, drop, vec_len, IfOk, OnOk, IsTrue, is_err};
+ghost use Rattle.std.specs.Prelude.{◌≡◌, ◌<◌, ◌≤◌, ◌↔◌, Some, [], length, vec_len, IfOk, OnOk, IsTrue, is_err};
 ghost use Rattle.std.specs.Io.{ReadsAtMost, WritesAtMost};
 ghost use Rattle.std.specs.Io.KnownBytes.{ReadConsumes, WriteAppends};
 ghost use Rattle.continuity_run.specs.Causes.{AddsFront, HasCause, NothingHasCause};

@@ -5,6 +5,7 @@ ghost use Rattle.doc_reader.specs.Keeping.{IsDocument};
 ghost use Rattle.doc_reader.specs.Documents.{document_at};
 ghost use Rattle.continuity_run.specs.Words.{command_of as command_of_def};
 ghost use Rattle.continuity_run.specs.Clauses.{Tells, IsDone, IsCut, IsRead, IsRefused, Writes, WritesFront, IfDocument, IsBefore, IsReply, UnlessRead};
+ghost use Rattle.continuity_run.specs.Complete.{IsFaultless};
 ghost use Rattle.continuity_run.specs.InnerEnds.{ended_as, IsWritten};
 
 use crate::answer::text_of;
@@ -151,8 +152,10 @@ pub fn continuity<S: Source, K: Sink>(
         → IsCut command (S.left source.old) (S.left source.new)
         (K.held sink.old) (K.held sink.new) }
 
-    // Where nothing is at fault there is a report, but for want of memory.
-    ensures complete { IsFaultless words.now (S.left source.old) (S.faults source.old) (S.faults source.new) (K.faults sink.old) (K.faults sink.new) → (result ≡ Status.Done) ⊎ (result ≡ Status.NoMemory) }
+    // Where nothing is at fault there is an answer, but for want of memory.
+    ensures complete { IsFaultless words.now (S.left source.old)
+        (S.faults source.old) (S.faults source.new) (K.faults sink.old) (K.faults sink.new)
+        → (result ≡ Status.Done) ⊎ (result ≡ Status.NoMemory) }
 
     // Else nothing was written.
     ensures untouched { IsBefore result → sink.new ≡ sink.old }

@@ -1,4 +1,4 @@
-use Rattle.std.proofs.Common.{◌≡◌, ◌∙◌, ap}
+use Rattle.std.proofs.Common.{◌∙◌, ap}
 use Rattle.std.specs.List.{list_all}
 use Rattle.cover_core.specs.Made.{has_made_requests}
 use Rattle.continuity_run.proofs.Documents.{made_scripts}
