@@ -1,6 +1,5 @@
 //! Reader of calls: items, and the rule on which items make a call.
-ghost use Rattle.std.specs.Prelude.{◌≡◌, ◌≤◌, length, [], ◌∷◌};
-ghost use Rattle.serde_json.specs.View.{view};
+ghost use Rattle.std.specs.Prelude.{◌≤◌, length, [], ◌∷◌};
 ghost use Rattle.json_form.specs.Faults.{Gives};
 ghost use Rattle.call_forms.specs.Calls.{call_of, call_of_items as call_of_items_def, work_of};
 

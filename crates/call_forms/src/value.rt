@@ -9,7 +9,6 @@ ghost use Rattle.call_forms.specs.Values.{name_of, new_name, value_of, bytes_val
 
 use json_form::{
     Digits, DocCode, DocFault, Integer, Reader, Taken, object_with, octets_from, text_from, within,
-    word_from,
 };
 use serde_json::{Map, Value as Json};
 use std::alloc::Global;

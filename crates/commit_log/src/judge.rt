@@ -1,9 +1,8 @@
 //! A journal under way: records are judged one by one and added to it.
-ghost use Rattle.std.specs.Prelude.{◌≡◌, Some, None, OnOk, IfOk, IsErrOf, IsTrue, [], map, false};
+ghost use Rattle.std.specs.Prelude.{◌≡◌, Some, None, OnOk, IfOk, IsErrOf, false};
 ghost use Rattle.svc_values.specs.Fitting.{writes_fit as writes_fit_def};
 ghost use Rattle.canon_bytes.specs.Entries.{FitsEntry};
-ghost use Rattle.commit_log.specs.Bases.{shape_of as shape_of_def};
-ghost use Rattle.commit_log.specs.Rules.{Empty, new_journal as new_journal_def, after, may_open, rises, may_forget, may_commit, may_block, may_reserve};
+ghost use Rattle.commit_log.specs.Rules.{Empty, new_journal as new_journal_def, after, rises, may_forget, may_commit, may_block, may_reserve};
 ghost use Rattle.commit_log.specs.Journals.{after_payload};
 ghost use Rattle.commit_log.specs.Judging.{so_far_in, Keeps};
 

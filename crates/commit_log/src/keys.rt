@@ -1,5 +1,5 @@
 //! Keys that were met.
-ghost use Rattle.std.specs.Prelude.{◌≡◌, ◌||◌, [], OnOk, OnErr};
+ghost use Rattle.std.specs.Prelude.{◌≡◌, ◌||◌, [], OnOk};
 ghost use Rattle.commit_log.specs.Keys.{is_key};
 
 use std::alloc::{AllocError, Global};

@@ -1,5 +1,5 @@
 //! The log: a store that is opened for commits.
-ghost use Rattle.std.specs.Prelude.{◌≡◌, ◌+◌, ◌*◌, ◌<◌, ◌≤◌, ◌^◌, ◌⊎◌, [], ◌∷◌, ℕ, Bool, List, length, OnOk, IfOk, IsErrOf, Ok, Err};
+ghost use Rattle.std.specs.Prelude.{◌≡◌, ◌+◌, ◌*◌, ◌<◌, ◌≤◌, ◌^◌, ◌⊎◌, [], ℕ, Bool, length, OnOk, IfOk, IsErrOf, Ok, Err};
 ghost use Rattle.disk_model.specs.Disk.{Meanwhile, IsSettled, SameBytes, Lowers, Caused, OnlyReads};
 ghost use Rattle.redo_store.specs.Records.{records_of};
 ghost use Rattle.redo_store.specs.Redo.{CanAppend, StoreGoesOn};

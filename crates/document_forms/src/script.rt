@@ -1,5 +1,5 @@
 //! Readers of clients and their requests.
-ghost use Rattle.std.specs.Prelude.{◌≡◌, IfOk, IfErr, codes};
+ghost use Rattle.std.specs.Prelude.{◌≡◌, IfOk, codes};
 ghost use Rattle.serde_json.specs.View.{view};
 ghost use Rattle.json_form.specs.declared.hexadecimal.Digits.TheVariants as digits;
 ghost use Rattle.json_form.specs.Faults.{Gives, within};

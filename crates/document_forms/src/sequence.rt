@@ -1,5 +1,4 @@
 //! Reader of sequences.
-ghost use Rattle.std.specs.Prelude.{◌≡◌};
 ghost use Rattle.serde_json.specs.View.{view};
 ghost use Rattle.json_form.specs.Faults.{Gives};
 ghost use Rattle.document_forms.specs.Tables.{sequence_of, sequences_of, start_of};

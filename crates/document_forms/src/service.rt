@@ -1,6 +1,5 @@
 //! Reader of what a document says of the service and of its drivers.
 ghost use Rattle.std.specs.Prelude.{◌≡◌, IfOk, codes};
-ghost use Rattle.serde_json.specs.View.{view};
 ghost use Rattle.json_form.specs.Faults.{Gives};
 ghost use Rattle.json_form.specs.Objects.{members_at, without};
 ghost use Rattle.json_form.specs.Texts.{word_of};

@@ -1,6 +1,5 @@
 //! Readers of tables: columns, rows that fit them, and the columns by which the rows are indexed.
-ghost use Rattle.std.specs.Prelude.{◌≡◌, ◌≤◌, ◌<◌, List, [], length, IfOk, IfErr, IfSome, string_bytes};
-ghost use Rattle.std.specs.Str.{bytes_eq};
+ghost use Rattle.std.specs.Prelude.{◌≡◌, ◌<◌, [], length, IfOk, IfErr, IfSome, string_bytes};
 ghost use Rattle.serde_json.specs.View.{view, items_view};
 ghost use Rattle.json_form.specs.Faults.{Gives, GivesBy};
 ghost use Rattle.json_form.specs.Arrays.{is_key, each_after};

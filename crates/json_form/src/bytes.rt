@@ -1,5 +1,4 @@
 //! From bytes to a JSON value.
-ghost use Rattle.std.specs.Prelude.{◌≡◌};
 ghost use Rattle.serde_json.specs.View.{view};
 ghost use Rattle.json_form.specs.Faults.{GivesBy};
 ghost use Rattle.json_form.specs.Texts.{json_of, json_at};

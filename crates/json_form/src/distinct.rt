@@ -1,13 +1,13 @@
 //! Arrays whose items have different keys.
-ghost use Rattle.std.specs.Prelude.{◌≡◌, map, ◌≤◌, ◌<◌, IfSome, Result, List, length, IfOk, IfErr, OnOk, OnErr, [], ◌∷◌, ◌++◌, ◌||◌, ◌↔◌, IsTrue, false};
+ghost use Rattle.std.specs.Prelude.{◌≡◌, map, ◌≤◌, ◌<◌, IfSome, Result, List, length, IfOk, IfErr, OnOk, [], ◌∷◌, ◌++◌, ◌||◌, ◌↔◌, IsTrue};
 ghost use Rattle.std.specs.List.Sorted.{IsStrictlySortedBy};
 ghost use Rattle.std.specs.Ordering.{is_lt};
 ghost use Rattle.serde_json.specs.View.{view, items_view};
-ghost use Rattle.json_form.specs.Faults.{Fault, Gives, GivesBy, within, within_item as within_item_def};
+ghost use Rattle.json_form.specs.Faults.{Fault, Gives, GivesBy, within_item as within_item_def};
 ghost use Rattle.json_form.specs.Arrays.{distinct, array_of, list_of, is_key};
 ghost use Rattle.json_form.specs.Streams.{Begins};
 
-use crate::array::{counted, items_from, list_within};
+use crate::array::{counted, items_from};
 use crate::fault::{DocCode, DocFault};
 use crate::step::within_item;
 use crate::stream::{array_begins, value_from};
@@ -215,22 +215,6 @@ pub fn distinct_from<T: Drop, R: KeyedReader<T>>(
 {
     let values = counted(alloc, value, low, high)?;
     each_distinct(alloc, values, reader)
-}
-
-/// The items of an array in a member with this name, as `distinct_from` reads them.
-pub fn distinct_at<T: Drop, R: KeyedReader<T>>(
-    alloc: Global,
-    name: &str,
-    member: Value,
-    low: usize,
-    high: usize,
-    reader: &R,
-) -> Result<Vec<T>, DocFault>
-    ensures read { GivesBy (λ v. v.items) result (within name.now (array_of low high
-        (distinct R.Key.eq R.KeyedReader.key_of (R.KeyedReader.reads reader.now)) (view member))) }
-    ensures count { IfOk result (λ v. length v.items ≤ high) }
-{
-    list_within(alloc, name, distinct_from(alloc, member, low, high, reader))
 }
 
 /// The items of an array of any number, as `distinct_from` reads them.

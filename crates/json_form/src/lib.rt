@@ -18,7 +18,7 @@ mod word;
 
 pub use array::{array_ahead, array_at, array_from, exact_from, list_at, list_from};
 pub use bytes::json_from;
-pub use distinct::{KeyedReader, Taken, distinct_ahead, distinct_at, distinct_from, distinct_list};
+pub use distinct::{KeyedReader, Taken, distinct_ahead, distinct_from, distinct_list};
 pub use fault::{DocCode, DocFault};
 pub use hexadecimal::{Digits, octets_by, octets_from, octets_in};
 pub use object::{Members, is_among, object_with};

@@ -1,6 +1,5 @@
 //! Transactions whose values are drawn from a source of an opening.
 ghost use Rattle.std.specs.Prelude.{◌≡◌, ◌+ℤ◌, IsTrue, int_le, pos};
-ghost use Rattle.stmt_meaning.specs.Drawing.{HasDrawn};
 
 use crate::makers::{alone, name, next_of, schemas, sequences, value_of_s};
 use mutable_values::{Drawn, Grants, Kept, SeqState, Source};

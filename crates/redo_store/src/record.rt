@@ -1,5 +1,5 @@
 //! A record's bytes, written and read.
-ghost use Rattle.std.specs.Prelude.{◌≡◌, ◌+◌, ◌≤◌, ◌<◌, ◌^◌, ◌++◌, ◌∷◌, [], ℕ, length, take, drop, OnOk, OnErr, IfOk, IsErrOf, Err, MatchOption};
+ghost use Rattle.std.specs.Prelude.{◌≡◌, ◌+◌, ◌≤◌, ◌<◌, ◌^◌, ◌++◌, ◌∷◌, [], ℕ, length, take, drop, OnOk, IfOk, IsErrOf, Err, MatchOption};
 ghost use Rattle.disk_model.specs.Disk.{OnlyReads};
 ghost use Rattle.redo_store.specs.Records.{magic, length_bytes, length_of, payload_in, records_from, whole_from};
 ghost use Rattle.redo_store.specs.Gate.{HasRecord, HasClosedGate};

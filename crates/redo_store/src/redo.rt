@@ -1,5 +1,5 @@
 //! The store.
-ghost use Rattle.std.specs.Prelude.{◌≡◌, ◌+◌, ◌≤◌, ◌<◌, ◌^◌, ◌++◌, ◌∷◌, [], ◌⊎◌, ℕ, List, length, OnOk, OnErr, IfOk, IsErrOf, Ok, Err, map, false, true, IsFalse, MatchOption, IfSome, IfNone};
+ghost use Rattle.std.specs.Prelude.{◌≡◌, ◌+◌, ◌≤◌, ◌<◌, ◌++◌, ◌∷◌, [], ℕ, List, length, OnOk, IfOk, IsErrOf, Ok, Err, map, false, true, MatchOption, IfSome, IfNone};
 ghost use Rattle.disk_model.specs.Moment.{Torn, with_bytes};
 ghost use Rattle.disk_model.specs.Disk.{Meanwhile, IsSettled, Lowers, Caused, OnlyReads};
 ghost use Rattle.redo_store.specs.Records.{magic, payload_in, records_of, whole_records, with_last};

@@ -1,5 +1,5 @@
 //! Limits by count and by the clock.
-ghost use Rattle.std.specs.Prelude.{◌≡◌, ◌↔◌, ◌≤◌, ◌<◌, ◌-◌, ℕ, IsTrue, nat_le, nat_lt};
+ghost use Rattle.std.specs.Prelude.{◌≡◌, ◌↔◌, ◌≤◌, ◌<◌, ◌-◌, IsTrue};
 ghost use Rattle.request_bounds.specs.Limits.{IsPast, has_waited};
 
 /// The limits of a service. `retries` is how many tries in a row may fail, `replays` how many

@@ -1,7 +1,4 @@
 //! Rules: what a submitted call and a reply do to the protection of a request.
-ghost use Rattle.std.specs.Prelude.{◌≡◌, ℕ};
-
-use svc_values::{Answer, Call};
 
 /// Why a request can't be replayed any more. A number is the index of the call in the request, from
 /// 0, that of `Full` the greatest number of calls that are recorded.

@@ -1,7 +1,7 @@
 //! Whether rows and writes fit what is declared, and stand in order.
 ghost use Rattle.std.specs.Prelude.{◌≡◌, ◌↔◌, IsTrue, Some};
-ghost use Rattle.svc_values.specs.Fitting.{is_row_of as is_row_of_def, tables_fit as tables_fit_def, write_fits as write_fits_def};
-ghost use Rattle.svc_values.specs.Schemas.{key_of, schema_of as schema_of_def};
+ghost use Rattle.svc_values.specs.Fitting.{is_row_of as is_row_of_def, write_fits as write_fits_def};
+ghost use Rattle.svc_values.specs.Schemas.{key_of};
 ghost use Rattle.svc_values.specs.Same.{same_value};
 ghost use Rattle.svc_values.specs.Tables.{AreTables};
 
@@ -24,25 +24,6 @@ fn is_row_of(schema: &Schema, key: &Value, row: &Row) -> bool
     ensures { result ≡ is_row_of_def (Some schema.now) key.now row.now }
 {
     schema.fits(row) && has_key(row, key)
-}
-
-/// Whether the row's table is declared, and it is a row of it with its key first.
-fn row_fits(schemas: &[Schema], one: &PlainRow) -> bool
-    ensures { result ≡ is_row_of_def (schema_of_def schemas.now one.now.table) one.now.key one.now.row }
-{
-    match schema_of(schemas, &one.table) {
-        None => false,
-        Some(schema) => is_row_of(schema, &one.key, &one.row),
-    }
-}
-
-/// Whether each row stands in a declared table, fits its columns and has its key first. Linear in the
-/// rows, for each of at most 32 tables.
-pub fn tables_fit(shape: &Shape, rows: &[PlainRow]) -> bool
-    ensures { result ≡ tables_fit_def shape.now.schemas rows.now }
-{
-    let schemas = shape.schemas.as_slice();
-    rows.iter().all(|one| row_fits(schemas, one))
 }
 
 /// Whether a write names a declared table and a key of its first column's kind, and its row, if it has

@@ -22,7 +22,7 @@ mod written;
 pub use draw_from::DrawFrom;
 pub use effect::{Effect, ends_refused, is_refusal, number_at, row_effect, shown};
 pub use fault::{DrawFromFault, TxnFault};
-pub use fitting::{are_tables, tables_fit, write_fits};
+pub use fitting::{are_tables, write_fits};
 pub use list_draws::ListDraws;
 pub use operand::{drawn_value, operand_at};
 pub use order::in_order;

@@ -17,7 +17,7 @@ use Rattle.client_model.specs.declared.act.Shown.{Shown}
 use Rattle.client_model.specs.Conversation.{Done}
 use Rattle.client_model.specs.Tried.{Sending, Trying, is_try, told_ltxid, with_answer, replied, over_after, sent_under, tries_on, trying_of, tried_in, tried_upto, tried_of}
 use Rattle.transcript_core.specs.declared.attempts.Attempt.{Attempt}
-use Rattle.transcript_core.specs.Attempts.{Attempts, none_yet, put_once, put_in, put_tried, settled_with, settled, answered, answered_by, told_by, next_transaction, ended_by, hears, submitted, sends, lists_of, attempt_of, AreAttempts}
+use Rattle.transcript_core.specs.Attempts.{Attempts, none_yet, put_once, put_in, settled_with, settled, answered, told_by, next_transaction, ended_by, hears, sends, lists_of, attempt_of, AreAttempts}
 use Rattle.transcript_core.specs.Attempts as kept
 use Rattle.transcript_core.proofs.OnceEach.{more_in, past_one, no_try, here, length_upto, upto_first, upto_untried, upto_put, upto_beyond, Within, within_more, none_beyond}
 

@@ -4,7 +4,7 @@ ghost use Rattle.client_model.specs.Conversation.{Done};
 ghost use Rattle.client_model.specs.Terms.{Terms};
 ghost use Rattle.outage_schedule.specs.declared.document.Request.{Request};
 ghost use Rattle.run_clauses.specs.Reports.{failure_of as failure_of_def, reached as reached_def, report_of};
-ghost use Rattle.transcript_core.specs.Drafts.{blank, told_of as told_of_def, one_more, hears, shows, asked_by as asked_by_def, sends, noted, drafted, IsDraft, done_so};
+ghost use Rattle.transcript_core.specs.Drafts.{told_of as told_of_def, one_more, hears, shows, asked_by as asked_by_def, sends, noted, drafted, IsDraft, done_so};
 
 use crate::attempts::Attempts;
 use crate::failures::failure_of;

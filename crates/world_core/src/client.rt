@@ -1,5 +1,5 @@
 //! A client of a run.
-ghost use Rattle.std.specs.Prelude.{◌≡◌, ℕ, Bool, List, [], ◌∷◌, ◌++◌, Some, None, false, IsSome, IfSome, IsTrue, IfOk, OnOk, is_some};
+ghost use Rattle.std.specs.Prelude.{◌≡◌, ℕ, Bool, [], ◌∷◌, ◌++◌, Some, None, false, IsSome, IfSome, IsTrue, IfOk, OnOk, is_some};
 ghost use Rattle.std.specs.List.{AllByRecursion};
 ghost use Rattle.canon_bytes.specs.UpBytes.{IsMadeUp};
 ghost use Rattle.client_model.specs.Conversation.{may_come, is_gone_next};

@@ -163,8 +163,8 @@ impl Connection {
         Ok(())
     }
 
-    /// Takes the reply that stands first, and the identifier that comes with it. What stands there
-    /// was spelled here, so a whole frame is no bad one. Linear in the reply.
+    /// Takes the reply that stands first, and the identifier that comes with it. What stands there was
+    /// spelled here, so a whole frame is no bad one. Linear in the reply.
     pub(crate) fn take(&mut self) -> Result<Option<Down>, NoMemory>
         requires { IsSomeLink self.old }
         ensures { IfOk result (λ reply. (link : Link) → IsLink self.old link → GivesReply link link.down reply self.new) }

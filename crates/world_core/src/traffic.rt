@@ -1,5 +1,5 @@
 //! The clock of a run, its connections and its pool.
-ghost use Rattle.std.specs.Prelude.{◌≡◌, ◌≢◌, ◌+◌, ◌<◌, ◌≤◌, ◌^◌, List, [], ◌∷◌, ◌++◌, map, fold, length, false, Some, OnOk, IfOk, IfSome, is_none};
+ghost use Rattle.std.specs.Prelude.{◌≡◌, ◌+◌, ◌<◌, ◌≤◌, ◌^◌, List, [], ◌∷◌, ◌++◌, map, fold, length, false, Some, OnOk, IfOk, IfSome, is_none};
 ghost use Rattle.std.specs.List.{AllByRecursion};
 ghost use Rattle.svc_values.specs.Identifiers.{IsLtxid};
 ghost use Rattle.canon_bytes.specs.UpBytes.{IsMadeUp};

@@ -18,7 +18,7 @@ use Rattle.request_bounds.specs.declared.rule.After.{After}
 use Rattle.request_bounds.specs.declared.rule.After.TheVariants as after
 use Rattle.call_recorder.specs.declared.recorded.Recorded.{Recorded}
 use Rattle.client_model.specs.declared.track.Track.{Track}
-use Rattle.client_model.specs.Told.{Told, told_of}
+use Rattle.client_model.specs.Told.{told_of}
 use Rattle.client_model.specs.Told as told
 use Rattle.client_model.specs.States.{Living, Losing, Asking, Repeating, asked_on, resumed, next_of}
 use Rattle.client_model.specs.Verifying.{submitted}

@@ -21,7 +21,7 @@ use Rattle.client_model.specs.declared.act.Shown.{Shown}
 use Rattle.client_model.specs.declared.act.Hold.TheVariants.{Keep}
 use Rattle.client_model.specs.declared.input.Input.TheVariants.{Took}
 use Rattle.client_model.specs.Told as told
-use Rattle.client_model.specs.Told.{Told, over, completed_on, repeated, is_late, uncommitted, told_of}
+use Rattle.client_model.specs.Told.{over, completed_on, repeated, is_late, uncommitted, told_of}
 use Rattle.client_model.specs.States.{Living, Losing, Asking, Repeating, resumed, next_of}
 use Rattle.client_model.specs.Verifying.{verified_more, mismatch, submitted}
 use Rattle.client_model.specs.Terms.{Terms, Talk, Phase, Greeting, Asked, Running, Replaying, unsubmitted}

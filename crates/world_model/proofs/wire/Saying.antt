@@ -22,7 +22,7 @@ use Rattle.client_model.specs.declared.act.Failed.TheVariants.{Disabled}
 use Rattle.client_model.specs.declared.act.Shown.{Shown}
 use Rattle.client_model.specs.declared.act.Hold.{Hold}
 use Rattle.client_model.specs.declared.act.Hold.TheVariants.{Keep, GiveBack, Drop}
-use Rattle.client_model.specs.Told.{Told, over, completed_on, repeated, is_late, uncommitted, told_of}
+use Rattle.client_model.specs.Told.{over, completed_on, repeated, is_late, uncommitted, told_of}
 use Rattle.client_model.specs.Told as told
 use Rattle.client_model.specs.States.{Living, Losing, Asking, Repeating, asked_on, resumed, next_of}
 use Rattle.client_model.specs.Verifying.{verified_more, mismatch, submitted}
