@@ -7,10 +7,12 @@ from trusted.walk import reached_from
 
 # What is believed once the proofs are: the headline, and the clause of the call that the program makes.
 ROOTS = {
-    "Headline": "Rattle.continuity_run.specs.Headline",
-    "IsDone": "Rattle.continuity_run.specs.Clauses",
+    "Headline": "Rattle.continuity_run.specs.meaning.Headline",
+    "IsDone": "Rattle.continuity_run.specs.meaning.Clauses",
 }
-USAGE = "usage: tools/reading [--files | --check PAGE]"
+# The folder of a crate's specs/ with what the roots reach of it, and nothing else.
+FOLDER = "/specs/meaning/"
+USAGE = "usage: tools/reading [--files | --check PAGE | --folders]"
 
 
 def figures(name, reached):
@@ -37,6 +39,15 @@ def lacking(page, wanted):
     return [line for line in wanted if line not in written]
 
 
+def misplaced(reached, files, top):
+    """A line for each definition that is reached and not in its crate's folder, or is there and not reached."""
+    for file in files.values():
+        for name, one in file.definitions.items():
+            if (one in reached) != (FOLDER in file.path):
+                place = "outside of" if one in reached else "inside of"
+                yield f"{os.path.relpath(file.path, top)}: {name} is {place} specs/meaning/"
+
+
 def main(top, words):
     files = read_files(top)
     reached = {name: reached_from(files[module].definitions[name], files) for name, module in ROOTS.items()}
@@ -51,6 +62,10 @@ def main(top, words):
         for line in missing:
             print(f"{words[1]} does not say: {line}", file=sys.stderr)
         return 1 if missing else 0
+    elif words == ["--folders"]:
+        wrong = sorted(misplaced({one for found in reached.values() for one in found}, files, top))
+        print(*wrong, sep="\n", end="\n" if wrong else "", file=sys.stderr)
+        return 1 if wrong else 0
     else:
         print(USAGE, file=sys.stderr)
         return 2

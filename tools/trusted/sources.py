@@ -7,6 +7,8 @@ WORD = re.compile(r"[^\s(){}\[\],.;:]+")
 KINDS = ("abbrev", "unfoldable", "opaque", "record", "data")
 # The beginning of a definition, at the margin or in a module with parameters.
 HEAD = re.compile(r"^( {0,2})((?:(?:pub|abbrev|unfoldable|opaque|record|data) )+)([^\s(){}:,]+)")
+# A case of a `data` definition.
+CASE = re.compile(r"^ +(\w+) :")
 USE = re.compile(r"^use (\S+?)(?:\.\{([^}]*)\})?(?: as (\S+))?$")
 
 
@@ -20,6 +22,12 @@ class Definition:
         code = "\n".join(line for line in self.lines if not line.lstrip().startswith("--"))
         return set(WORD.findall(code))
 
+    def names(self, word):
+        """Whether the definition names the word. `◌>>=◌` is named by `>>=`, and by `do`."""
+        words = self.words()
+        signs = [sign for sign in word.split("◌") if sign]
+        return all(sign in words for sign in signs) or (word == "◌>>=◌" and "do" in words)
+
 
 class File:
     """A file of specs/: its definitions by name, and the names that its `use` lines bring."""
@@ -27,6 +35,8 @@ class File:
     def __init__(self, path, crate):
         self.path, self.crate = path, crate
         self.definitions, self.brought = {}, {}
+        # The cases of `data` definitions, each with its definition.
+        self.cases = {}
         with open(path, encoding="utf-8") as text:
             self.read(text.read().split("\n"))
 
@@ -46,13 +56,24 @@ class File:
                     at = self.definitions[name] = Definition(self, name, number)
                 if at and not line.startswith("module "):
                     at.lines += above + [line]
+                    self.find_case(at, line)
                 above = []
+
+    def find_case(self, at, line):
+        found = CASE.match(line)
+        if found and any(" data " in above for above in at.lines):
+            self.cases[found[1]] = at
 
     def bring(self, line):
         found = USE.match(line)
         for name in (found[2] or "").split(",") if found else ():
             whole, _, local = name.strip().partition(" as ")
             self.brought[local or whole] = (found[1], whole)
+
+
+    def defining(self, name):
+        """The definition of this name, or of the case that it is."""
+        return self.definitions.get(name) or self.cases.get(name)
 
 
 def defined_in(line):

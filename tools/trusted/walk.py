@@ -3,14 +3,13 @@
 
 def used_by(definition, files):
     """The definitions of the repository that this one names. Those of the libraries are not followed."""
-    file = definition.file
-    for word in definition.words():
-        if word in file.definitions:
-            yield file.definitions[word]
-        elif word in file.brought:
-            path, name = file.brought[word]
-            if path in files and name in files[path].definitions:
-                yield files[path].definitions[name]
+    file, words = definition.file, definition.words()
+    words |= {word for word in {*file.definitions, *file.brought} if "◌" in word and definition.names(word)}
+    for word in words:
+        path, name = file.brought.get(word, (None, word))
+        found = files[path].defining(name) if path in files else file.defining(word)
+        if found:
+            yield found
 
 
 def reached_from(root, files):
